@@ -1,0 +1,34 @@
+//! Why a text is no key.
+ghost use Rattle.std.specs.Prelude.{◌≡◌};
+ghost use Rattle.stick_key.specs.declared.fault.KeyFault.TheVariants.{Memory};
+
+pub use sequence::NoMemory;
+use std::alloc::AllocFailed;
+use thiserror::Error;
+
+/// Why a text is no key.
+#[derive(Clone, Copy, Debug, PartialEq, Eq, Error)]
+pub enum KeyFault {
+    #[error("not the text of a key")]
+    Malformed,
+    #[error("a number of the key is too large")]
+    OutOfRange,
+    #[error("out of memory")]
+    Memory,
+}
+
+impl From<NoMemory> for KeyFault {
+    ghost from_gives = { λ _ e. e ≡ Memory };
+
+    fn from(_refused: NoMemory) -> KeyFault {
+        KeyFault::Memory
+    }
+}
+
+impl<T: Drop> From<AllocFailed<T>> for KeyFault {
+    ghost from_gives = { λ _ e. e ≡ Memory };
+
+    fn from(_refused: AllocFailed<T>) -> KeyFault {
+        KeyFault::Memory
+    }
+}

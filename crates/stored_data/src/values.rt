@@ -1,0 +1,214 @@
+//! The data of one key.
+ghost use Rattle.std.specs.Prelude.{List};
+
+use crate::act::{Act, Change};
+use crate::{Column, Datum, StoredSet};
+use rate_window::Meter;
+use sequence::NoMemory;
+use std::alloc::Global;
+use std::marker::Model;
+
+/// What is kept of a datum.
+#[derive(Clone, Copy, Debug)]
+pub enum Content {
+    Number(u64),
+    Rate(Meter),
+}
+
+/// A datum and what is kept of it.
+#[derive(Clone, Copy, Debug)]
+pub struct Field {
+    pub datum: Datum,
+    pub content: Content,
+}
+
+/// The data of one key, in the order of the columns.
+#[derive(Debug, Drop)]
+pub struct Values {
+    fields: Vec<Field>,
+}
+
+impl Model for Values {
+    ghost use Rattle.std.specs.Prelude.{List};
+    ghost use Rattle.stored_data.specs.declared.values.Field.{Field};
+
+    ghost Value = { List Field };
+
+    ghost view = { λ values. values.fields.items };
+}
+
+impl Field {
+    ghost use Rattle.std.specs.Prelude.{◌≡◌};
+    ghost use Rattle.stored_data.specs.Acts.{changed, shown, IsReady, changed_field, put_field};
+
+    /// The content after a change at a moment.
+    fn changed(self, now: u64, change: Change) -> Content
+        requires { IsReady now self.content }
+        ensures { result ≡ changed now self.datum change self.content }
+    {
+        match (change, self.content) {
+            (Change::Keep, content) => content,
+            (Change::Add(amount), Content::Number(number)) => {
+                Content::Number(number.saturating_add(amount).min(self.datum.greatest()))
+            }
+            (Change::Add(amount), Content::Rate(mut meter)) => {
+                meter.count(now, amount);
+                Content::Rate(meter)
+            }
+            (Change::Set(number), Content::Number(_)) => Content::Number(number),
+            (Change::Set(_), Content::Rate(meter)) => Content::Rate(meter),
+        }
+    }
+
+    /// The field after an act.
+    fn acted(self, now: u64, act: Act) -> Field
+        requires { IsReady now self.content }
+        ensures { result ≡ changed_field now act self }
+    {
+        Field {
+            datum: self.datum,
+            content: self.changed(now, act.change(self.datum)),
+        }
+    }
+
+    /// The field with a value, if it is that of the datum.
+    fn with_value(self, datum: Datum, value: u64) -> Field
+        ensures { result ≡ put_field datum value self }
+    {
+        if self.datum.place() == datum.place() {
+            Field {
+                datum: self.datum,
+                content: Content::Number(value),
+            }
+        } else {
+            self
+        }
+    }
+
+    /// What the field shows at a moment.
+    fn shown(&self, now: u64) -> u64
+        requires { IsReady now self.now.content }
+        ensures { result ≡ shown now self.now.content }
+    {
+        match self.content {
+            Content::Number(number) => number,
+            Content::Rate(meter) => u64::from(meter.rate(now)),
+        }
+    }
+}
+
+/// The fields after an act.
+fn change_fields(fields: &mut [Field], now: u64, act: Act)
+    requires { AreReady fields.old now }
+    ensures { fields.new ≡ acted fields.old now act }
+{
+    for field in fields.iter_mut() {
+        *field = field.acted(now, act);
+    }
+}
+
+ghost use Rattle.std.specs.Prelude.{◌≡◌, ◌++◌, [], ◌∷◌, IfOk, OnOk};
+ghost use Rattle.stored_data.specs.Acts.{AreReady, acted, value_at, with_value, zero_field, zero_of};
+ghost use Rattle.stored_data.specs.Data.{is_rate};
+ghost use Rattle.stored_data.specs.Stored.{IsPeriod, HavePeriods};
+
+/// What a datum shows at a moment, where it is stored.
+fn value_in(fields: &[Field], datum: Datum, now: u64) -> Option<u64>
+    requires { AreReady fields.now now }
+    ensures { result ≡ value_at fields.now datum now }
+{
+    for field in fields {
+        if field.datum.place() == datum.place() {
+            return Some(field.shown(now));
+        }
+    }
+    None
+}
+
+/// Puts a value into the field of the datum.
+fn put_field(fields: &mut [Field], datum: Datum, value: u64)
+    ensures { fields.new ≡ with_value fields.old datum value }
+{
+    for field in fields.iter_mut() {
+        *field = field.with_value(datum, value);
+    }
+}
+
+/// Adds the field of a column.
+fn push_zero(fields: &mut Vec<Field>, column: Column) -> Result<(), NoMemory>
+    requires { IsPeriod (is_rate column.datum) column.period }
+    ensures { OnOk result (fields.new.items ≡ fields.old.items ++ zero_field column ∷ []) }
+{
+    let content = if column.datum.is_rate() {
+        Content::Rate(Meter::new(column.period))
+    } else {
+        Content::Number(0)
+    };
+    fields.push(Field {
+        datum: column.datum,
+        content,
+    })?;
+    Ok(())
+}
+
+/// The fields of columns, with nothing counted.
+fn zero_fields(alloc: Global, columns: &[Column]) -> Result<Vec<Field>, NoMemory>
+    requires { HavePeriods columns.now }
+    ensures { IfOk result (λ fields. fields.items ≡ zero_of columns.now) }
+{
+    let mut fields = Vec::new(alloc);
+    for column in columns {
+        if column.datum.place() != Datum::ConnCur.place() {
+            push_zero(&mut fields, *column)?;
+        }
+    }
+    Ok(fields)
+}
+
+impl Values {
+    ghost use Rattle.std.specs.Prelude.{◌≡◌, ◌≤◌, IsSome, IsTrue, IfOk};
+    ghost use Rattle.stored_data.specs.Data.{is_settable, greatest};
+    ghost use Rattle.stored_data.specs.Acts.{AreReady, acted, answer, value_at, content_of, with_value, zero_of};
+
+    /// The data of a new key.
+    pub fn zero(alloc: Global, set: &StoredSet) -> Result<Values, NoMemory>
+        ensures { IfOk result (λ values. values ≡ zero_of set.now) }
+    {
+        Ok(Values {
+            fields: zero_fields(alloc, set.columns())?,
+        })
+    }
+
+    /// Puts a value into a datum.
+    pub fn put(&mut self, datum: Datum, value: u64)
+        requires stored { IsSome (content_of self.old datum) }
+        requires settable { IsTrue (is_settable datum) }
+        requires in_range { value ≤ greatest datum }
+        ensures { self.new ≡ with_value self.old datum value }
+    {
+        put_field(self.fields.as_mut_slice(), datum, value);
+    }
+
+    /// What an act does, and what it answers.
+    pub fn act(&mut self, now: u64, act: Act) -> Option<u64>
+        requires { AreReady self.old now }
+        ensures data { self.new ≡ acted self.old now act }
+        ensures answer { result ≡ answer self.old now act }
+    {
+        let before = value_in(self.fields.as_slice(), act.subject(), now);
+        change_fields(self.fields.as_mut_slice(), now, act);
+        if act.answers_before() {
+            before
+        } else {
+            value_in(self.fields.as_slice(), act.subject(), now)
+        }
+    }
+
+    /// What a datum shows at a moment, where it is stored.
+    pub fn get(&self, datum: Datum, now: u64) -> Option<u64>
+        requires { AreReady self.now now }
+        ensures { result ≡ value_at self.now datum now }
+    {
+        value_in(self.fields.as_slice(), datum, now)
+    }
+}
