@@ -69,6 +69,15 @@ impl StoredSet {
         Ok(())
     }
 
+    /// An equal set.
+    pub fn copy(&self) -> Result<StoredSet, NoMemory>
+        ensures { IfOk result (λ set. set ≡ self.now) }
+    {
+        Ok(StoredSet {
+            columns: Vec::from_slice(*self.columns.allocator(), self.columns.as_slice())?,
+        })
+    }
+
     pub fn columns(&self) -> &[Column]
         ensures columns { result.now ≡ self.now }
         ensures sound { IsSound self.now }

@@ -1,0 +1,11 @@
+pub mod Key
+pub mod State
+pub mod Room
+pub mod Filters
+pub mod Step
+pub mod Refusals
+pub mod Limits
+pub mod Run
+pub mod Legal
+pub mod Passed
+pub mod Laws

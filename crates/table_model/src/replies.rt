@@ -1,0 +1,84 @@
+//! What a table answers.
+ghost use Rattle.std.specs.Prelude.{◌≡◌};
+ghost use Rattle.table_model.specs.declared.replies.Refusal.TheVariants.{Memory};
+
+use crate::{Row, Rows, Ticket};
+use sequence::NoMemory;
+use std::alloc::AllocFailed;
+use stored_data::Datum;
+use thiserror::Error;
+
+/// What an event is answered.
+#[derive(Drop)]
+pub enum Reply {
+    /// The key has no entry.
+    Absent,
+    Row(Row),
+    /// As many references are out as the table may have.
+    NoRefs,
+    /// There is no room for a new entry.
+    Full,
+    /// The new reference, and what is shown of its entry.
+    Tracked {
+        ticket: Ticket,
+        row: Row,
+    },
+    /// What the act answered.
+    Value(Option<u64>),
+    Released,
+    /// The datum can't be set.
+    NotSettable(Datum),
+    /// The table doesn't store the datum.
+    NotStored(Datum),
+    /// The data are set, in an entry that was made for them or was there.
+    Written {
+        created: bool,
+    },
+    /// The entry has references.
+    InUse,
+    Removed,
+    /// How many matched and were removed, and how many matched and were tracked.
+    Cleared {
+        removed: u64,
+        kept: u64,
+    },
+    /// How many entries there are, and what is shown of those that match.
+    Rows {
+        used: u64,
+        rows: Rows,
+    },
+    /// How many entries' dates were reached.
+    Expired(u64),
+}
+
+/// Why an event was refused. A refusal changes nothing and is no event.
+#[derive(Clone, Copy, Debug, PartialEq, Eq, Error)]
+pub enum Refusal {
+    /// The ticket isn't outstanding.
+    #[error("the reference is not outstanding")]
+    Stale,
+    /// The table is at the end of its life: it numbers no more events.
+    #[error("the table is at the end of its life")]
+    Exhausted,
+    #[error("out of memory")]
+    Memory,
+    /// The table has counted fewer events than its caller has seen.
+    #[error("the table has counted {count} events, and its caller has seen {front}")]
+    Behind { count: u64, front: u64 },
+}
+
+impl From<NoMemory> for Refusal {
+    ghost from_gives = { λ _ refusal. refusal ≡ Memory };
+
+    fn from(_refused: NoMemory) -> Refusal {
+        Refusal::Memory
+    }
+}
+
+impl<T: Drop> From<AllocFailed<T>> for Refusal {
+    ghost from_gives = { λ _ refusal. refusal ≡ Memory };
+
+    fn from(_refused: AllocFailed<T>) -> Refusal {
+        Refusal::Memory
+    }
+}
