@@ -4,6 +4,7 @@
 
 mod events;
 mod filters;
+pub mod laws;
 mod replies;
 mod rows;
 mod specification;
