@@ -32,10 +32,21 @@ impl Model for StoredSet {
     ghost invariant = { λ set. IsSound set.columns.items };
 }
 
+ghost use Rattle.stored_data.specs.Stored.{is_column};
+
+/// Whether some column is that of the datum.
+fn has_column(columns: &[Column], datum: Datum) -> bool
+    ensures { result ≡ is_column columns.now datum }
+{
+    columns
+        .iter()
+        .any(|column| column.datum.place() == datum.place())
+}
+
 impl StoredSet {
     ghost use Rattle.std.specs.Prelude.{◌≡◌, ◌↔◌, ◌<◌, ◌≤◌, [], ◌∷◌, ◌++◌, length, count_by, insert, nat_lt, List, IsTrue, OnOk, OnErr, IfOk};
     ghost use Rattle.stored_data.specs.Data.{place, is_rate};
-    ghost use Rattle.stored_data.specs.Stored.{IsSound, Holds, with_column, IsPeriod};
+    ghost use Rattle.stored_data.specs.Stored.{IsSound, Holds, is_column, with_column, IsPeriod};
 
     /// No columns.
     pub fn new(alloc: Global) -> StoredSet
@@ -69,15 +80,6 @@ impl StoredSet {
         Ok(())
     }
 
-    /// An equal set.
-    pub fn copy(&self) -> Result<StoredSet, NoMemory>
-        ensures { IfOk result (λ set. set ≡ self.now) }
-    {
-        Ok(StoredSet {
-            columns: Vec::from_slice(*self.columns.allocator(), self.columns.as_slice())?,
-        })
-    }
-
     pub fn columns(&self) -> &[Column]
         ensures columns { result.now ≡ self.now }
         ensures sound { IsSound self.now }
@@ -87,8 +89,18 @@ impl StoredSet {
 
     /// Whether the datum has a column.
     pub fn holds(&self, datum: Datum) -> bool
-        ensures { IsTrue result ↔ Holds self.now datum }
+        ensures by_place { result ≡ is_column self.now datum }
+        ensures holds { IsTrue result ↔ Holds self.now datum }
     {
-        self.columns.iter().any(|column| column.datum == datum)
+        has_column(self.columns.as_slice(), datum)
+    }
+
+    /// An equal list of columns.
+    pub fn copy(&self) -> Result<StoredSet, NoMemory>
+        ensures { IfOk result (λ set. set ≡ self.now) }
+    {
+        Ok(StoredSet {
+            columns: Vec::from_slice(*self.columns.allocator(), self.columns.as_slice())?,
+        })
     }
 }

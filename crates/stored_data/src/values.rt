@@ -37,13 +37,27 @@ impl Model for Values {
     ghost view = { λ values. values.fields.items };
 }
 
+impl Content {
+    ghost use Rattle.std.specs.Prelude.{◌≡◌};
+    ghost use Rattle.stored_data.specs.Acts.{put_content};
+
+    /// The content with a value put into it, which leaves a rate as it is.
+    fn with_value(self, value: u64) -> Content
+        ensures { result ≡ put_content value self }
+    {
+        match self {
+            Content::Number(_) => Content::Number(value),
+            Content::Rate(meter) => Content::Rate(meter),
+        }
+    }
+}
+
 impl Field {
     ghost use Rattle.std.specs.Prelude.{◌≡◌};
-    ghost use Rattle.stored_data.specs.Acts.{changed, shown, IsReady, changed_field, put_field};
+    ghost use Rattle.stored_data.specs.Acts.{changed, shown, changed_field, put_field};
 
     /// The content after a change at a moment.
     fn changed(self, now: u64, change: Change) -> Content
-        requires { IsReady now self.content }
         ensures { result ≡ changed now self.datum change self.content }
     {
         match (change, self.content) {
@@ -62,7 +76,6 @@ impl Field {
 
     /// The field after an act.
     fn acted(self, now: u64, act: Act) -> Field
-        requires { IsReady now self.content }
         ensures { result ≡ changed_field now act self }
     {
         Field {
@@ -78,7 +91,7 @@ impl Field {
         if self.datum.place() == datum.place() {
             Field {
                 datum: self.datum,
-                content: Content::Number(value),
+                content: self.content.with_value(value),
             }
         } else {
             self
@@ -87,7 +100,6 @@ impl Field {
 
     /// What the field shows at a moment.
     fn shown(&self, now: u64) -> u64
-        requires { IsReady now self.now.content }
         ensures { result ≡ shown now self.now.content }
     {
         match self.content {
@@ -99,7 +111,6 @@ impl Field {
 
 /// The fields after an act.
 fn change_fields(fields: &mut [Field], now: u64, act: Act)
-    requires { AreReady fields.old now }
     ensures { fields.new ≡ acted fields.old now act }
 {
     for field in fields.iter_mut() {
@@ -108,13 +119,12 @@ fn change_fields(fields: &mut [Field], now: u64, act: Act)
 }
 
 ghost use Rattle.std.specs.Prelude.{◌≡◌, ◌++◌, [], ◌∷◌, IfOk, OnOk};
-ghost use Rattle.stored_data.specs.Acts.{AreReady, acted, value_at, with_value, zero_field, zero_of};
+ghost use Rattle.stored_data.specs.Acts.{acted, value_at, with_value, zero_field, zero_of};
 ghost use Rattle.stored_data.specs.Data.{is_rate};
 ghost use Rattle.stored_data.specs.Stored.{IsPeriod, HavePeriods};
 
 /// What a datum shows at a moment, where it is stored.
 fn value_in(fields: &[Field], datum: Datum, now: u64) -> Option<u64>
-    requires { AreReady fields.now now }
     ensures { result ≡ value_at fields.now datum now }
 {
     for field in fields {
@@ -168,7 +178,7 @@ fn zero_fields(alloc: Global, columns: &[Column]) -> Result<Vec<Field>, NoMemory
 impl Values {
     ghost use Rattle.std.specs.Prelude.{◌≡◌, ◌≤◌, IsSome, IsTrue, IfOk};
     ghost use Rattle.stored_data.specs.Data.{is_settable, greatest};
-    ghost use Rattle.stored_data.specs.Acts.{AreReady, acted, answer, value_at, content_of, with_value, zero_of};
+    ghost use Rattle.stored_data.specs.Acts.{acted, answer, value_at, content_of, with_value, zero_of};
 
     /// The data of a new key.
     pub fn zero(alloc: Global, set: &StoredSet) -> Result<Values, NoMemory>
@@ -181,9 +191,6 @@ impl Values {
 
     /// Puts a value into a datum.
     pub fn put(&mut self, datum: Datum, value: u64)
-        requires stored { IsSome (content_of self.old datum) }
-        requires settable { IsTrue (is_settable datum) }
-        requires in_range { value ≤ greatest datum }
         ensures { self.new ≡ with_value self.old datum value }
     {
         put_field(self.fields.as_mut_slice(), datum, value);
@@ -191,7 +198,6 @@ impl Values {
 
     /// What an act does, and what it answers.
     pub fn act(&mut self, now: u64, act: Act) -> Option<u64>
-        requires { AreReady self.old now }
         ensures data { self.new ≡ acted self.old now act }
         ensures answer { result ≡ answer self.old now act }
     {
@@ -204,9 +210,17 @@ impl Values {
         }
     }
 
+    /// An equal list of data.
+    pub fn copy(&self) -> Result<Values, NoMemory>
+        ensures { IfOk result (λ values. values ≡ self.now) }
+    {
+        Ok(Values {
+            fields: Vec::from_slice(*self.fields.allocator(), self.fields.as_slice())?,
+        })
+    }
+
     /// What a datum shows at a moment, where it is stored.
     pub fn get(&self, datum: Datum, now: u64) -> Option<u64>
-        requires { AreReady self.now now }
         ensures { result ≡ value_at self.now datum now }
     {
         value_in(self.fields.as_slice(), datum, now)
