@@ -1,6 +1,6 @@
 -- What each event does.
 use Rattle.std.specs.Prelude.{◌≡◌, ℕ, ◌+◌, ◌-◌, nat_lt, nat_le, Bool, true, false, not, ◌&&◌, if◌then◌else◌, List, [], ◌∷◌, ◌++◌, length, map, filter, count_by, fold, Option, Some, None, unwrap_or, is_some, IsTrue}
-use Rattle.std.specs.Option.{option_map, option_map_or, option_and_then}
+use Rattle.std.specs.Option.{option_map_or, option_and_then}
 use Rattle.std.specs.Map.{set_value}
 use Rattle.stored_data.specs.Acts.{acted, answer, with_value}
 use Rattle.stored_data.specs.Data.{is_settable}

@@ -1,0 +1,42 @@
+-- On lists.
+use Rattle.std.proofs.Common.{◌≡◌, ℕ, ◌+◌, ◌<◌, List, [], ◌∷◌, ◌++◌, length, take, drop, map, set, get_or, refl, arith, ap, sym, ◌∙◌, Bool, true, false, cond, ◌&&◌, filter, Some, append_assoc}
+use Rattle.std.specs.List.{list_all}
+use Rattle.std.specs.Map.{lookup}
+use Rattle.std.proofs.lemmas.List.{at_drop_more}
+use Rattle.std.proofs.lemmas.Grind.{common_steps}
+use Rattle.std.proofs.lemmas.List.Edits.{map_over_more}
+
+get_or_again : {X : Type 0} → (xs : List X) (i : ℕ) (d e : X) → i < length xs → get_or xs i d ≡ get_or xs i e
+get_or_again xs i d e h = grind (arith, common_steps)
+
+-- a loop that writes f x over each element x of xs
+pub map_over_at : {X : Type 0} → (f : X → X) (xs ys : List X) (i : ℕ) (d : X) → i < length xs → length ys ≡ length xs → ys ≡ map f (take i xs) ++ drop i xs → set ys i (f (get_or ys i d)) ≡ map f (take (i + 1) xs) ++ drop (i + 1) xs
+map_over_at f xs ys i d h same is = map_over_more f xs ys i (get_or ys i d) h is (get_or_again ys i d (get_or ys i d) (omega arith))
+
+-- the first element of what is left fails the test
+pub list_all-fails : {X : Type 0} → (p : X → Bool) (xs : List X) (i : ℕ) (x : X) → i < length xs → x ≡ get_or xs i x → p x ≡ false → list_all p (drop i xs) ≡ false
+list_all-fails p xs i x h is fails = at_drop_more (list_all p) xs i x h ∙ ap (λ y. p y && list_all p (drop (i + 1) xs)) (sym is) ∙ ap (λ b. b && list_all p (drop (i + 1) xs)) fails
+
+-- the first entry of what is left is kept and found
+pub lookup-filter_hits : {K X : Type 0} → (test : K → Bool) (p : K × X → Bool) (es : List (K × X)) (i : ℕ) (e : K × X) → i < length es → e ≡ get_or es i e → p e ≡ true → test e.0 ≡ true → lookup test (filter p (drop i es)) ≡ Some e.1
+lookup-filter_hits test p es i e h is kept found =
+    at_drop_more (λ fs. lookup test (filter p fs)) es i e h
+    ∙ ap (λ f. lookup test (filter p (f ∷ drop (i + 1) es))) (sym is)
+    ∙ ap (λ b. lookup test (cond b (e ∷ filter p (drop (i + 1) es)) (filter p (drop (i + 1) es)))) kept
+    ∙ ap (λ b. cond b (Some e.1) (lookup test (filter p (drop (i + 1) es)))) found
+
+-- one more of those that pass both tests
+pub listed-more : {E R : Type 0} → (f : E → R) (p q : E → Bool) (xs : List E) (i : ℕ) (e : E) (ys : List R) → i < length xs → e ≡ get_or xs i e → q e ≡ true → p e ≡ true
+    → (ys ++ f e ∷ []) ++ map f (filter p (filter q (drop (i + 1) xs))) ≡ ys ++ map f (filter p (filter q (drop i xs)))
+listed-more f p q xs i e ys h is kept passes =
+    let rest = filter q (drop (i + 1) xs) in
+    append_assoc ys (f e ∷ []) (map f (filter p rest))
+    ∙ ap (λ zs. ys ++ zs) (sym (
+      at_drop_more (λ zs. map f (filter p (filter q zs))) xs i e h
+      ∙ ap (λ x. map f (filter p (filter q (x ∷ drop (i + 1) xs)))) (sym is)
+      ∙ ap (λ b. map f (filter p (cond b (e ∷ rest) rest))) kept
+      ∙ ap (λ b. map f (cond b (e ∷ filter p rest) (filter p rest))) passes))
+
+pub append-nil : {X : Type 0} (xs : List X) → xs ++ [] ≡ xs
+append-nil [] = refl
+append-nil (x ∷ xs) = ap (λ ys. x ∷ ys) (append-nil xs)

@@ -1,0 +1,3 @@
+pub mod Invariant
+pub mod Replies
+pub mod Purging

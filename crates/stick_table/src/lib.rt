@@ -1,0 +1,13 @@
+//! Stick tables: what every table does, and the plain one, which goes over all its records at each event.
+//! The types and the definitions are those of `table_model`.
+#![tactic(auto)]
+
+mod plain;
+mod running;
+mod tables;
+
+pub use plain::PlainTable;
+pub use running::run;
+pub use table_model::laws;
+pub use table_model::{Cell, Cells, Event, Filter, Op, Record, Refusal, Reply, Row, Rows, Spec, Stored, Ticket};
+pub use tables::Table;

@@ -1,0 +1,30 @@
+//! Data that are put.
+ghost use Rattle.std.specs.Prelude.{◌≡◌, IfSome, None};
+ghost use Rattle.table_model.specs.Step.{put_fault as put_fault_of, put_pairs as put_pairs_of, slot_of};
+
+use stored_data::{StoredSet, Values, settable};
+use table_model::{Cell, Reply};
+
+/// What the first pair that can't be put is answered.
+pub fn put_fault(columns: &StoredSet, pairs: &[Cell]) -> Option<Reply>
+    ensures fault { result ≡ put_fault_of columns.now pairs.now }
+    ensures no_slot { IfSome result (λ reply. slot_of reply ≡ None) }
+{
+    for pair in pairs {
+        if !settable(pair.datum) {
+            return Some(Reply::NotSettable(pair.datum));
+        }
+        if !columns.holds(pair.datum) {
+            return Some(Reply::NotStored(pair.datum));
+        }
+    }
+    None
+}
+
+pub fn put_pairs(values: &mut Values, pairs: &[Cell])
+    ensures { values.new ≡ put_pairs_of pairs.now values.old }
+{
+    for pair in pairs {
+        values.put(pair.datum, pair.value);
+    }
+}

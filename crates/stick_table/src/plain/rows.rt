@@ -1,0 +1,69 @@
+//! What is shown of records.
+ghost use Rattle.std.specs.Prelude.{◌≡◌, ◌≤◌, ◌<◌, ◌^◌, length, IfOk};
+ghost use Rattle.table_model.specs.State.{row_of};
+ghost use Rattle.stick_table.specs.Replies.{listed_rows};
+
+use crate::plain::tickets::count_refs;
+use crate::plain::records::is_live;
+use crate::plain::filters::passes;
+use sequence::{NoMemory, Sequence};
+use std::alloc::Global;
+use stick_key::StickKey;
+use stored_data::StoredSet;
+use table_model::{Cell, Filter, Record, Row, Rows, Ticket};
+
+/// What a row shows of a record.
+pub fn make_row(
+    alloc: Global,
+    columns: &StoredSet,
+    clock: u64,
+    refs: u32,
+    key: &StickKey,
+    found: &Record,
+) -> Result<Row, NoMemory>
+    requires { clock < 2 ^ 62 }
+    ensures { IfOk result (λ row. row ≡ row_of columns.now clock refs key.now found.now) }
+{
+    let key = key.copy()?;
+    let mut cells = Vec::new(alloc);
+    for column in columns.columns() {
+        let value = found.values.get(column.datum, clock).unwrap_or(u64::from(refs));
+        cells.push(Cell {
+            datum: column.datum,
+            value,
+        })?;
+    }
+    Ok(Row {
+        key,
+        refs,
+        left: found.date.unwrap_or(0).saturating_sub(clock),
+        cells: Sequence::from_vec(cells),
+    })
+}
+
+/// The rows of the records that match, once the clock has come to this moment.
+pub fn list_rows(
+    alloc: Global,
+    columns: &StoredSet,
+    records: &[(StickKey, Record)],
+    tickets: &[(Ticket, StickKey)],
+    clock: u64,
+    choice: &Filter,
+) -> Result<Rows, NoMemory>
+    requires clock { clock < 2 ^ 62 }
+    requires tickets { length tickets.now ≤ 1048576 }
+    ensures { IfOk result (λ rows. rows ≡ listed_rows columns.now tickets.now clock choice.now records.now) }
+{
+    let mut rows = Vec::new(alloc);
+    for entry in records {
+        if !is_live(tickets, clock, entry) {
+            continue;
+        }
+        if !passes(tickets, clock, choice, entry) {
+            continue;
+        }
+        let refs = count_refs(tickets, &entry.0) as u32;
+        rows.push(make_row(alloc, columns, clock, refs, &entry.0, &entry.1)?)?;
+    }
+    Ok(Sequence::from_vec(rows))
+}

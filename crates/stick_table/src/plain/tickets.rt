@@ -1,0 +1,90 @@
+//! References: tickets with their keys, the oldest first.
+ghost use Rattle.std.specs.Prelude.{◌≡◌, ◌≢◌, ◌+◌, ◌≤◌, ◌<◌, ◌++◌, ◌∷◌, [], length, filter, not, MatchOption, vec_len, vec_capacity, None, true};
+ghost use Rattle.std.specs.Option.{option_copied};
+ghost use Rattle.table_model.specs.State.{same_ticket, key_of, refs as refs_of, is_tracked as is_key_tracked, is_free as is_slot_free};
+
+use crate::plain::records::is_same;
+use stick_key::StickKey;
+use table_model::Ticket;
+
+/// How many tickets of the key are out.
+pub fn count_refs(tickets: &[(Ticket, StickKey)], key: &StickKey) -> usize
+    ensures count { result ≡ refs_of key.now tickets.now }
+    ensures within { result ≤ length tickets.now }
+{
+    let mut count = 0;
+    for held in tickets {
+        if is_same(key, &held.1) {
+            count += 1;
+        }
+    }
+    count
+}
+
+pub fn is_tracked(tickets: &[(Ticket, StickKey)], key: &StickKey) -> bool
+    ensures { result ≡ is_key_tracked key.now tickets.now }
+{
+    count_refs(tickets, key) > 0
+}
+
+/// The key of a ticket that is out.
+pub fn find_key<'a>(tickets: &'a [(Ticket, StickKey)], ticket: Ticket) -> Option<&'a StickKey>
+    ensures { option_copied result ≡ key_of ticket tickets.now }
+{
+    for held in tickets {
+        if ticket.number == held.0.number && ticket.slot == held.0.slot {
+            return Some(&held.1);
+        }
+    }
+    None
+}
+
+fn is_same_ticket(a: Ticket, b: Ticket) -> bool
+    ensures { result ≡ same_ticket a b }
+{
+    a.number == b.number && a.slot == b.slot
+}
+
+/// Gives a ticket back.
+pub fn remove_ticket(tickets: &mut Vec<(Ticket, StickKey)>, ticket: Ticket)
+    ensures items { tickets.new.items ≡ filter (λ held. not (same_ticket ticket held.0)) tickets.old.items }
+    ensures fewer { key_of ticket tickets.old.items ≢ None → vec_len tickets.new + 1 ≤ vec_len tickets.old }
+{
+    tickets.retain(|held| !is_same_ticket(ticket, held.0));
+}
+
+fn is_free(tickets: &[(Ticket, StickKey)], slot: u32) -> bool
+    ensures { result ≡ is_slot_free slot tickets.now }
+{
+    for held in tickets {
+        if held.0.slot == slot {
+            return false;
+        }
+    }
+    true
+}
+
+/// A slot that no ticket has.
+pub fn free_slot(tickets: &[(Ticket, StickKey)], max_refs: u32) -> Option<u32>
+    ensures { MatchOption result (max_refs ≤ length tickets.now)
+        (λ slot. (length tickets.now < max_refs) × (slot < max_refs) × (is_slot_free slot tickets.now ≡ true)) }
+{
+    if tickets.len() >= max_refs as usize {
+        return None;
+    }
+    for slot in 0..max_refs {
+        if is_free(tickets, slot) {
+            return Some(slot);
+        }
+    }
+    None
+}
+
+/// Adds a ticket, for which there is room.
+pub fn push_ticket(tickets: &mut Vec<(Ticket, StickKey)>, ticket: Ticket, key: StickKey)
+    requires { vec_len tickets.old < vec_capacity tickets.old }
+    ensures items { tickets.new.items ≡ tickets.old.items ++ (ticket, key) ∷ [] }
+    ensures len { vec_len tickets.new ≡ vec_len tickets.old + 1 }
+{
+    let _ = tickets.push((ticket, key));
+}

@@ -1,0 +1,26 @@
+//! A list of events on any table.
+
+ghost use Rattle.std.specs.Prelude.{All, IfOk};
+ghost use Rattle.table_model.specs.Run.{Run};
+ghost use Rattle.table_model.specs.Limits.{IsTableEvent};
+
+use crate::Table;
+use sequence::Sequence;
+use std::alloc::Global;
+use table_model::{Event, Refusal, Reply};
+
+/// The replies to events, one after another. It ends at the first refusal; the events before it stand.
+pub fn run<T: Table>(alloc: Global, table: &mut T, events: &[Event]) -> Result<Sequence<Reply>, Refusal>
+    requires { All IsTableEvent events.now }
+    ensures { IfOk result (λ replies. Run (T.state table.old) events.now replies (T.state table.new)) }
+{
+    let mut replies = Sequence::new(alloc);
+    for event in events {
+        let reply = table.step(event)?;
+        match replies.push(reply) {
+            Ok(()) => {}
+            Err(_) => return Err(Refusal::Memory),
+        }
+    }
+    Ok(replies)
+}

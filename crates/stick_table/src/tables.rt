@@ -1,0 +1,37 @@
+//! What every stick table does, however it is kept.
+
+ghost use Rattle.std.specs.Prelude.{◌≡◌, IfOk, OnErr, OnOk, IfErr, true};
+ghost use Rattle.table_model.specs.State.{State, empty_table};
+ghost use Rattle.table_model.specs.Step.{Step};
+ghost use Rattle.table_model.specs.Refusals.{IsRefused, has_life};
+ghost use Rattle.table_model.specs.Limits.{IsTableSpec, IsTableEvent};
+
+use sequence::NoMemory;
+use std::alloc::Global;
+use table_model::{Event, Refusal, Reply, Spec};
+
+/// A stick table.
+pub trait Table: Drop {
+    /// What it is, however it is kept.
+    ghost state: { Self → State };
+
+    /// An empty table, whose clock is at 0 and which has counted no event.
+    fn open(alloc: Global, spec: Spec) -> Result<Self, NoMemory>
+        requires { IsTableSpec spec }
+        ensures empty { IfOk result (λ table. state table ≡ empty_table spec) };
+
+    /// What it was made with.
+    fn spec(&self) -> &Spec
+        ensures spec { result.now ≡ (state self.now).spec }
+        ensures limits { IsTableSpec result.now };
+
+    /// One event: its moment comes, it is counted, and it is done and answered; or it is refused, and nothing changes.
+    /// The refusals, in this order: `Stale` where its ticket isn't outstanding, `Exhausted` where the life would be
+    /// passed (never for a `Release`), `Memory` where a growth was refused (never for an event that needs none).
+    fn step(&mut self, event: &Event) -> Result<Reply, Refusal>
+        requires { IsTableEvent event.now }
+        ensures ok { IfOk result (λ reply. Step (state self.old) event.now reply (state self.new)) }
+        ensures lives { OnOk result (has_life (state self.old) event.now ≡ true) }
+        ensures refused { IfErr result (IsRefused (state self.old) event.now) }
+        ensures err { OnErr result (state self.new ≡ state self.old) };
+}
