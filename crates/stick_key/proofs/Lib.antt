@@ -1,3 +1,11 @@
+mod Ipv6Bytes
+mod Ipv6Digits
+mod Ipv6Gaps
+mod Ipv6Groups
+mod Ipv6Reread
+mod Ipv6Runs
+mod Ipv6Sides
 mod Numerals
+mod KeyLaws
 mod Parts
 mod Printed

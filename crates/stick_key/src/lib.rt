@@ -3,6 +3,7 @@
 
 mod dotted;
 mod fault;
+mod ipv6;
 mod key;
 mod kind;
 pub mod laws;
@@ -19,4 +20,3 @@ pub use numeral::{NumeralFault, read_numeral};
 pub use sample::{Bytes, Sample, convert};
 pub use shard::{shard_of, size_of_shard};
 pub use text::{fits, read_key, write_key};
-

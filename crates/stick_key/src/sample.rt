@@ -1,7 +1,8 @@
 //! Keys made of samples.
-ghost use Rattle.std.specs.Prelude.{◌≡◌, ◌≤◌, IfOk, IfErr, IsOk, length, take, List, ℕ};
-ghost use Rattle.stick_key.specs.Convert.{converted};
+ghost use Rattle.std.specs.Prelude.{◌≡◌, ◌==◌, IfOk, IfErr, IsOk, length, take, Some, None, false, if◌then◌else◌};
+ghost use Rattle.stick_key.specs.Convert.{converted, takes_memory};
 
+use crate::ipv6::{mapped, print_ipv6, unmapped};
 use crate::text::{print_dotted, print_integer};
 use crate::{KeyFault, KeyType, NoMemory, StickKey};
 use sequence::Sequence;
@@ -10,10 +11,11 @@ use std::alloc::Global;
 /// A list of bytes.
 pub type Bytes = Sequence<u8>;
 
-/// What a key is made of.
+/// What a key is made of: an address, a number or a text of a connection.
 #[derive(Debug, Drop)]
 pub enum Sample {
     V4([u8; 4]),
+    V6([u8; 16]),
     Number(u32),
     Text(Bytes),
 }
@@ -25,15 +27,39 @@ fn cut(text: &[u8], limit: u32) -> &[u8]
     &text[..text.len().min(limit as usize)]
 }
 
-/// The key that a sample gives a table of this kind, if any.
+/// The key of a text, if it has a byte.
+fn text_key(alloc: Global, text: &[u8], limit: u32) -> Result<Option<StickKey>, KeyFault>
+    ensures key { IfOk result (λ found. found ≡ (if length text.now == 0 then None else Some (take limit text.now))) }
+    ensures fault { IfErr result (λ fault. fault ≡ KeyFault.Memory) }
+{
+    if text.is_empty() {
+        return Ok(None);
+    }
+    Ok(Some(StickKey::from_bytes(alloc, cut(text, limit))?))
+}
+
+/// The key that a sample gives a table of this kind, if any. Only a text takes memory, and `Memory` is the one fault.
 pub fn convert(alloc: Global, sample: &Sample, kind: KeyType) -> Result<Option<StickKey>, KeyFault>
     ensures converted { IfOk result (λ found. found ≡ converted sample.now kind) }
     ensures fault { IfErr result (λ fault. fault ≡ KeyFault.Memory) }
+    ensures memory { takes_memory kind ≡ false → IsOk result }
 {
     match (sample, kind) {
         (Sample::V4(address), KeyType::Ip) => Ok(Some(StickKey::from_bytes(alloc, address)?)),
+        (Sample::V4(address), KeyType::Ipv6) => {
+            Ok(Some(StickKey::from_bytes(alloc, &mapped(*address))?))
+        }
         (Sample::V4(address), KeyType::Text(limit)) => {
             let text = print_dotted(alloc, *address)?;
+            Ok(Some(StickKey::from_bytes(alloc, cut(text.as_slice(), limit))?))
+        }
+        (Sample::V6(address), KeyType::Ip) => match unmapped(*address) {
+            Some(address) => Ok(Some(StickKey::from_bytes(alloc, &address)?)),
+            None => Ok(None),
+        },
+        (Sample::V6(address), KeyType::Ipv6) => Ok(Some(StickKey::from_bytes(alloc, address)?)),
+        (Sample::V6(address), KeyType::Text(limit)) => {
+            let text = print_ipv6(alloc, *address)?;
             Ok(Some(StickKey::from_bytes(alloc, cut(text.as_slice(), limit))?))
         }
         (Sample::Number(number), KeyType::Integer) => {
@@ -43,13 +69,7 @@ pub fn convert(alloc: Global, sample: &Sample, kind: KeyType) -> Result<Option<S
             let text = print_integer(alloc, *number)?;
             Ok(Some(StickKey::from_bytes(alloc, cut(text.as_slice(), limit))?))
         }
-        (Sample::Text(text), KeyType::Text(limit)) => {
-            let text = text.as_slice();
-            if text.is_empty() {
-                return Ok(None);
-            }
-            Ok(Some(StickKey::from_bytes(alloc, cut(text, limit))?))
-        }
+        (Sample::Text(text), KeyType::Text(limit)) => text_key(alloc, text.as_slice(), limit),
         _ => Ok(None),
     }
 }

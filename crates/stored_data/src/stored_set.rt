@@ -6,15 +6,17 @@ use sequence::NoMemory;
 use std::alloc::Global;
 use std::marker::Model;
 
-/// A datum that a table stores, with its period where it is a rate, else 0.
+/// A datum that a table stores. A rate has a period of 1 to 2,147,483,647 ms, and all else the
+/// period 0.
 #[derive(Clone, Copy, Debug, PartialEq, Eq)]
 pub struct Column {
     pub datum: Datum,
     pub period: u32,
 }
 
-/// The columns of a table, in the order of printing, each datum once.
-#[derive(Debug, Drop)]
+/// The columns of a table, in the order of printing, each datum once. Contracts see it as the list
+/// of its columns.
+#[derive(Drop)]
 pub struct StoredSet {
     columns: Vec<Column>,
 }
@@ -48,7 +50,7 @@ impl StoredSet {
     ghost use Rattle.stored_data.specs.Data.{place, is_rate};
     ghost use Rattle.stored_data.specs.Stored.{IsSound, Holds, is_column, with_column, IsPeriod};
 
-    /// No columns.
+    /// A table with no columns, which takes no memory.
     pub fn new(alloc: Global) -> StoredSet
         ensures { result ≡ [] }
     {
@@ -68,7 +70,7 @@ impl StoredSet {
             .count()
     }
 
-    /// Adds a column at its place.
+    /// Adds a column at its place. Where its growth is refused, the columns stay.
     pub fn add(&mut self, column: Column) -> Result<(), NoMemory>
         requires absent { ¬ (Holds self.old column.datum) }
         requires period { IsPeriod (is_rate column.datum) column.period }
@@ -80,6 +82,7 @@ impl StoredSet {
         Ok(())
     }
 
+    /// The columns, in the order of printing.
     pub fn columns(&self) -> &[Column]
         ensures columns { result.now ≡ self.now }
         ensures sound { IsSound self.now }
@@ -87,7 +90,7 @@ impl StoredSet {
         self.columns.as_slice()
     }
 
-    /// Whether the datum has a column.
+    /// Whether the table stores the datum.
     pub fn holds(&self, datum: Datum) -> bool
         ensures by_place { result ≡ is_column self.now datum }
         ensures holds { IsTrue result ↔ Holds self.now datum }
@@ -95,7 +98,7 @@ impl StoredSet {
         has_column(self.columns.as_slice(), datum)
     }
 
-    /// An equal list of columns.
+    /// The same columns once more, where there is memory.
     pub fn copy(&self) -> Result<StoredSet, NoMemory>
         ensures { IfOk result (λ set. set ≡ self.now) }
     {

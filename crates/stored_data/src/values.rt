@@ -9,21 +9,26 @@ use std::alloc::Global;
 use std::marker::Model;
 
 /// What is kept of a datum.
-#[derive(Clone, Copy, Debug)]
+#[derive(Clone, Copy)]
 pub enum Content {
+    /// The number of a counter or of the tag.
     Number(u64),
+    /// What was counted for a rate.
     Rate(Meter),
 }
 
 /// A datum and what is kept of it.
-#[derive(Clone, Copy, Debug)]
+#[derive(Clone, Copy)]
 pub struct Field {
+    /// The datum.
     pub datum: Datum,
+    /// What is kept of it.
     pub content: Content,
 }
 
-/// The data of one key, in the order of the columns.
-#[derive(Debug, Drop)]
+/// The data of one key, in the order of the columns; of the current connections nothing is kept.
+/// Contracts see it as the list of its fields. Once made, it takes no more memory.
+#[derive(Drop)]
 pub struct Values {
     fields: Vec<Field>,
 }
@@ -180,7 +185,7 @@ impl Values {
     ghost use Rattle.stored_data.specs.Data.{is_settable, greatest};
     ghost use Rattle.stored_data.specs.Acts.{acted, answer, value_at, content_of, with_value, zero_of};
 
-    /// The data of a new key.
+    /// The data of a new key: numbers are 0, and nothing is counted in a rate.
     pub fn zero(alloc: Global, set: &StoredSet) -> Result<Values, NoMemory>
         ensures { IfOk result (λ values. values ≡ zero_of set.now) }
     {
@@ -189,14 +194,17 @@ impl Values {
         })
     }
 
-    /// Puts a value into a datum.
+    /// Puts a value into a datum, and counts in no rate. Where the datum isn't stored, or is a rate,
+    /// all stays. The value isn't cut: callers test `settable` and `in_range`.
     pub fn put(&mut self, datum: Datum, value: u64)
         ensures { self.new ≡ with_value self.old datum value }
     {
         put_field(self.fields.as_mut_slice(), datum, value);
     }
 
-    /// What an act does, and what it answers.
+    /// Does an act at a moment in ms, and answers the new value of its counter or tag, of a clear the
+    /// value before it; none where that isn't stored. Counters stop at their greatest value, and what
+    /// their rates are is defined for moments in order.
     pub fn act(&mut self, now: u64, act: Act) -> Option<u64>
         ensures data { self.new ≡ acted self.old now act }
         ensures answer { result ≡ answer self.old now act }
@@ -210,7 +218,7 @@ impl Values {
         }
     }
 
-    /// An equal list of data.
+    /// The same data once more, where there is memory.
     pub fn copy(&self) -> Result<Values, NoMemory>
         ensures { IfOk result (λ values. values ≡ self.now) }
     {
@@ -219,7 +227,8 @@ impl Values {
         })
     }
 
-    /// What a datum shows at a moment, where it is stored.
+    /// What a datum shows at a moment in ms: none where it isn't stored, and for the current
+    /// connections, which are the references to the key.
     pub fn get(&self, datum: Datum, now: u64) -> Option<u64>
         ensures { result ≡ value_at self.now datum now }
     {

@@ -1,0 +1,4 @@
+pub mod PartLemmas
+pub mod LineLemmas
+pub mod NumberLemmas
+pub mod ChainLemmas

@@ -1,0 +1,34 @@
+//! What follows from the definitions of the stored data.
+ghost use Rattle.stored_data.specs.Laws.{NamesDiffer, StaysInRange, CountsNeverLower, PutIsRead, KeepsData, NewShowsZero};
+
+/// No two data have one name.
+pub fn names_differ()
+    ensures { NamesDiffer }
+{}
+
+/// A counter stops at its greatest value: the data of a new key are in range, whatever is counted
+/// and put in range leaves them in range, and then no value is shown above the greatest.
+pub fn stays_in_range()
+    ensures { StaysInRange }
+{}
+
+/// A count lowers no value: a counter never wraps.
+pub fn counts_never_lower()
+    ensures { CountsNeverLower }
+{}
+
+/// A number that is put is read back, and all other data stay.
+pub fn put_is_read()
+    ensures { PutIsRead }
+{}
+
+/// An act and a put keep the data that are stored, in their order.
+pub fn keeps_data()
+    ensures { KeepsData }
+{}
+
+/// A new key shows 0 for each datum that is stored, but for the current connections, and nothing
+/// for any other.
+pub fn new_shows_zero()
+    ensures { NewShowsZero }
+{}

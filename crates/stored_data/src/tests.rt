@@ -1,0 +1,375 @@
+//! The table of data, and every act on all fourteen.
+ghost use Rattle.std.specs.Prelude.{◌≡◌, ◌≤◌, ◌<◌, ◌^◌};
+ghost use Rattle.stored_data.specs.Data.{is_rate};
+ghost use Rattle.stored_data.specs.Stored.{IsPeriod};
+
+use crate::{Act, Column, Datum, StoredSet, Values, in_range, name, read_datum, settable};
+use std::alloc::Global;
+use std::test::Fail;
+
+/// The greatest value of a number of 32 bits, and of one of 64.
+const GREATEST_32: u64 = 4_294_967_295;
+
+const GREATEST_64: u64 = 18_446_744_073_709_551_615;
+
+/// Every datum in the order of printing.
+const DATA: [Datum; 14] = [
+    Datum::Gpt0,
+    Datum::Gpc0,
+    Datum::Gpc0Rate,
+    Datum::ConnCnt,
+    Datum::ConnRate,
+    Datum::ConnCur,
+    Datum::SessCnt,
+    Datum::SessRate,
+    Datum::BytesInCnt,
+    Datum::BytesInRate,
+    Datum::BytesOutCnt,
+    Datum::BytesOutRate,
+    Datum::Gpc1,
+    Datum::Gpc1Rate,
+];
+
+/// The column of a datum, where it is a rate over this period.
+fn column_of(datum: Datum, period: u32) -> Column
+    requires some { 1 ≤ period }
+    requires limit { period < 2 ^ 31 }
+    ensures same { result.datum ≡ datum }
+    ensures period { IsPeriod (is_rate result.datum) result.period }
+{
+    if datum.is_rate() {
+        Column { datum, period }
+    } else {
+        Column { datum, period: 0 }
+    }
+}
+
+/// The columns of these data, the rates over 10 s.
+fn columns_of(alloc: Global, data: &[Datum]) -> Result<StoredSet, Fail> {
+    let mut set = StoredSet::new(alloc);
+    for datum in data {
+        if !set.holds(*datum) {
+            set.add(column_of(*datum, 10_000))?;
+        }
+    }
+    Ok(set)
+}
+
+#[test]
+fn data_are_in_their_table(rt: HostRuntime) {
+    let rows = [
+        (Datum::Gpt0, "gpt0", GREATEST_32, true, false),
+        (Datum::Gpc0, "gpc0", GREATEST_32, true, false),
+        (Datum::Gpc0Rate, "gpc0_rate", GREATEST_32, false, true),
+        (Datum::ConnCnt, "conn_cnt", GREATEST_32, true, false),
+        (Datum::ConnRate, "conn_rate", GREATEST_32, false, true),
+        (Datum::ConnCur, "conn_cur", GREATEST_32, false, false),
+        (Datum::SessCnt, "sess_cnt", GREATEST_32, true, false),
+        (Datum::SessRate, "sess_rate", GREATEST_32, false, true),
+        (Datum::BytesInCnt, "bytes_in_cnt", GREATEST_64, true, false),
+        (
+            Datum::BytesInRate,
+            "bytes_in_rate",
+            GREATEST_32,
+            false,
+            true,
+        ),
+        (
+            Datum::BytesOutCnt,
+            "bytes_out_cnt",
+            GREATEST_64,
+            true,
+            false,
+        ),
+        (
+            Datum::BytesOutRate,
+            "bytes_out_rate",
+            GREATEST_32,
+            false,
+            true,
+        ),
+        (Datum::Gpc1, "gpc1", GREATEST_32, true, false),
+        (Datum::Gpc1Rate, "gpc1_rate", GREATEST_32, false, true),
+    ];
+    let mut place: u8 = 0;
+    for (datum, text, greatest, can_be_set, rate) in rows {
+        place = place.saturating_add(1);
+        assert_eq!(rt; datum.place(), place, "{text}");
+        assert_eq!(rt; name(datum), text);
+        assert_eq!(rt; read_datum(text.as_bytes()), Some(datum), "{text}");
+        assert_eq!(rt; datum.greatest(), greatest, "{text}");
+        assert_eq!(rt; settable(datum), can_be_set, "{text}");
+        assert_eq!(rt; datum.is_rate(), rate, "{text}");
+        assert!(rt; in_range(datum, greatest), "{text}");
+        assert_eq!(rt;
+            in_range(datum, GREATEST_64),
+            greatest == GREATEST_64,
+            "{text}"
+        );
+        assert_eq!(rt;
+            in_range(datum, 4_294_967_296),
+            greatest == GREATEST_64,
+            "{text}"
+        );
+    }
+    for text in [
+        "",
+        "gpc",
+        "gpc2",
+        "GPC0",
+        " gpc0",
+        "gpc0 ",
+        "gpc0_rate(10s)",
+        "server_id",
+    ] {
+        assert_eq!(rt; read_datum(text.as_bytes()), None, "{text}");
+    }
+}
+
+#[test]
+fn columns_are_in_order(rt: HostRuntime) -> Result<(), Fail> {
+    let empty = StoredSet::new(rt.alloc());
+    assert!(rt; !empty.holds(Datum::Gpc0));
+    let set = columns_of(
+        rt.alloc(),
+        [Datum::Gpc1, Datum::ConnRate, Datum::Gpt0, Datum::BytesInCnt].as_slice(),
+    )?;
+    let rows = [
+        Column {
+            datum: Datum::Gpt0,
+            period: 0,
+        },
+        Column {
+            datum: Datum::ConnRate,
+            period: 10_000,
+        },
+        Column {
+            datum: Datum::BytesInCnt,
+            period: 0,
+        },
+        Column {
+            datum: Datum::Gpc1,
+            period: 0,
+        },
+    ];
+    assert_eq!(rt; set.columns(), rows.as_slice());
+    assert_eq!(rt; set.copy()?.columns(), rows.as_slice());
+    assert!(rt; set.holds(Datum::ConnRate));
+    assert!(rt; !set.holds(Datum::ConnCnt));
+    Ok(())
+}
+
+/// What the data show at a moment, in the order of printing, and 0 for what they do not show.
+fn shown(values: &Values, now: u64) -> [u64; 14] {
+    let mut row: [u64; 14] = [0; 14];
+    for i in 0..14usize {
+        row[i] = values.get(DATA[i], now).unwrap_or(0);
+    }
+    row
+}
+
+/// All data with 7 in the tag, 5 and 3 in the counters of the rules, 11 connections, 13 sessions,
+/// 17 bytes in and 19 bytes out.
+fn sample(set: &StoredSet, alloc: Global) -> Result<Values, Fail> {
+    let mut values = Values::zero(alloc, set)?;
+    let numbers = [
+        (Datum::Gpt0, 7),
+        (Datum::Gpc0, 5),
+        (Datum::ConnCnt, 11),
+        (Datum::SessCnt, 13),
+        (Datum::BytesInCnt, 17),
+        (Datum::BytesOutCnt, 19),
+        (Datum::Gpc1, 3),
+    ];
+    for (datum, number) in numbers {
+        values.put(datum, number);
+    }
+    Ok(values)
+}
+
+#[test]
+fn acts_on_all_data(rt: HostRuntime) -> Result<(), Fail> {
+    let set = columns_of(rt.alloc(), DATA.as_slice())?;
+    let new = Values::zero(rt.alloc(), &set)?;
+    for datum in DATA {
+        let none_is_kept = datum == Datum::ConnCur;
+        assert_eq!(rt;
+            new.get(datum, 5),
+            if none_is_kept { None } else { Some(0) }
+        );
+    }
+    let before = sample(&set, rt.alloc())?;
+    assert_eq!(rt;
+        shown(&before, 1000),
+        [7, 5, 0, 11, 0, 0, 13, 0, 17, 0, 19, 0, 3, 0]
+    );
+    let rows = [
+        (
+            Act::Connection,
+            12,
+            [7, 5, 0, 12, 1, 0, 13, 0, 17, 0, 19, 0, 3, 0],
+        ),
+        (
+            Act::Session,
+            14,
+            [7, 5, 0, 11, 0, 0, 14, 1, 17, 0, 19, 0, 3, 0],
+        ),
+        (
+            Act::BytesIn(100),
+            117,
+            [7, 5, 0, 11, 0, 0, 13, 0, 117, 100, 19, 0, 3, 0],
+        ),
+        (
+            Act::BytesOut(200),
+            219,
+            [7, 5, 0, 11, 0, 0, 13, 0, 17, 0, 219, 200, 3, 0],
+        ),
+        (
+            Act::IncGpc0,
+            6,
+            [7, 6, 1, 11, 0, 0, 13, 0, 17, 0, 19, 0, 3, 0],
+        ),
+        (
+            Act::IncGpc1,
+            4,
+            [7, 5, 0, 11, 0, 0, 13, 0, 17, 0, 19, 0, 4, 1],
+        ),
+        (
+            Act::ClrGpc0,
+            5,
+            [7, 0, 0, 11, 0, 0, 13, 0, 17, 0, 19, 0, 3, 0],
+        ),
+        (
+            Act::ClrGpc1,
+            3,
+            [7, 5, 0, 11, 0, 0, 13, 0, 17, 0, 19, 0, 0, 0],
+        ),
+        (
+            Act::SetGpt0(9),
+            9,
+            [9, 5, 0, 11, 0, 0, 13, 0, 17, 0, 19, 0, 3, 0],
+        ),
+    ];
+    for (act, answer, after) in rows {
+        let mut values = before.copy()?;
+        assert_eq!(rt; values.act(1000, act), Some(answer), "{act:?}");
+        assert_eq!(rt; shown(&values, 1000), after, "{act:?}");
+        assert_eq!(rt;
+            shown(&before, 1000),
+            [7, 5, 0, 11, 0, 0, 13, 0, 17, 0, 19, 0, 3, 0]
+        );
+    }
+    Ok(())
+}
+
+#[test]
+fn rates_alone(rt: HostRuntime) -> Result<(), Fail> {
+    let rates = [
+        (Datum::Gpc0Rate, Datum::Gpc0, Act::IncGpc0, 1),
+        (Datum::Gpc1Rate, Datum::Gpc1, Act::IncGpc1, 1),
+        (Datum::ConnRate, Datum::ConnCnt, Act::Connection, 1),
+        (Datum::SessRate, Datum::SessCnt, Act::Session, 1),
+        (Datum::BytesInRate, Datum::BytesInCnt, Act::BytesIn(40), 40),
+        (
+            Datum::BytesOutRate,
+            Datum::BytesOutCnt,
+            Act::BytesOut(50),
+            50,
+        ),
+    ];
+    for (rate, counter, act, amount) in rates {
+        // A rate is counted where its counter isn't stored; a clear and a put count in none.
+        let set = columns_of(rt.alloc(), [rate].as_slice())?;
+        let mut values = Values::zero(rt.alloc(), &set)?;
+        assert_eq!(rt; values.act(1000, act), None, "{act:?}");
+        values.put(rate, 77);
+        values.put(counter, 77);
+        assert_eq!(rt; values.act(1000, Act::ClrGpc0), None);
+        assert_eq!(rt; values.act(1000, Act::ClrGpc1), None);
+        assert_eq!(rt; values.act(1000, Act::SetGpt0(3)), None);
+        assert_eq!(rt; values.get(rate, 1000), Some(amount), "{act:?}");
+        assert_eq!(rt; values.get(counter, 1000), None, "{act:?}");
+        assert_eq!(rt; values.get(rate, 15_000), Some(amount / 2), "{act:?}");
+        assert_eq!(rt; values.get(rate, 20_000), Some(0), "{act:?}");
+    }
+    Ok(())
+}
+
+#[test]
+fn counters_stop(rt: HostRuntime) -> Result<(), Fail> {
+    let set = columns_of(rt.alloc(), DATA.as_slice())?;
+    let counters = [
+        (Datum::Gpc0, GREATEST_32, Act::IncGpc0, Datum::Gpc0Rate, 1),
+        (Datum::Gpc1, GREATEST_32, Act::IncGpc1, Datum::Gpc1Rate, 1),
+        (
+            Datum::ConnCnt,
+            GREATEST_32,
+            Act::Connection,
+            Datum::ConnRate,
+            1,
+        ),
+        (
+            Datum::SessCnt,
+            GREATEST_32,
+            Act::Session,
+            Datum::SessRate,
+            1,
+        ),
+        (
+            Datum::BytesInCnt,
+            GREATEST_64,
+            Act::BytesIn(6),
+            Datum::BytesInRate,
+            6,
+        ),
+        (
+            Datum::BytesOutCnt,
+            GREATEST_64,
+            Act::BytesOut(7),
+            Datum::BytesOutRate,
+            7,
+        ),
+    ];
+    for (counter, greatest, act, rate, amount) in counters {
+        let mut values = sample(&set, rt.alloc())?;
+        values.put(counter, greatest);
+        assert_eq!(rt; values.act(2000, act), Some(greatest), "{act:?}");
+        assert_eq!(rt; values.get(counter, 2000), Some(greatest), "{act:?}");
+        assert_eq!(rt; values.get(rate, 2000), Some(amount), "{act:?}");
+    }
+
+    // The tag takes its greatest value, and no act counts in it.
+    let mut values = sample(&set, rt.alloc())?;
+    assert_eq!(rt;
+        values.act(0, Act::SetGpt0(4_294_967_295)),
+        Some(GREATEST_32)
+    );
+    assert_eq!(rt; values.act(0, Act::IncGpc0), Some(6));
+    assert_eq!(rt; values.get(Datum::Gpt0, 0), Some(GREATEST_32));
+
+    // A rate stops at its greatest value, the counter beside it goes on.
+    assert_eq!(rt;
+        values.act(0, Act::BytesIn(GREATEST_32)),
+        Some(4_294_967_312)
+    );
+    assert_eq!(rt; values.act(0, Act::BytesIn(1)), Some(4_294_967_313));
+    assert_eq!(rt; values.get(Datum::BytesInRate, 0), Some(GREATEST_32));
+    Ok(())
+}
+
+/// 200 bytes at 30 s, over a minute.
+#[test]
+fn worked_bytes(rt: HostRuntime) -> Result<(), Fail> {
+    let mut set = StoredSet::new(rt.alloc());
+    set.add(column_of(Datum::BytesOutRate, 60_000))?;
+    let mut values = Values::zero(rt.alloc(), &set)?;
+    assert_eq!(rt; values.act(30_000, Act::BytesOut(200)), None);
+    for (now, rate) in [(30_000, 200), (90_000, 100), (150_000, 0)] {
+        assert_eq!(rt;
+            values.get(Datum::BytesOutRate, now),
+            Some(rate),
+            "at {now}"
+        );
+    }
+    Ok(())
+}
