@@ -1,0 +1,22 @@
+-- What serving the lines of a text writes.
+use Rattle.std.specs.Prelude.{◌≡◌, ℕ, Option, List, ◌∷◌, ◌++◌, length}
+use Rattle.line_text.specs.Parts.{parts, is_line_end}
+use Rattle.line_text.specs.Line.{held}
+use Rattle.line_text.specs.Chain.{Chain}
+
+-- a line is answered as it is held: none, where it is too long
+abbrev pub Serves : {S : Type 0} → (S → Option (List ℕ) → List ℕ → S → Type 0) → S → List ℕ → List ℕ → S → Type 0
+Serves says old line text new = says old (held line) text new
+
+-- from `old`, the lines of a text may write this output and leave `new`
+abbrev pub ServesAll : {S : Type 0} → (S → Option (List ℕ) → List ℕ → S → Type 0) → S → List ℕ → List ℕ → S → Type 0
+ServesAll says old whole output new = Chain (Serves says) old (parts is_line_end whole) output new
+
+-- so many of the text's lines were served, with this output; the next one is held, and these stand behind it
+pub record Progress {S : Type 0} (says : S → Option (List ℕ) → List ℕ → S → Type 0) (old : S) (whole : List ℕ) (later : List (List ℕ)) (line : Option (List ℕ)) (count : ℕ) (output : List ℕ) (now : S) : Type 0 where
+  pub done : List (List ℕ)
+  pub next : List ℕ
+  pub lines : parts is_line_end whole ≡ done ++ next ∷ later
+  pub counted : length done ≡ count
+  pub held_is : line ≡ held next
+  pub served : Chain (Serves says) old done output now
