@@ -1,6 +1,6 @@
 -- Work that is done one item after another.
 use Rattle.std.proofs.Common.{◌≡◌, ℕ, List, [], ◌∷◌, ◌++◌, length, length-append, ◌+◌, refl, sym, ap, ◌∙◌, append_assoc, append-nil, subst}
-use Rattle.line_text.specs.Chain.{Chain, StopsIn}
+use Rattle.line_text.specs.Chain.{Chain, DoesUpTo, StopsIn}
 
 -- one chain after another
 pub Chain-append : {S X : Type 0} (step : S → X → List ℕ → S → Type 0) (old mid new : S) (xs ys : List X) (text more : List ℕ) → Chain step old xs text mid → Chain step mid ys more new → Chain step old (xs ++ ys) (text ++ more) new
@@ -89,3 +89,36 @@ stops_of_more step old items more count text stop = record {
   could = stop.could;
   text_is = stop.text_is;
 }
+
+-- at the start all items are left
+pub does_none : {S X : Type 0} (step : S → X → List ℕ → S → Type 0) (old : S) (items left : List X) → left ≡ items → DoesUpTo step old items left 0 [] old
+does_none step old items left all = record { done = []; items_are = sym all; counted = refl; chain = (refl, refl) }
+
+-- the next item is done too
+pub does_more : {S X : Type 0} (step : S → X → List ℕ → S → Type 0) (old now new : S) (items left later : List X) (next : X) (count : ℕ) (text more : List ℕ) → left ≡ next ∷ later
+    → DoesUpTo step old items left count text now → step now next more new → DoesUpTo step old items later (count + 1) (text ++ more) new
+does_more step old now new items left later next count text more here done_so_far says = record {
+  done = done_so_far.done ++ next ∷ [];
+  items_are = done_so_far.items_are ∙ ap (λ l. done_so_far.done ++ l) here ∙ sym (append_assoc done_so_far.done (next ∷ []) later);
+  counted = length-append done_so_far.done (next ∷ []) ∙ ap (λ n. n + 1) done_so_far.counted;
+  chain = Chain-more step old now new done_so_far.done next text more done_so_far.chain says;
+}
+
+-- all items are done
+pub does_all : {S X : Type 0} (step : S → X → List ℕ → S → Type 0) (old now : S) (items left : List X) (count : ℕ) (text : List ℕ) → left ≡ [] → DoesUpTo step old items left count text now → Chain step old items text now
+does_all {S} {X} step old now items left count text none done_so_far =
+    let P : List X → Type 0 = λ l. Chain step old l text now in
+    subst P (sym (done_so_far.items_are ∙ ap (λ l. done_so_far.done ++ l) none ∙ append-nil done_so_far.done)) done_so_far.chain
+
+-- and were so many
+pub count_of_all : {S X : Type 0} (step : S → X → List ℕ → S → Type 0) (old now : S) (items left : List X) (count : ℕ) (text : List ℕ) → left ≡ [] → DoesUpTo step old items left count text now → length items ≡ count
+count_of_all {S} {X} step old now items left count text none done_so_far =
+    ap length (done_so_far.items_are ∙ ap (λ l. done_so_far.done ++ l) none ∙ append-nil done_so_far.done) ∙ done_so_far.counted
+
+-- the next item's text stops within
+pub does_stop : {S X : Type 0} (step : S → X → List ℕ → S → Type 0) (old now new : S) (items left later : List X) (next : X) (count : ℕ) (text front unwritten : List ℕ) → left ≡ next ∷ later
+    → DoesUpTo step old items left count text now → step now next (front ++ unwritten) new → StopsIn step old items count (text ++ front)
+does_stop step old now new items left later next count text front unwritten here done_so_far could =
+    let P : ℕ → Type 0 = λ n. StopsIn step old items n (text ++ front) in
+    subst P done_so_far.counted
+    (stops_in step old now new items done_so_far.done later next text front unwritten (done_so_far.items_are ∙ ap (λ l. done_so_far.done ++ l) here) done_so_far.chain could)

@@ -1,4 +1,5 @@
 pub mod PartLemmas
+pub mod WordLemmas
 pub mod LineLemmas
 pub mod NumberLemmas
 pub mod ChainLemmas

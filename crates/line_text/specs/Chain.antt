@@ -6,6 +6,13 @@ abbrev pub Chain : {S X : Type 0} → (S → X → List ℕ → S → Type 0) �
 Chain step old [] text new = (text ≡ []) × (new ≡ old)
 Chain {S} step old (x ∷ xs) text new = (first : List ℕ) × (mid : S) × (rest : List ℕ) × step old x first mid × Chain step mid xs rest new × (text ≡ first ++ rest)
 
+-- so many of the items are done, with this text, and these are left
+pub record DoesUpTo {S X : Type 0} (step : S → X → List ℕ → S → Type 0) (old : S) (items left : List X) (count : ℕ) (text : List ℕ) (now : S) : Type 0 where
+  pub done : List X
+  pub items_are : items ≡ done ++ left
+  pub counted : length done ≡ count
+  pub chain : Chain step old done text now
+
 -- so many of the items are done, and the text is theirs and a front of what the next one could have written
 pub record StopsIn {S X : Type 0} (step : S → X → List ℕ → S → Type 0) (old : S) (items : List X) (count : ℕ) (text : List ℕ) : Type 0 where
   pub done : List X

@@ -1,11 +1,12 @@
 //! Lines, words and decimal numbers of bytes, for every reader of text; and work that is done one item at a time.
 //!
 //! Contracts cite the definitions in `specs`: `Parts` (the parts of bytes round those that part them), `Words`,
-//! `Line` (a line that is not too long), `Number` and `Chain` (texts joined, one item after another).
+//! `Line` (a line that is not too long), `Number`, and `Chain` (items done one after another, their texts joined;
+//! how far such work is done; where it stops within an item).
 //!
-//! A crate above cites the lemmas on them by their files in `proofs`, as
-//! `use Rattle.line_text.proofs.PartLemmas.{parts_join}`: `PartLemmas`, `LineLemmas`, `NumberLemmas` and
-//! `ChainLemmas`.
+//! A crate above cites the lemmas on them by their files in `proofs`: `PartLemmas` (parts of a text that grows),
+//! `WordLemmas`, `LineLemmas`, `NumberLemmas` and `ChainLemmas`, as in
+//! `use Rattle.line_text.proofs.PartLemmas.{parts_join}`.
 #![tactic(auto)]
 
 pub mod laws;

@@ -19,7 +19,7 @@ pub enum Blanks {
 
 impl Blanks {
     /// Whether the byte parts words.
-    pub fn contain(self, byte: u8) -> bool
+    fn contains(self, byte: u8) -> bool
         ensures { result ≡ is_blank self byte }
     {
         match self {
@@ -83,7 +83,7 @@ fn after_blanks(bytes: &[u8], blanks: Blanks) -> &[u8]
     ensures start { 0 < length result.now → is_blank blanks (slice_index result.now 0) ≡ false }
 {
     for (place, byte) in bytes.iter().enumerate() {
-        if !blanks.contain(*byte) {
+        if !blanks.contains(*byte) {
             return &bytes[place..];
         }
     }
@@ -98,7 +98,7 @@ fn word_end(bytes: &[u8], blanks: Blanks) -> usize
     ensures others { words (is_blank blanks) (drop result bytes.now) ≡ filter is_some_text (other_parts (is_blank blanks) bytes.now) }
 {
     for (place, byte) in bytes.iter().enumerate() {
-        if blanks.contain(*byte) {
+        if blanks.contains(*byte) {
             return place;
         }
     }
