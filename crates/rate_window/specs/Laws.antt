@@ -24,3 +24,8 @@ TalliesGrow = (counts : List Count) (period now amount : ℕ) → 0 < period →
 -- the tally of a list tells the rate of that list
 abbrev pub TalliesTell : Type 0
 TalliesTell = (counts : List Count) (period now : ℕ) → 0 < period → AreUpTo counts now → rate_of (tally counts period) now ≡ rate counts period now
+
+-- counts up to a moment stay so with one more at it, and are up to every later moment
+pub record CountsGoOn : Type 0 where
+  pub counted : (counts : List Count) (now amount : ℕ) → AreUpTo counts now → AreUpTo (counts ++ record { moment = now; amount = amount } ∷ []) now
+  pub waited : (counts : List Count) (now later : ℕ) → now ≤ later → AreUpTo counts now → AreUpTo counts later

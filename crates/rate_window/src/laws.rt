@@ -1,5 +1,5 @@
 //! What follows from the definition of a rate.
-ghost use Rattle.rate_window.specs.Laws.{RatesStop, RatesAreCounted, RatesFade, TalliesGrow, TalliesTell};
+ghost use Rattle.rate_window.specs.Laws.{RatesStop, RatesAreCounted, RatesFade, TalliesGrow, TalliesTell, CountsGoOn};
 
 /// A rate is never above 2^32 - 1.
 pub fn rates_stop()
@@ -24,4 +24,9 @@ pub fn tallies_grow()
 /// The tally of a list of counts tells the rate of that list.
 pub fn tallies_tell()
     ensures { TalliesTell }
+{}
+
+/// Counts up to a moment stay in order with one more at it, and while time passes.
+pub fn counts_go_on()
+    ensures { CountsGoOn }
 {}

@@ -1,10 +1,10 @@
 -- What follows from the definitions of the stored data.
-use Rattle.std.specs.Prelude.{ℕ, ◌≡◌, ◌≢◌, ◌≤◌, ◌<◌, ◌^◌, ◌==◌, ◌&&◌, List, Some, None, map, not, if◌then◌else◌}
+use Rattle.std.specs.Prelude.{ℕ, ◌≡◌, ◌≢◌, ◌≤◌, ◌<◌, ◌^◌, ◌==◌, ◌&&◌, ◌++◌, List, Some, None, map, not, if◌then◌else◌}
 use Rattle.std.specs.List.{AllByRecursion}
-use Rattle.rate_window.specs.Rate.{most}
+use Rattle.rate_window.specs.Rate.{Count, AreUpTo, tally, most}
 use Rattle.stored_data.specs.Data.{place, name, greatest}
 use Rattle.stored_data.specs.Stored.{is_column}
-use Rattle.stored_data.specs.Acts.{acted, changed, shown, content_of, value_at, with_value, zero_of}
+use Rattle.stored_data.specs.Acts.{acted, change, changed, counts_of, shown, content_of, value_at, with_value, zero_of}
 use Rattle.stored_data.specs.declared.stored_set.Column.{Column}
 use Rattle.stored_data.specs.declared.datum.Datum.{Datum}
 use Rattle.stored_data.specs.declared.datum.Datum.TheVariants.{ConnCur}
@@ -61,3 +61,8 @@ pub record KeepsData : Type 0 where
 abbrev pub NewShowsZero : Type 0
 NewShowsZero = (columns : List Column) (datum : Datum) (now : ℕ) →
     value_at (zero_of columns) datum now ≡ (if is_column columns datum && not (place datum == place ConnCur) then Some 0 else None)
+
+-- a rate's tally stays that of its counts, with what an act counts in it as the last
+abbrev pub RatesTally : Type 0
+RatesTally = (counts : List Count) (period now : ℕ) (datum : Datum) (act : Act) → 0 < period → AreUpTo counts now →
+    changed now datum (change act datum) (Rate (tally counts period)) ≡ Rate (tally (counts ++ counts_of now (change act datum)) period)

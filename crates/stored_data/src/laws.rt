@@ -1,5 +1,5 @@
 //! What follows from the definitions of the stored data.
-ghost use Rattle.stored_data.specs.Laws.{NamesDiffer, StaysInRange, CountsNeverLower, PutIsRead, KeepsData, NewShowsZero};
+ghost use Rattle.stored_data.specs.Laws.{NamesDiffer, StaysInRange, CountsNeverLower, PutIsRead, KeepsData, NewShowsZero, RatesTally};
 
 /// No two data have one name.
 pub fn names_differ()
@@ -31,4 +31,9 @@ pub fn keeps_data()
 /// for any other.
 pub fn new_shows_zero()
     ensures { NewShowsZero }
+{}
+
+/// A rate stands for its counts after each act, with what the act counts in it as the last.
+pub fn rates_tally()
+    ensures { RatesTally }
 {}

@@ -94,23 +94,13 @@ fn data_are_in_their_table(rt: HostRuntime) {
     let mut place: u8 = 0;
     for (datum, text, greatest, can_be_set, rate) in rows {
         place = place.saturating_add(1);
-        assert_eq!(rt; datum.place(), place, "{text}");
-        assert_eq!(rt; name(datum), text);
-        assert_eq!(rt; read_datum(text.as_bytes()), Some(datum), "{text}");
-        assert_eq!(rt; datum.greatest(), greatest, "{text}");
-        assert_eq!(rt; settable(datum), can_be_set, "{text}");
-        assert_eq!(rt; datum.is_rate(), rate, "{text}");
-        assert!(rt; in_range(datum, greatest), "{text}");
-        assert_eq!(rt;
-            in_range(datum, GREATEST_64),
-            greatest == GREATEST_64,
-            "{text}"
-        );
-        assert_eq!(rt;
-            in_range(datum, 4_294_967_296),
-            greatest == GREATEST_64,
-            "{text}"
-        );
+        let wide = greatest == GREATEST_64;
+        let named = (datum.place() == place) & (name(datum) == text);
+        let kept = (datum.greatest() == greatest) & (datum.is_rate() == rate);
+        let taken = (settable(datum) == can_be_set) & in_range(datum, greatest);
+        let cut = (in_range(datum, 4_294_967_296) == wide) & (in_range(datum, GREATEST_64) == wide);
+        assert!(rt; named & kept & taken & cut, "{text}");
+        assert_eq!(rt; read_datum(text.as_bytes()), Some(datum));
     }
     for text in [
         "",
@@ -122,7 +112,7 @@ fn data_are_in_their_table(rt: HostRuntime) {
         "gpc0_rate(10s)",
         "server_id",
     ] {
-        assert_eq!(rt; read_datum(text.as_bytes()), None, "{text}");
+        assert_eq!(rt; read_datum(text.as_bytes()), None);
     }
 }
 
@@ -262,6 +252,25 @@ fn acts_on_all_data(rt: HostRuntime) -> Result<(), Fail> {
     Ok(())
 }
 
+/// What a table of this rate alone answers and shows: an act, which counts though its counter isn't
+/// stored; a put into either, each clear and the tag, which count in no rate; and then the rate at
+/// once, after half of the next period, and after the whole of it.
+fn rate_alone(values: &mut Values, rate: Datum, counter: Datum, act: Act) -> [Option<u64>; 8] {
+    let counted = values.act(1000, act);
+    values.put(rate, 77);
+    values.put(counter, 77);
+    [
+        counted,
+        values.act(1000, Act::ClrGpc0),
+        values.act(1000, Act::ClrGpc1),
+        values.act(1000, Act::SetGpt0(3)),
+        values.get(counter, 1000),
+        values.get(rate, 1000),
+        values.get(rate, 15_000),
+        values.get(rate, 20_000),
+    ]
+}
+
 #[test]
 fn rates_alone(rt: HostRuntime) -> Result<(), Fail> {
     let rates = [
@@ -278,21 +287,32 @@ fn rates_alone(rt: HostRuntime) -> Result<(), Fail> {
         ),
     ];
     for (rate, counter, act, amount) in rates {
-        // A rate is counted where its counter isn't stored; a clear and a put count in none.
         let set = columns_of(rt.alloc(), [rate].as_slice())?;
         let mut values = Values::zero(rt.alloc(), &set)?;
-        assert_eq!(rt; values.act(1000, act), None, "{act:?}");
-        values.put(rate, 77);
-        values.put(counter, 77);
-        assert_eq!(rt; values.act(1000, Act::ClrGpc0), None);
-        assert_eq!(rt; values.act(1000, Act::ClrGpc1), None);
-        assert_eq!(rt; values.act(1000, Act::SetGpt0(3)), None);
-        assert_eq!(rt; values.get(rate, 1000), Some(amount), "{act:?}");
-        assert_eq!(rt; values.get(counter, 1000), None, "{act:?}");
-        assert_eq!(rt; values.get(rate, 15_000), Some(amount / 2), "{act:?}");
-        assert_eq!(rt; values.get(rate, 20_000), Some(0), "{act:?}");
+        let told = rate_alone(&mut values, rate, counter, act);
+        let rest = [Some(amount), Some(amount / 2), Some(0)];
+        assert_eq!(rt;
+            told,
+            [None, None, None, None, None, rest[0], rest[1], rest[2]]
+        );
     }
     Ok(())
+}
+
+/// What an act answers once its counter is at its greatest, and what counter and rate then show.
+fn counted_at(
+    values: &mut Values,
+    counter: Datum,
+    greatest: u64,
+    act: Act,
+    rate: Datum,
+) -> [Option<u64>; 3] {
+    values.put(counter, greatest);
+    [
+        values.act(2000, act),
+        values.get(counter, 2000),
+        values.get(rate, 2000),
+    ]
 }
 
 #[test]
@@ -332,44 +352,55 @@ fn counters_stop(rt: HostRuntime) -> Result<(), Fail> {
     ];
     for (counter, greatest, act, rate, amount) in counters {
         let mut values = sample(&set, rt.alloc())?;
-        values.put(counter, greatest);
-        assert_eq!(rt; values.act(2000, act), Some(greatest), "{act:?}");
-        assert_eq!(rt; values.get(counter, 2000), Some(greatest), "{act:?}");
-        assert_eq!(rt; values.get(rate, 2000), Some(amount), "{act:?}");
+        let told = counted_at(&mut values, counter, greatest, act, rate);
+        assert_eq!(rt; told, [Some(greatest), Some(greatest), Some(amount)]);
     }
-
-    // The tag takes its greatest value, and no act counts in it.
-    let mut values = sample(&set, rt.alloc())?;
-    assert_eq!(rt;
-        values.act(0, Act::SetGpt0(4_294_967_295)),
-        Some(GREATEST_32)
-    );
-    assert_eq!(rt; values.act(0, Act::IncGpc0), Some(6));
-    assert_eq!(rt; values.get(Datum::Gpt0, 0), Some(GREATEST_32));
-
-    // A rate stops at its greatest value, the counter beside it goes on.
-    assert_eq!(rt;
-        values.act(0, Act::BytesIn(GREATEST_32)),
-        Some(4_294_967_312)
-    );
-    assert_eq!(rt; values.act(0, Act::BytesIn(1)), Some(4_294_967_313));
-    assert_eq!(rt; values.get(Datum::BytesInRate, 0), Some(GREATEST_32));
     Ok(())
 }
 
-/// 200 bytes at 30 s, over a minute.
+/// The tag takes its greatest value, and no act counts in it. A rate stops at its greatest value, and
+/// the counter beside it goes on.
+fn past_32_bits(values: &mut Values) -> [Option<u64>; 6] {
+    [
+        values.act(0, Act::SetGpt0(4_294_967_295)),
+        values.act(0, Act::IncGpc0),
+        values.get(Datum::Gpt0, 0),
+        values.act(0, Act::BytesIn(GREATEST_32)),
+        values.act(0, Act::BytesIn(1)),
+        values.get(Datum::BytesInRate, 0),
+    ]
+}
+
+/// 200 bytes at 30 s, over a minute, shown at three moments.
+fn bytes_shown(values: &mut Values) -> [Option<u64>; 4] {
+    [
+        values.act(30_000, Act::BytesOut(200)),
+        values.get(Datum::BytesOutRate, 30_000),
+        values.get(Datum::BytesOutRate, 90_000),
+        values.get(Datum::BytesOutRate, 150_000),
+    ]
+}
+
 #[test]
-fn worked_bytes(rt: HostRuntime) -> Result<(), Fail> {
+fn worked_values(rt: HostRuntime) -> Result<(), Fail> {
+    let all = columns_of(rt.alloc(), DATA.as_slice())?;
+    let mut values = sample(&all, rt.alloc())?;
+    let past = [
+        Some(GREATEST_32),
+        Some(6),
+        Some(GREATEST_32),
+        Some(4_294_967_312),
+        Some(4_294_967_313),
+        Some(GREATEST_32),
+    ];
+    assert_eq!(rt; past_32_bits(&mut values), past);
+
     let mut set = StoredSet::new(rt.alloc());
     set.add(column_of(Datum::BytesOutRate, 60_000))?;
-    let mut values = Values::zero(rt.alloc(), &set)?;
-    assert_eq!(rt; values.act(30_000, Act::BytesOut(200)), None);
-    for (now, rate) in [(30_000, 200), (90_000, 100), (150_000, 0)] {
-        assert_eq!(rt;
-            values.get(Datum::BytesOutRate, now),
-            Some(rate),
-            "at {now}"
-        );
-    }
+    let mut bytes = Values::zero(rt.alloc(), &set)?;
+    assert_eq!(rt;
+        bytes_shown(&mut bytes),
+        [None, Some(200), Some(100), Some(0)]
+    );
     Ok(())
 }
