@@ -1,11 +1,11 @@
 -- Where the service of a text's lines stands.
-use Rattle.std.proofs.Common.{◌≡◌, ℕ, ◌+◌, Option, Some, List, [], ◌∷◌, ◌++◌, length-append, refl, sym, ap, ◌∙◌, subst, append_assoc, append-nil}
+use Rattle.std.proofs.Common.{◌≡◌, ℕ, ◌+◌, Option, Some, List, [], ◌∷◌, ◌++◌, length-append, refl, sym, ap, ◌∙◌, subst, append_assoc, append-nil, inl, inr}
 use Rattle.line_text.specs.Parts.{parts, is_line_end}
 use Rattle.line_text.specs.Line.{held}
-use Rattle.line_text.specs.Chain.{Chain, StopsIn}
+use Rattle.line_text.specs.Chain.{Chain}
 use Rattle.line_text.proofs.PartLemmas.{parts_join}
-use Rattle.line_text.proofs.ChainLemmas.{Chain-more, stops_in}
-use Rattle.line_service.specs.Service.{Serves, ServesAll, Progress}
+use Rattle.line_text.proofs.ChainLemmas.{Chain-more}
+use Rattle.line_service.specs.Service.{Serves, ServesAll, Progress, StopsAfter}
 
 module _ {S : Type 0} (says : S → Option (List ℕ) → List ℕ → S → Type 0) where
   -- at the start
@@ -38,23 +38,39 @@ module _ {S : Type 0} (says : S → Option (List ℕ) → List ℕ → S → Typ
     served = Chain-more (Serves says) old now new p.done p.next output text p.served (subst (λ l. says now l text new) p.held_is here);
   }
 
-  -- the text of the line that is held stops within
-  pub stops_within : (old now new : S) (whole : List ℕ) (later : List (List ℕ)) (line : Option (List ℕ)) (count : ℕ) (output text front rest : List ℕ)
-      → Progress says old whole later line count output now → says now line text new → text ≡ front ++ rest
-      → StopsIn (Serves says) old (parts is_line_end whole) count (output ++ front)
-  stops_within old now new whole later line count output text front rest p here is =
-      subst (λ n. StopsIn (Serves says) old (parts is_line_end whole) n (output ++ front)) p.counted
-        (stops_in (Serves says) old now new (parts is_line_end whole) p.done later p.next output front rest p.lines p.served
-          (subst (λ t. says now (held p.next) t new) is (subst (λ l. says now l text new) p.held_is here)))
+  -- the answer to the line that is held stops
+  pub stops_within : (stops : S → Option (List ℕ) → List ℕ → Type 0) (old now : S) (whole : List ℕ) (later : List (List ℕ)) (line : Option (List ℕ)) (count : ℕ) (output front : List ℕ)
+      → Progress says old whole later line count output now → stops now line front → StopsAfter says stops old whole count (output ++ front)
+  stops_within stops old now whole later line count output front p here = record {
+    done = p.done;
+    next = p.next;
+    later = later;
+    lines = p.lines;
+    counted = p.counted;
+    done_output = output;
+    between = now;
+    served = p.served;
+    front = front;
+    stopped = inr (subst (λ l. stops now l front) p.held_is here);
+    output_is = refl;
+  }
 
   -- nothing of it was written
-  pub stops_before : (old now : S) (whole : List ℕ) (later : List (List ℕ)) (line : Option (List ℕ)) (count : ℕ) (output : List ℕ)
-      → ((s : S) (l : Option (List ℕ)) → (text : List ℕ) × (new : S) × says s l text new)
-      → Progress says old whole later line count output now → StopsIn (Serves says) old (parts is_line_end whole) count output
-  stops_before old now whole later line count output answers p =
-      let some = answers now line in
-      subst (λ t. StopsIn (Serves says) old (parts is_line_end whole) count t) (append-nil output)
-        (stops_within old now some.1 whole later line count output some.0 [] some.0 p some.2 refl)
+  pub stops_before : (stops : S → Option (List ℕ) → List ℕ → Type 0) (old now : S) (whole : List ℕ) (later : List (List ℕ)) (line : Option (List ℕ)) (count : ℕ) (output : List ℕ)
+      → Progress says old whole later line count output now → StopsAfter says stops old whole count output
+  stops_before stops old now whole later line count output p = record {
+    done = p.done;
+    next = p.next;
+    later = later;
+    lines = p.lines;
+    counted = p.counted;
+    done_output = output;
+    between = now;
+    served = p.served;
+    front = [];
+    stopped = inl refl;
+    output_is = sym (append-nil output);
+  }
 
   -- the last line was served too
   pub all_served : (old now new : S) (whole : List ℕ) (line : Option (List ℕ)) (count : ℕ) (output text : List ℕ)
@@ -79,6 +95,7 @@ module _ {S : Type 0} (says : S → Option (List ℕ) → List ℕ → S → Typ
       → Progress says old whole later line count output now → Progress says old whole [] line count output now
   progress_last old now whole later line count output none p = subst (λ ls. Progress says old whole ls line count output now) none p
 
-  pub stops_along : (old : S) (items : List (List ℕ)) (count count' : ℕ) (output output' : List ℕ) → count ≡ count' → output ≡ output' → StopsIn (Serves says) old items count output → StopsIn (Serves says) old items count' output'
-  stops_along old items count count' output output' c o stop =
-      subst (λ t. StopsIn (Serves says) old items count' t) o (subst (λ n. StopsIn (Serves says) old items n output) c stop)
+  pub stops_along : (stops : S → Option (List ℕ) → List ℕ → Type 0) (old : S) (whole : List ℕ) (count count' : ℕ) (output output' : List ℕ) → count ≡ count' → output ≡ output'
+      → StopsAfter says stops old whole count output → StopsAfter says stops old whole count' output'
+  stops_along stops old whole count count' output output' c o stop =
+      subst (λ t. StopsAfter says stops old whole count' t) o (subst (λ n. StopsAfter says stops old whole n output) c stop)

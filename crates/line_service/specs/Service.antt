@@ -1,5 +1,5 @@
 -- What serving the lines of a text writes.
-use Rattle.std.specs.Prelude.{◌≡◌, ℕ, Option, List, ◌∷◌, ◌++◌, length}
+use Rattle.std.specs.Prelude.{◌≡◌, ◌⊎◌, ℕ, Option, List, [], ◌∷◌, ◌++◌, length}
 use Rattle.line_text.specs.Parts.{parts, is_line_end}
 use Rattle.line_text.specs.Line.{held}
 use Rattle.line_text.specs.Chain.{Chain}
@@ -20,3 +20,17 @@ pub record Progress {S : Type 0} (says : S → Option (List ℕ) → List ℕ �
   pub counted : length done ≡ count
   pub held_is : line ≡ held next
   pub served : Chain (Serves says) old done output now
+
+-- so many of the text's lines were served; the output is theirs, and nothing of the next line's answer or that where it stopped
+pub record StopsAfter {S : Type 0} (says : S → Option (List ℕ) → List ℕ → S → Type 0) (stops : S → Option (List ℕ) → List ℕ → Type 0) (old : S) (whole : List ℕ) (count : ℕ) (output : List ℕ) : Type 0 where
+  pub done : List (List ℕ)
+  pub next : List ℕ
+  pub later : List (List ℕ)
+  pub lines : parts is_line_end whole ≡ done ++ next ∷ later
+  pub counted : length done ≡ count
+  pub done_output : List ℕ
+  pub between : S
+  pub served : Chain (Serves says) old done done_output between
+  pub front : List ℕ
+  pub stopped : (front ≡ []) ⊎ stops between (held next) front
+  pub output_is : output ≡ done_output ++ front

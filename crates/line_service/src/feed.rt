@@ -2,9 +2,7 @@
 
 ghost use Rattle.std.specs.Prelude.{◌≡◌, ◌≤◌, ◌+◌, ◌++◌, ℕ, List, [], length, MatchResult, OnOk, OnErr};
 ghost use Rattle.byte_ports.specs.Bytes.{Grows, IsOneMore};
-ghost use Rattle.line_service.specs.Service.{Serves, Progress};
-ghost use Rattle.line_text.specs.Chain.{StopsIn};
-ghost use Rattle.line_text.specs.Parts.{parts, is_line_end};
+ghost use Rattle.line_service.specs.Service.{Progress, StopsAfter};
 
 use crate::LineServer;
 use byte_ports::Sink;
@@ -17,7 +15,7 @@ pub fn feed<L: LineServer, W: Sink>(server: &mut L, line: &mut LineSoFar, piece:
     ensures served { (old : L.State) (whole output : List ℕ) (count : ℕ) → Progress L.says old whole [] line.old count output (L.state server.old) →
         (more : List ℕ) × Grows W.tells (W.written writer.old) (W.written writer.new) more
         × MatchResult result (λ lines. Progress L.says old (whole ++ piece.now) [] line.new (count + lines) (output ++ more) (L.state server.new))
-        (λ lines. StopsIn (Serves L.says) old (parts is_line_end (whole ++ piece.now)) (count + lines) (output ++ more)) }
+        (λ lines. StopsAfter L.says L.stops old (whole ++ piece.now) (count + lines) (output ++ more)) }
     ensures bound { MatchResult result (λ lines. lines ≤ length piece.now) (λ lines. lines ≤ length piece.now) }
     ensures ok { OnOk result (W.failures writer.new ≡ W.failures writer.old) }
     ensures err { OnErr result (IsOneMore (W.failures writer.old) (W.failures writer.new)) }

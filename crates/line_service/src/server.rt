@@ -5,7 +5,7 @@ use byte_ports::{Failed, Sink};
 /// What serves lines, one after another.
 pub trait LineServer {
     ghost use Rattle.std.specs.Prelude.{◌≡◌, ℕ, List, Option, OnOk, OnErr, option_map};
-    ghost use Rattle.byte_ports.specs.Bytes.{Grows, GrowsInPart, IsOneMore};
+    ghost use Rattle.byte_ports.specs.Bytes.{Grows, IsOneMore};
 
     // What serving a line changes.
     ghost State: { Type 0 };
@@ -15,16 +15,15 @@ pub trait LineServer {
     // From a state, a line (none, where it is too long) may write this text and leave this state.
     ghost says: { State → Option (List ℕ) → List ℕ → State → Type 0 };
 
+    // From a state, the answer to a line may stop behind this text.
+    ghost stops: { State → Option (List ℕ) → List ℕ → Type 0 };
+
     /// Serves a line: none, where it is too long.
     fn serve<W: Sink>(&mut self, line: Option<&[u8]>, writer: &mut W) -> Result<(), Failed>
         ensures answer { OnOk result ((text : List ℕ) × says (state self.old) (option_map (λ bytes. bytes.now) line.entry) text (state self.new)
             × Grows W.tells (W.written writer.old) (W.written writer.new) text) }
-        // What was written is a front of what the line could have been answered.
-        ensures part { OnErr result ((text : List ℕ) × (new : State) × says (state self.old) (option_map (λ bytes. bytes.now) line.entry) text new
-            × GrowsInPart W.tells (W.written writer.old) (W.written writer.new) text) }
+        ensures part { OnErr result ((text : List ℕ) × stops (state self.old) (option_map (λ bytes. bytes.now) line.entry) text
+            × Grows W.tells (W.written writer.old) (W.written writer.new) text) }
         ensures ok { OnOk result (W.failures writer.new ≡ W.failures writer.old) }
         ensures err { OnErr result (IsOneMore (W.failures writer.old) (W.failures writer.new)) };
-
-    // Something can be said to every line.
-    ghost answers: { (old : State) (line : Option (List ℕ)) → (text : List ℕ) × (new : State) × says old line text new };
 }

@@ -2,9 +2,7 @@
 
 ghost use Rattle.std.specs.Prelude.{◌≡◌, ◌≤◌, ◌⊎◌, ℕ, List, length, IfErr, OnOk};
 ghost use Rattle.byte_ports.specs.Bytes.{Grows, IsAtEnd, IsOneMore, Takes};
-ghost use Rattle.line_service.specs.Service.{Serves, ServesAll};
-ghost use Rattle.line_text.specs.Chain.{StopsIn};
-ghost use Rattle.line_text.specs.Parts.{parts, is_line_end};
+ghost use Rattle.line_service.specs.Service.{ServesAll, StopsAfter};
 
 use crate::LineServer;
 use crate::feed::feed;
@@ -57,7 +55,7 @@ pub fn serve_lines<L: LineServer, R: Source, W: Sink>(server: &mut L, reader: &m
     ensures end { OnOk result (IsAtEnd R.tells (R.left reader.new)) }
     ensures fault { IfErr result (λ fault. (whole output : List ℕ) × Takes R.tells (R.left reader.old) (R.left reader.new) whole
         × Grows W.tells (W.written writer.old) (W.written writer.new) output
-        × StopsIn (Serves L.says) (L.state server.old) (parts is_line_end whole) fault.done output) }
+        × StopsAfter L.says L.stops (L.state server.old) whole fault.done output) }
     // A fault comes only where a device failed, or there were too many reads.
     ensures read { IfErr result (λ fault. fault.kind ≡ LineFaultKind.Read → (IsOneMore (R.failures reader.old) (R.failures reader.new)
         ⊎ ((whole : List ℕ) × Takes R.tells (R.left reader.old) (R.left reader.new) whole × (MAX_TURNS ≤ length whole)))) }

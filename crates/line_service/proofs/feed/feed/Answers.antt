@@ -40,12 +40,11 @@ returns-in-Err-clause-served g c = λ old whole output count p.
     let L = g.L.LineServer in
     let at = c.loop-part.invariant.going old whole output count p in
     let here = c.in-Err.ensures.part in
-    let said = subst (λ (l : Option (List ℕ)). L.says (L.state c.loop-part.server) l here.0 here.1) c.line.ensures here.2 in
-    let part = here.3 in (
-      at.0 ++ part.0,
-      grown_twice _ _ _ _ _ _ at.1 part.2,
-      stops_along L.says old _ _ _ _ _ refl (append_assoc output at.0 part.0)
-        (stops_within L.says old _ _ _ _ _ _ _ _ _ _ at.2 said part.1.1),
+    let stopped = subst (λ (l : Option (List ℕ)). L.stops (L.state c.loop-part.server) l here.0) c.line.ensures here.1 in (
+      at.0 ++ here.0,
+      grown_twice _ _ _ _ _ _ at.1 here.2,
+      stops_along L.says L.stops old _ _ _ _ _ refl (append_assoc output at.0 here.0)
+        (stops_within L.says L.stops old _ _ _ _ _ _ _ at.2 stopped),
     )
 
 pub returns-clause-served : goal.returns-clause-served
