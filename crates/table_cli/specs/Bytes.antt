@@ -1,7 +1,7 @@
 -- The bytes of an answer.
 use Rattle.std.specs.Prelude.{ℕ, List, [], codes}
-use Rattle.table_cli.specs.declared.answer.Answer.{Answer}
-use Rattle.table_cli.specs.declared.answer.Answer.TheVariants as answers
+use Rattle.table_cli.specs.declared.answer_text.Answer.{Answer}
+use Rattle.table_cli.specs.declared.answer_text.Answer.TheVariants as answers
 use Rattle.table_cli.specs.Texts.{message_text}
 
 abbrev pub bytes_of : Answer → List ℕ

@@ -2,7 +2,7 @@
 //! line asks of which table, and what it is answered.
 #![tactic(auto)]
 
-mod answer;
+mod answer_text;
 mod form;
 mod message;
 mod named;
@@ -11,3 +11,4 @@ mod serve;
 
 pub use message::Message;
 pub use named::Named;
+pub use serve::answer;

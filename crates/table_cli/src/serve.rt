@@ -14,7 +14,7 @@ ghost use Rattle.table_cli.specs.Request.{Asks};
 ghost use Rattle.table_cli.specs.Bytes.{bytes_of};
 ghost use Rattle.table_cli.specs.Seen.{seen};
 
-use crate::answer::Answer;
+use crate::answer_text::Answer;
 use crate::form::{Form, read_form};
 use crate::request::read_event;
 use crate::{Message, Named};

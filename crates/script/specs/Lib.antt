@@ -1,0 +1,4 @@
+pub mod Start
+pub mod BuiltIn
+pub mod Script
+pub mod Seen

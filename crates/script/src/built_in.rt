@@ -1,0 +1,44 @@
+//! What is served without a configuration.
+
+ghost use Rattle.std.specs.Prelude.{◌≡◌, IfOk};
+ghost use Rattle.script.specs.BuiltIn.{built_in as specified};
+ghost use Rattle.script.specs.Start.{AreTableSpecs};
+
+use crate::{NamedSpec, Setup};
+use sequence::{NoMemory, Sequence};
+use std::alloc::Global;
+use stick_key::KeyType;
+use stick_table::Spec;
+use stored_data::{Column, Datum, StoredSet};
+
+/// The greatest number of outstanding references of a table's shard.
+pub const MAX_REFS: u32 = 65_536;
+
+/// The life of a table's shard: what its events and its outstanding references come to at most.
+pub const LIFE: u64 = 1 << 62;
+
+/// The setup of a proxy without a configuration file: one table `t` for 100 IPv4 addresses, which stores gpc0.
+pub fn built_in(alloc: Global) -> Result<Setup, NoMemory>
+    ensures setup { IfOk result (λ setup. setup.tables ≡ specified) }
+    ensures limits { IfOk result (λ setup. AreTableSpecs setup.tables) }
+{
+    let mut columns = StoredSet::new(alloc);
+    columns.add(Column {
+        datum: Datum::Gpc0,
+        period: 0,
+    })?;
+    let spec = Spec {
+        kind: KeyType::Ip,
+        size: 100,
+        expire: None,
+        nopurge: false,
+        columns,
+        max_refs: MAX_REFS,
+        life: LIFE,
+        seed: 0,
+    };
+    let name = Sequence::from_slice(alloc, b"t")?;
+    let mut tables = Sequence::new(alloc);
+    tables.push(NamedSpec { name, spec })?;
+    Ok(Setup { tables })
+}

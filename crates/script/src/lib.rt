@@ -1,0 +1,12 @@
+//! Replaying a timed script: each line is a moment in ms, and what is done at it.
+#![tactic(auto)]
+
+mod built_in;
+mod line;
+mod replay;
+mod server;
+mod setup;
+
+pub use built_in::{LIFE, MAX_REFS, built_in as built_in_setup};
+pub use replay::{FaultKind, ReplayFault, replay_script};
+pub use setup::{NamedSpec, Setup};

@@ -1,0 +1,75 @@
+//! Replaying a script.
+
+ghost use Rattle.std.specs.Prelude.{◌≡◌, ◌≤◌, ◌⊎◌, ℕ, List, [], length, IfErr, OnOk};
+ghost use Rattle.byte_ports.specs.Bytes.{Grows, IsAtEnd, IsOneMore, Takes};
+ghost use Rattle.line_service.specs.Service.{ServesAll, StopsAfter};
+ghost use Rattle.line_service.specs.declared.service.TheConstants.{MAX_TURNS};
+ghost use Rattle.script.specs.Script.{Says, Stops};
+ghost use Rattle.script.specs.Start.{AreTableSpecs, start};
+ghost use Rattle.table_cli.specs.Tables.{NamedState};
+
+use crate::Setup;
+use crate::server::ScriptServer;
+use byte_ports::{Sink, Source};
+use line_service::{LineFaultKind, serve_lines};
+use std::alloc::Global;
+use stick_table::PlainTable;
+
+/// Why a replay stopped before the script's end.
+#[derive(Clone, Copy, Debug, PartialEq, Eq)]
+pub enum FaultKind {
+    /// The reader failed, or never ended.
+    ReadFault,
+    /// The writer failed.
+    WriteFault,
+    /// There was no memory for the tables; nothing was read.
+    Memory,
+}
+
+/// A replay that stopped, and how many lines it had served.
+#[derive(Clone, Copy, Debug, PartialEq, Eq)]
+pub struct ReplayFault {
+    pub kind: FaultKind,
+    pub done: u64,
+}
+
+/// Serves each line of a script from empty tables, until the script ends. Ok comes only at its end, and then exactly
+/// the script's text was written. After a fault that is the text of the lines done, and a front of what the next could
+/// have written. Where there is no memory for the tables, nothing is read or written.
+pub fn replay_script<R: Source, W: Sink>(alloc: Global, setup: &Setup, reader: &mut R, writer: &mut W) -> Result<(), ReplayFault>
+    requires { AreTableSpecs setup.now.tables }
+    ensures whole { OnOk result ((script output : List ℕ) × (new : List NamedState) × Takes R.tells (R.left reader.old) (R.left reader.new) script
+        × Grows W.tells (W.written writer.old) (W.written writer.new) output
+        × ServesAll Says (start setup.now.tables) script output new) }
+    ensures end { OnOk result (IsAtEnd R.tells (R.left reader.new)) }
+    ensures fault { IfErr result (λ fault. (script output : List ℕ) × Takes R.tells (R.left reader.old) (R.left reader.new) script
+        × Grows W.tells (W.written writer.old) (W.written writer.new) output
+        × StopsAfter Says Stops (start setup.now.tables) script fault.done output) }
+    // Each fault comes only where that failed.
+    ensures read { IfErr result (λ fault. fault.kind ≡ FaultKind.ReadFault → (IsOneMore (R.failures reader.old) (R.failures reader.new)
+        ⊎ ((script : List ℕ) × Takes R.tells (R.left reader.old) (R.left reader.new) script × (MAX_TURNS ≤ length script)))) }
+    ensures write { IfErr result (λ fault. fault.kind ≡ FaultKind.WriteFault → IsOneMore (W.failures writer.old) (W.failures writer.new)) }
+    ensures memory { IfErr result (λ fault. fault.kind ≡ FaultKind.Memory → (fault.done ≡ 0) × Takes R.tells (R.left reader.old) (R.left reader.new) []
+        × Grows W.tells (W.written writer.old) (W.written writer.new) []) }
+{
+    let tables = match setup.open_tables::<PlainTable>(alloc) {
+        Ok(tables) => tables,
+        Err(_) => {
+            return Err(ReplayFault {
+                kind: FaultKind::Memory,
+                done: 0,
+            });
+        }
+    };
+    let mut server = ScriptServer { alloc, tables };
+    match serve_lines(&mut server, reader, writer) {
+        Ok(()) => Ok(()),
+        Err(fault) => {
+            let kind = match fault.kind {
+                LineFaultKind::Read => FaultKind::ReadFault,
+                LineFaultKind::Write => FaultKind::WriteFault,
+            };
+            Err(ReplayFault { kind, done: fault.done })
+        }
+    }
+}

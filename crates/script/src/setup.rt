@@ -1,0 +1,40 @@
+//! What is served.
+
+ghost use Rattle.std.specs.Prelude.{◌≡◌, All, IfOk};
+ghost use Rattle.table_model.specs.Limits.{IsTableSpec};
+ghost use Rattle.script.specs.Start.{start, AreTableSpecs};
+ghost use Rattle.table_cli.specs.Tables.{states_of};
+
+use sequence::{NoMemory, Sequence};
+use stick_table::{Spec, Table};
+use std::alloc::Global;
+use table_cli::Named;
+
+/// A table to be made, and its name.
+#[derive(Drop)]
+pub struct NamedSpec {
+    pub name: Sequence<u8>,
+    pub spec: Spec,
+}
+
+/// What is served: its tables, in order of declaration.
+#[derive(Drop)]
+pub struct Setup {
+    pub tables: Sequence<NamedSpec>,
+}
+
+impl Setup {
+    /// The tables, empty.
+    pub(crate) fn open_tables<T: Table>(&self, alloc: Global) -> Result<Vec<Named<T>>, NoMemory>
+        requires { AreTableSpecs self.now.tables }
+        ensures { IfOk result (λ tables. states_of T.state tables.items ≡ start self.now.tables) }
+    {
+        let mut tables = Vec::new(alloc);
+        for named in self.tables.as_slice() {
+            let table = T::open(alloc, named.spec.copy()?)?;
+            let name = named.name.copy()?;
+            tables.push(Named { name, table })?;
+        }
+        Ok(tables)
+    }
+}
