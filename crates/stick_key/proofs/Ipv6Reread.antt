@@ -20,7 +20,7 @@ use Rattle.stick_key.proofs.Printed.{dotted_reads}
 abbrev pub AreGroups : List ℕ → Type 0
 AreGroups = AllByRecursion (λ group. group < 65536)
 
-split : (a b : ℕ) → (a < b) ⊎ (b ≤ a)
+pub split : (a b : ℕ) → (a < b) ⊎ (b ≤ a)
 split a zero = inr (omega arith)
 split zero (suc b) = inl (omega arith)
 split (suc a) (suc b) = elim (split a b) [ inl less ↦ inl (omega (arith, less)) | inr more ↦ inr (omega (arith, more)) ]
@@ -50,12 +50,12 @@ spell_hex dotted_end (group ∷ []) small = inl ((hex_group group small.0).0, ap
 spell_hex dotted_end (group ∷ next ∷ groups) small =
     ((hex_group group small.0).0, (next ∷ groups, ap (λ n. n ∷ next ∷ groups) (hex_group group small.0).1, spell_hex dotted_end (next ∷ groups) small.1))
 
-groups-take : (n : ℕ) (groups : List ℕ) → AreGroups groups → AreGroups (take n groups)
+pub groups-take : (n : ℕ) (groups : List ℕ) → AreGroups groups → AreGroups (take n groups)
 groups-take zero groups small = tt
 groups-take (suc n) [] small = tt
 groups-take (suc n) (group ∷ groups) small = (small.0, groups-take n groups small.1)
 
-groups-drop : (n : ℕ) (groups : List ℕ) → AreGroups groups → AreGroups (drop n groups)
+pub groups-drop : (n : ℕ) (groups : List ℕ) → AreGroups groups → AreGroups (drop n groups)
 groups-drop zero groups small = small
 groups-drop (suc n) [] small = tt
 groups-drop (suc n) (group ∷ groups) small = groups-drop n groups small.1
@@ -73,7 +73,7 @@ run_of_zeros (zero ∷ groups) = rw one-add (ap (λ rest. 0 ∷ rest) (run_of_ze
 run_of_zeros (suc group ∷ groups) = let test : (suc group == 0) ≡ false = other_test (suc group) 0 (omega arith) in rw test refl
 
 -- the greatest of a list is one of its numbers
-fold_max-reached : (xs : List ℕ) (a : ℕ) → (fold max a xs ≡ a) ⊎ ((k : ℕ) × (k < length xs) × (get_or xs k 0 ≡ fold max a xs))
+pub fold_max-reached : (xs : List ℕ) (a : ℕ) → (fold max a xs ≡ a) ⊎ ((k : ℕ) × (k < length xs) × (get_or xs k 0 ≡ fold max a xs))
 fold_max-reached [] a = inl refl
 fold_max-reached (x ∷ xs) a = elim (fold_max-reached xs (max a x)) [
   | inl start ↦ elim (split a x) [
@@ -95,11 +95,18 @@ first_reached z m k inside same =
     (within, test_same (z first) m (rw (place_at first within) at (passes_at_first (λ place. z place == m) places 0 within)))
 
 -- the first of the longest runs
-longest_reached : (groups : List ℕ) → 2 ≤ longest groups → (first_longest groups < 8) × (zeros_from groups (first_longest groups) ≡ longest groups)
+pub longest_reached : (groups : List ℕ) → 2 ≤ longest groups → (first_longest groups < 8) × (zeros_from groups (first_longest groups) ≡ longest groups)
 longest_reached groups long = elim (fold_max-reached (map (zeros_from groups) places) 0) [
   | inl none ↦ absurd (omega (arith, none, long))
   | inr some ↦ first_reached (zeros_from groups) (longest groups) some.0 some.1 (sym (zeros_at groups some.0 some.1) ∙ some.2)
 ]
+
+pub run_cut : (groups : List ℕ) (start count : ℕ) → AreGroups groups → zeros_from groups start ≡ count →
+    groups ≡ take start groups ++ (replicate count 0 ++ drop (start + count) groups)
+run_cut groups start count small run =
+    let zeros : drop start groups ≡ replicate count 0 ++ drop (start + count) groups =
+    run_of_zeros (drop start groups) ∙ cc (run, drop-drop count start groups) in
+    sym (take-append-drop start groups) ∙ ap (λ rest. take start groups ++ rest) zeros
 
 -- eight groups with a run of zeros left out, or with none
 spells_by_run : (groups : List ℕ) (start count : ℕ) → AreGroups groups → (2 ≤ count → zeros_from groups start ≡ count) →
@@ -120,7 +127,7 @@ spells_by_run groups start count small run = elim (split count 2) [
         spell_front = spell_hex false (take start groups) (groups-take start groups small);
         spell_back = spell_hex true (drop (start + count) groups) (groups-drop (start + count) groups small);
         some_zeros = omega (arith, long);
-        all = sym (take-append-drop start groups) ∙ ap (λ rest. take start groups ++ rest) zeros;
+        all = run_cut groups start count small (run long);
       }))
 ]
 
@@ -128,7 +135,7 @@ pub shortened_spells : (groups : List ℕ) → AreGroups groups → Spells (shor
 shortened_spells groups small = spells_by_run groups (first_longest groups) (longest groups) small (λ long. (longest_reached groups long).1)
 
 -- the bytes of an address, two at a time
-pairs_small : (bytes : List ℕ) → AreBytes bytes → AreGroups (pairs bytes)
+pub pairs_small : (bytes : List ℕ) → AreBytes bytes → AreGroups (pairs bytes)
 pairs_small [] small = tt
 pairs_small (high ∷ []) small = (omega (arith, small.0), tt)
 pairs_small (high ∷ low ∷ bytes) small = (omega (arith, small.0, small.1.0), pairs_small bytes small.1.1)
@@ -143,7 +150,7 @@ bytes_of_pairs (suc n) (high ∷ low ∷ bytes) small even =
     let rest : bytes ≡ flat_map group_bytes (pairs bytes) = bytes_of_pairs n bytes small.1.1 (omega (arith, even)) in
     cc
 
-length-pairs : (n : ℕ) (bytes : List ℕ) → length bytes ≡ 2 * n → length (pairs bytes) ≡ n
+pub length-pairs : (n : ℕ) (bytes : List ℕ) → length bytes ≡ 2 * n → length (pairs bytes) ≡ n
 length-pairs zero [] even = refl
 length-pairs (suc n) [] even = absurd (omega (arith, even))
 length-pairs n (high ∷ []) even = absurd (omega (arith, even))

@@ -28,7 +28,7 @@ le-fold_max_start : (xs : List ℕ) (a : ℕ) → a ≤ fold max a xs
 le-fold_max_start [] a = omega arith
 le-fold_max_start (x ∷ xs) a = omega (arith, le-fold_max_start xs (max a x))
 
-le-fold_max : (xs : List ℕ) (a k : ℕ) → k < length xs → get_or xs k 0 ≤ fold max a xs
+pub le-fold_max : (xs : List ℕ) (a k : ℕ) → k < length xs → get_or xs k 0 ≤ fold max a xs
 le-fold_max [] a k inside = absurd (omega arith)
 le-fold_max (x ∷ xs) a zero inside = omega (arith, le-fold_max_start xs (max a x))
 le-fold_max (x ∷ xs) a (suc k) inside = le-fold_max xs (max a x) k (omega arith)

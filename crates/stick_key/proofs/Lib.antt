@@ -3,6 +3,7 @@ mod Ipv6Digits
 mod Ipv6Gaps
 mod Ipv6Groups
 mod Ipv6Reread
+mod Ipv6Rules
 mod Ipv6Runs
 mod Ipv6Sides
 mod Numerals

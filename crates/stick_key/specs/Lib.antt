@@ -1,5 +1,6 @@
 pub mod Convert
 pub mod Dotted
+pub mod Ipv6Canonical
 pub mod Ipv6Printed
 pub mod Ipv6Reader
 pub mod Ipv6Text

@@ -9,10 +9,13 @@ use thiserror::Error;
 /// Why a text is no key.
 #[derive(Clone, Copy, Debug, PartialEq, Eq, Error)]
 pub enum KeyFault {
+    /// The text is of another form.
     #[error("not the text of a key")]
     Malformed,
+    /// The text is of the form of such a key, with a number that is too large.
     #[error("a number of the key is too large")]
     OutOfRange,
+    /// A growth was refused.
     #[error("out of memory")]
     Memory,
 }

@@ -1,3 +1,16 @@
+pub mod TestLemmas
+pub mod KeyLemmas
+pub mod EntryLemmas
+pub mod RoomLemmas
+pub mod StepCases
 pub mod StepLemmas
-pub mod LimitLemmas
 pub mod RunLemmas
+pub mod LimitLemmas
+pub mod RecordLemmas
+pub mod TicketLemmas
+pub mod LegalLemmas
+pub mod FateLemmas
+pub mod TallyLemmas
+pub mod PurgeLemmas
+pub mod ReferenceLemmas
+pub mod ExpiryLemmas

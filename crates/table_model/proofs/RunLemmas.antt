@@ -1,20 +1,145 @@
--- On runs of stored calls.
-use Rattle.std.proofs.Common.{◌≡◌, refl, sym, ◌∙◌, ap, subst, [], ◌∷◌, unwrap_or}
+-- On runs, of events and of stored calls.
+use Rattle.std.proofs.Common.{◌≡◌, ◌+◌, refl, sym, ◌∙◌, ap, subst, arith, List, [], ◌∷◌, ◌++◌, length, map}
 use Rattle.table_model.specs.State.{State}
-use Rattle.table_model.specs.Step.{Outcome, after, slot_of}
-use Rattle.table_model.specs.Run.{StoredRun}
-use Rattle.table_model.specs.Laws.{OneRunLaw}
+use Rattle.table_model.specs.Step.{Step, slot_of}
+use Rattle.table_model.specs.Run.{Run, StoredRun}
+use Rattle.table_model.specs.Laws.{OneRunLaw, RunsOn, JoinLaw, CountLaw}
+use Rattle.table_model.specs.declared.events.Stored.{Stored}
+use Rattle.table_model.specs.declared.events.Event.{Event}
+use Rattle.table_model.specs.declared.replies.Reply.{Reply}
+use Rattle.table_model.proofs.StepLemmas.{step_events, step_spec, step_determined}
 
--- ---- one run of stored calls
-pub one-run : OneRunLaw
-one-run old [] [] [] new other a b = (refl, a ∙ sym b)
-one-run old [] (r ∷ rs) others new other a b = absurd a
-one-run old [] [] (s ∷ ss) new other a b = absurd b
-one-run old (call ∷ calls) [] others new other a b = absurd a
-one-run old (call ∷ calls) (r ∷ rs) [] new other a b = absurd b
-one-run old (call ∷ calls) (r ∷ rs) (s ∷ ss) new other a b =
-    let slots : slot_of r ≡ slot_of s = sym a.1 ∙ b.1 in
-    let both : ◌≡◌ {A = Outcome} (r, a.0) (s, b.0) = sym a.2.gives ∙ ap (λ o. after old call.event (unwrap_or o 0)) slots ∙ b.2.gives in
-    let middle : a.0 ≡ b.0 = ap (λ (o : Outcome). o.1) both in
-    let rest = one-run a.0 calls rs ss new other a.3 (subst (λ (m : State). StoredRun m calls ss other) (sym middle) b.3) in
-    (let same : r ≡ s = ap (λ (o : Outcome). o.0) both in λ i. same i ∷ rest.0 i, rest.1)
+-- ---- runs of events
+
+-- a run and one step more
+pub run_more : (old : State) (events : List Event) (replies : List Reply) (new : State) (event : Event) (reply : Reply) (next : State)
+    → Run old events replies new → Step new event reply next → Run old (events ++ event ∷ []) (replies ++ reply ∷ []) next
+run_more old [] [] new event reply next run step = (next, subst (λ (s : State). Step s event reply next) run step, refl)
+run_more old [] (r ∷ rs) new event reply next run step = absurd run
+run_more old (e ∷ es) [] new event reply next run step = absurd run
+run_more old (e ∷ es) (r ∷ rs) new event reply next run step = (run.0, run.1, run_more run.0 es rs new event reply next run.2 step)
+
+-- two runs, the second from where the first ends
+pub run_join : (old : State) (events : List Event) (replies : List Reply) (middle : State) (later : List Event) (rest : List Reply) (new : State)
+    → Run old events replies middle → Run middle later rest new → Run old (events ++ later) (replies ++ rest) new
+run_join old [] [] middle later rest new run more = subst (λ (s : State). Run s later rest new) run more
+run_join old [] (r ∷ rs) middle later rest new run more = absurd run
+run_join old (e ∷ es) [] middle later rest new run more = absurd run
+run_join old (e ∷ es) (r ∷ rs) middle later rest new run more = (run.0, run.1, run_join run.0 es rs middle later rest new run.2 more)
+
+-- a run of joined lists parts
+pub run_part : (old : State) (events later : List Event) (replies : List Reply) (new : State) → Run old (events ++ later) replies new → RunsOn old events later replies new
+run_part old [] later replies new run = record { middle = old; first = []; rest = replies; joined = refl; before = refl; after = run }
+run_part old (e ∷ es) later [] new run = absurd run
+run_part old (e ∷ es) later (r ∷ rs) new run =
+    let more : RunsOn run.0 es later rs new = run_part run.0 es later rs new run.2 in
+    record { middle = more.middle; first = r ∷ more.first; rest = more.rest; joined = ap (λ xs. r ∷ xs) more.joined; before = (run.0, run.1, more.before); after = more.after }
+
+pub join-law : JoinLaw
+join-law old events later replies new = (
+  λ run. run_part old events later replies new run,
+  λ on. subst (λ rs. Run old (events ++ later) rs new) (sym on.joined) (run_join old events on.first on.middle later on.rest new on.before on.after),
+)
+
+-- as many events are counted as there were
+pub run_events : CountLaw
+run_events old [] [] new run = let same : new.events ≡ old.events = ap (λ (s : State). s.events) run in omega arith
+run_events old [] (r ∷ rs) new run = absurd run
+run_events old (e ∷ es) [] new run = absurd run
+run_events old (e ∷ es) (r ∷ rs) new run =
+    let one : run.0.events ≡ old.events + 1 = step_events old e r run.0 run.1 in
+    let rest : new.events ≡ run.0.events + length es = run_events run.0 es rs new run.2 in
+    omega arith
+
+-- as many replies as events
+pub run_length : (old : State) (events : List Event) (replies : List Reply) (new : State) → Run old events replies new → length replies ≡ length events
+run_length old [] [] new run = refl
+run_length old [] (r ∷ rs) new run = absurd run
+run_length old (e ∷ es) [] new run = absurd run
+run_length old (e ∷ es) (r ∷ rs) new run = let rest : length rs ≡ length es = run_length run.0 es rs new run.2 in omega arith
+
+-- the specification stays
+pub run_spec : (old : State) (events : List Event) (replies : List Reply) (new : State) → Run old events replies new → new.spec ≡ old.spec
+run_spec old [] [] new run = ap (λ (s : State). s.spec) run
+run_spec old [] (r ∷ rs) new run = absurd run
+run_spec old (e ∷ es) [] new run = absurd run
+run_spec old (e ∷ es) (r ∷ rs) new run = run_spec run.0 es rs new run.2 ∙ step_spec old e r run.0 run.1
+
+-- ---- runs of stored calls
+
+-- the events that are stored
+abbrev pub events_of : List Stored → List Event
+events_of calls = map (λ (call : Stored). call.event) calls
+
+pub run_from_stored : (old : State) (calls : List Stored) (replies : List Reply) (new : State) → StoredRun old calls replies new → Run old (events_of calls) replies new
+run_from_stored old [] [] new run = run
+run_from_stored old [] (r ∷ rs) new run = absurd run
+run_from_stored old (c ∷ cs) [] new run = absurd run
+run_from_stored old (c ∷ cs) (r ∷ rs) new run = (run.0, run.2, run_from_stored run.0 cs rs new run.3)
+
+-- the calls that store a run
+abbrev pub stored_calls : List Event → List Reply → List Stored
+stored_calls [] replies = []
+stored_calls (event ∷ events) [] = []
+stored_calls (event ∷ events) (reply ∷ replies) = record { event = event; slot = slot_of reply } ∷ stored_calls events replies
+
+pub stored_from_run : (old : State) (events : List Event) (replies : List Reply) (new : State) → Run old events replies new → StoredRun old (stored_calls events replies) replies new
+stored_from_run old [] [] new run = run
+stored_from_run old [] (r ∷ rs) new run = absurd run
+stored_from_run old (e ∷ es) [] new run = absurd run
+stored_from_run old (e ∷ es) (r ∷ rs) new run = (run.0, refl, run.1, stored_from_run run.0 es rs new run.2)
+
+pub length-events_of : (calls : List Stored) → length (events_of calls) ≡ length calls
+length-events_of [] = refl
+length-events_of (c ∷ cs) = let rest : length (events_of cs) ≡ length cs = length-events_of cs in omega arith
+
+pub stored_run_more : (old : State) (calls : List Stored) (replies : List Reply) (new : State) (call : Stored) (reply : Reply) (next : State)
+    → StoredRun old calls replies new → call.slot ≡ slot_of reply → Step new call.event reply next → StoredRun old (calls ++ call ∷ []) (replies ++ reply ∷ []) next
+stored_run_more old [] [] new call reply next run slot step = (next, slot, subst (λ (s : State). Step s call.event reply next) run step, refl)
+stored_run_more old [] (r ∷ rs) new call reply next run slot step = absurd run
+stored_run_more old (c ∷ cs) [] new call reply next run slot step = absurd run
+stored_run_more old (c ∷ cs) (r ∷ rs) new call reply next run slot step = (run.0, run.1, run.2, stored_run_more run.0 cs rs new call reply next run.3 slot step)
+
+pub stored_run_join : (old : State) (calls : List Stored) (replies : List Reply) (middle : State) (later : List Stored) (rest : List Reply) (new : State)
+    → StoredRun old calls replies middle → StoredRun middle later rest new → StoredRun old (calls ++ later) (replies ++ rest) new
+stored_run_join old [] [] middle later rest new run more = subst (λ (s : State). StoredRun s later rest new) run more
+stored_run_join old [] (r ∷ rs) middle later rest new run more = absurd run
+stored_run_join old (c ∷ cs) [] middle later rest new run more = absurd run
+stored_run_join old (c ∷ cs) (r ∷ rs) middle later rest new run more = (run.0, run.1, run.2, stored_run_join run.0 cs rs middle later rest new run.3 more)
+
+-- a run of stored calls, and from where it ends one of those that follow
+pub record StoredRunsOn (old : State) (calls later : List Stored) (replies : List Reply) (new : State) : Type 0 where
+  pub middle : State
+  pub first : List Reply
+  pub rest : List Reply
+  pub joined : replies ≡ first ++ rest
+  pub before : StoredRun old calls first middle
+  pub after : StoredRun middle later rest new
+
+pub stored_run_part : (old : State) (calls later : List Stored) (replies : List Reply) (new : State) → StoredRun old (calls ++ later) replies new → StoredRunsOn old calls later replies new
+stored_run_part old [] later replies new run = record { middle = old; first = []; rest = replies; joined = refl; before = refl; after = run }
+stored_run_part old (c ∷ cs) later [] new run = absurd run
+stored_run_part old (c ∷ cs) later (r ∷ rs) new run =
+    let more : StoredRunsOn run.0 cs later rs new = stored_run_part run.0 cs later rs new run.3 in
+    record { middle = more.middle; first = r ∷ more.first; rest = more.rest; joined = ap (λ xs. r ∷ xs) more.joined; before = (run.0, run.1, run.2, more.before); after = more.after }
+
+pub stored_run_events : (old : State) (calls : List Stored) (replies : List Reply) (new : State) → StoredRun old calls replies new → new.events ≡ old.events + length calls
+stored_run_events old calls replies new run = let one = length-events_of calls in let all : new.events ≡ old.events + length (events_of calls) = run_events old (events_of calls) replies new (run_from_stored old calls replies new run) in omega arith
+
+pub stored_run_length : (old : State) (calls : List Stored) (replies : List Reply) (new : State) → StoredRun old calls replies new → length replies ≡ length calls
+stored_run_length old calls replies new run = run_length old (events_of calls) replies new (run_from_stored old calls replies new run) ∙ length-events_of calls
+
+pub stored_run_spec : (old : State) (calls : List Stored) (replies : List Reply) (new : State) → StoredRun old calls replies new → new.spec ≡ old.spec
+stored_run_spec old calls replies new run = run_spec old (events_of calls) replies new (run_from_stored old calls replies new run)
+
+-- the replies and the state after stored calls are determined
+pub run_determined : OneRunLaw
+run_determined old [] [] [] new other a b = (refl, a ∙ sym b)
+run_determined old [] (r ∷ rs) others new other a b = absurd a
+run_determined old [] [] (s ∷ ss) new other a b = absurd b
+run_determined old (call ∷ calls) [] others new other a b = absurd a
+run_determined old (call ∷ calls) (r ∷ rs) [] new other a b = absurd b
+run_determined old (call ∷ calls) (r ∷ rs) (s ∷ ss) new other a b =
+    let one = step_determined old call.event r s a.0 b.0 a.2 b.2 (sym a.1 ∙ b.1) in
+    let rest = run_determined a.0 calls rs ss new other a.3 (subst (λ (m : State). StoredRun m calls ss other) (sym one.1) b.3) in
+    ((λ i. one.0 i ∷ rest.0 i), rest.1)

@@ -1,13 +1,36 @@
 -- Laws of steps and runs.
-use Rattle.std.specs.Prelude.{◌≡◌, ℕ, ◌≤◌, List}
-use Rattle.table_model.specs.Key.{Key}
-use Rattle.table_model.specs.State.{State}
+use Rattle.std.specs.Prelude.{◌≡◌, ℕ, ◌≤◌, ◌<◌, ◌+◌, ◌↔◌, nat_eq, List, [], ◌∷◌, ◌++◌, length, map, filter, fold, max, not, ◌||◌, IfSome, Bool, true, false, if◌then◌else◌, IsTrue, Option, Some, None, is_some, ◌⊎◌, Contains}
+use Rattle.std.specs.Option.{option_map_or}
+use Rattle.rate_window.specs.Rate.{Count as Rated, AreUpTo, tally, rate}
+use Rattle.table_model.specs.Key.{Key, same_key}
+use Rattle.table_model.specs.State.{State, same_ticket, key_of, refs, is_tracked, record_at, row_of, outlives, advance, empty_table}
+use Rattle.stored_data.specs.Acts.{acted, answer, change, content_of, value_at}
+use Rattle.stored_data.specs.Data.{is_rate}
+use Rattle.stored_data.specs.Stored.{IsSound}
+use Rattle.stored_data.specs.declared.datum.Datum.{Datum}
+use Rattle.stored_data.specs.declared.stored_set.Column.{Column}
+use Rattle.stored_data.specs.declared.values.Content.TheVariants.{Rate}
+use Rattle.stored_data.specs.declared.values.Field.{Field}
+use Rattle.stored_data.specs.declared.act.Act.{Act}
+use Rattle.stored_data.specs.declared.act.Change.{Change}
+use Rattle.stored_data.specs.declared.act.Change.TheVariants.{Add}
+use Rattle.stored_data.specs.declared.act.Act.TheVariants.{Connection}
+use Rattle.table_model.specs.Step.{Step, put_pairs, ticket_of}
 use Rattle.table_model.specs.Run.{Run, StoredRun}
-use Rattle.table_model.specs.Legal.{IsLegal}
+use Rattle.std.specs.List.{IsDistinct}
+use Rattle.table_model.specs.Room.{is_purged, purged, all_tracked}
+use Rattle.table_model.specs.Legal.{IsLegal, stamp_in}
+use Rattle.table_model.specs.Limits.{moment_of}
+use Rattle.table_model.specs.Refusals.{has_life}
 use Rattle.table_model.specs.Passed.{passing_looks, passed_count}
 use Rattle.table_model.specs.declared.events.Stored.{Stored}
 use Rattle.table_model.specs.declared.events.Event.{Event}
+use Rattle.table_model.specs.declared.events.Event.TheVariants.{Track, Look, Count, Release, Put}
 use Rattle.table_model.specs.declared.replies.Reply.{Reply}
+use Rattle.table_model.specs.declared.replies.Reply.TheVariants.{Row as ARow, Tracked, Value, Released}
+use Rattle.table_model.specs.declared.rows.Ticket.{Ticket}
+use Rattle.table_model.specs.declared.rows.Record.{Record}
+use Rattle.table_model.specs.declared.specification.Spec.{Spec}
 
 -- at each place of a run from a legal state, at most `limit` tickets of a key are out that had, in this run, a look
 -- whose row has at most `limit` references; the place is the run's end, and a run's beginning is a run
@@ -19,3 +42,178 @@ LimitLaw = (old : State) (events : List Event) (replies : List Reply) (new : Sta
 abbrev pub OneRunLaw : Type 0
 OneRunLaw = (old : State) (calls : List Stored) (replies others : List Reply) (new other : State) →
     StoredRun old calls replies new → StoredRun old calls others other → (replies ≡ others) × (new ≡ other)
+
+-- ---- runs
+
+-- as many events are counted as the run has
+abbrev pub CountLaw : Type 0
+CountLaw = (old : State) (events : List Event) (replies : List Reply) (new : State) → Run old events replies new → new.events ≡ old.events + length events
+
+-- a run of some events, and from where it ends one of those that follow
+pub record RunsOn (old : State) (events later : List Event) (replies : List Reply) (new : State) : Type 0 where
+  pub middle : State
+  pub first : List Reply
+  pub rest : List Reply
+  pub joined : replies ≡ first ++ rest
+  pub before : Run old events first middle
+  pub after : Run middle later rest new
+
+-- a run over two lists joined is a run over the one, then the other
+abbrev pub JoinLaw : Type 0
+JoinLaw = (old : State) (events later : List Event) (replies : List Reply) (new : State) → Run old (events ++ later) replies new ↔ RunsOn old events later replies new
+
+-- ---- tickets
+
+-- what becomes of the tickets that are out, as the reply tells it: one more, without that which the event gave back, or the same
+abbrev pub tickets_told : Event → Reply → List (Ticket × Key) → List (Ticket × Key)
+tickets_told event (Tracked ticket row) tickets = tickets ++ (ticket, row.key) ∷ []
+tickets_told (Release now ticket) Released tickets = filter (λ (held : Ticket × Key). not (same_ticket ticket held.0)) tickets
+tickets_told event reply tickets = tickets
+
+-- a reply tells all that becomes of the tickets
+abbrev pub TicketsLaw : Type 0
+TicketsLaw = (old : State) (event : Event) (reply : Reply) (new : State) → Step old event reply new → new.tickets ≡ tickets_told event reply old.tickets
+
+-- ---- legal states
+
+-- a step with life left keeps a state legal
+abbrev pub StepLegalLaw : Type 0
+StepLegalLaw = (old : State) (event : Event) (reply : Reply) (new : State) → IsLegal old → IsTrue (has_life old event) → Step old event reply new → IsLegal new
+
+-- the empty table is legal
+abbrev pub EmptyLegalLaw : Type 0
+EmptyLegalLaw = (spec : Spec) → IsLegal (empty_table spec)
+
+-- each place of a run from a legal state is legal, where the run ends within the life
+abbrev pub RunLegalLaw : Type 0
+RunLegalLaw = (old : State) (events later : List Event) (replies : List Reply) (new : State) → IsLegal old → (on : RunsOn old events later replies new) →
+    new.events + length new.tickets ≤ new.spec.life → IsLegal on.middle
+
+-- ---- tracked entries
+
+-- what an event makes of the data of its key
+abbrev pub values_after : ℕ → Event → List Field → List Field
+values_after clock (Track now key) values = acted values clock Connection
+values_after clock (Count now ticket act) values = acted values clock act
+values_after clock (Put now key pairs) values = put_pairs pairs values
+values_after clock event values = values
+
+-- the key that an event is of: that which it names, or that of its ticket
+abbrev pub subject_of : State → Event → Option Key
+subject_of old (Track now key) = Some key
+subject_of old (Put now key pairs) = Some key
+subject_of old (Count now ticket act) = key_of ticket old.tickets
+subject_of old (Release now ticket) = key_of ticket old.tickets
+subject_of old event = None
+
+-- the key has a record before and after: the same, or, where the event is of the key, with the data that the event makes of it
+pub record IsKept (old : State) (event : Event) (new : State) (key : Key) : Type 0 where
+  pub before : Record
+  pub after : Record
+  pub was : record_at key old.records ≡ Some before
+  pub is : record_at key new.records ≡ Some after
+  pub kept : (after ≡ before) ⊎ ((subject_of old event ≡ Some key) × (after.values ≡ values_after new.clock event before.values))
+
+-- a tracked entry is never lost: no event purges, expires or clears it, and none but its own changes it
+abbrev pub NeverLostLaw : Type 0
+NeverLostLaw = (old : State) (event : Event) (reply : Reply) (new : State) (key : Key) → IsLegal old → Step old event reply new → IsTrue (is_tracked key old.tickets) → IsKept old event new key
+
+-- ---- rates
+
+-- a step of a run, from the state before it
+pub record Taken : Type 0 where
+  pub before : State
+  pub event : Event
+  pub reply : Reply
+
+-- the steps of a run
+abbrev pub steps_of : (old : State) (events : List Event) (replies : List Reply) (new : State) → Run old events replies new → List Taken
+steps_of old [] [] new run = []
+steps_of old (event ∷ events) (reply ∷ replies) new run = record { before = old; event = event; reply = reply } ∷ steps_of run.0 events replies new run.2
+steps_of old [] (reply ∷ replies) new run = []
+steps_of old (event ∷ events) [] new run = []
+
+-- the act that an event's reply tells to be counted: a connection for a new reference, and the act of a count
+abbrev pub act_told : Event → Reply → Option Act
+act_told (Track now key) (Tracked ticket row) = Some Connection
+act_told (Count now ticket act) (Value value) = Some act
+act_told event reply = None
+
+-- the act that a step counts for a key
+abbrev pub act_for : Key → Taken → Option Act
+act_for key step = if option_map_or (same_key key) (subject_of step.before step.event) false then act_told step.event step.reply else None
+
+-- what a change adds, at a moment
+abbrev pub added : ℕ → Change → List Rated
+added moment (Add n) = record { moment = moment; amount = n } ∷ []
+added moment change = []
+
+-- what a step counts of a key in a datum, at the clock
+abbrev pub counted_by : Key → Datum → Taken → List Rated
+counted_by key datum step = option_map_or (λ act. added (max step.before.clock (moment_of step.event)) (change act datum)) (act_for key step) []
+
+-- whether the key still has its record when the clock has come to the step's moment
+abbrev pub has_record : Key → Taken → Bool
+has_record key step = is_some (record_at key (advance step.before (moment_of step.event)).records)
+
+-- what was counted up to a step: a record that is gone took all before with it
+abbrev pub counted_with : Key → Datum → List Rated → Taken → List Rated
+counted_with key datum counts step = (if has_record key step then counts else []) ++ counted_by key datum step
+
+-- what the steps of a run counted of a key in a datum since the key's record was made
+abbrev pub counted_since : Key → Datum → List Taken → List Rated
+counted_since key datum steps = fold (counted_with key datum) [] steps
+
+-- a record keeps of a rate the tally of these counts, and shows their rate
+pub record IsTallied (values : List Field) (column : Column) (counts : List Rated) (clock : ℕ) : Type 0 where
+  pub up_to : AreUpTo counts clock
+  pub kept : content_of values column.datum ≡ Some (Rate (tally counts column.period))
+  pub shown : value_at values column.datum clock ≡ Some (rate counts column.period clock)
+
+-- in every run from the empty table, a rate's tally is the tally of what the run counted in its column since the record was made
+abbrev pub TallyLaw : Type 0
+TallyLaw = (spec : Spec) (events : List Event) (replies : List Reply) (new : State) (run : Run (empty_table spec) events replies new) (key : Key) (found : Record) (column : Column) →
+    IsSound spec.columns → Contains spec.columns column → IsTrue (is_rate column.datum) → record_at key new.records ≡ Some found →
+    IsTallied found.values column (counted_since key column.datum (steps_of (empty_table spec) events replies new run)) new.clock
+
+-- ---- purges
+
+-- the records that are purged: each is untracked, and was refreshed before each untracked one that is left; they are as
+-- many at most as are to be purged, and there is one where some record is untracked
+pub record PurgesOldest (purge : ℕ) (tickets : List (Ticket × Key)) (records : List (Key × Record)) : Type 0 where
+  pub untracked : (gone : Key × Record) → is_purged purge tickets records gone ≡ true → is_tracked gone.0 tickets ≡ false
+  pub oldest : (gone left : Key × Record) → is_purged purge tickets records gone ≡ true → is_tracked left.0 tickets ≡ false → is_purged purge tickets records left ≡ false → gone.1.stamp < left.1.stamp
+  pub few : length records ≤ length (purged purge tickets records) + purge
+  pub some : all_tracked tickets records ≡ false → 1 ≤ purge → length (purged purge tickets records) + 1 ≤ length records
+
+-- of records whose stamps differ, as those of every legal state, a purge takes the oldest untracked ones
+abbrev pub PurgeLaw : Type 0
+PurgeLaw = (purge : ℕ) (tickets : List (Ticket × Key)) (records : List (Key × Record)) → IsDistinct nat_eq (map stamp_in records) → PurgesOldest purge tickets records
+
+-- ---- references
+
+-- what an event of a reference is answered from the entry of its key
+abbrev pub IsAnswered : State → Key → Record → Event → Reply → Type 0
+IsAnswered old key found (Look now ticket) reply = reply ≡ ARow (row_of old.spec.columns (max old.clock now) (refs key old.tickets) key found)
+IsAnswered old key found (Count now ticket act) reply = reply ≡ Value (answer found.values (max old.clock now) act)
+IsAnswered old key found (Release now ticket) reply = reply ≡ Released
+IsAnswered old key found event reply = ⊥
+
+-- the key has an entry and a reference, and the event is answered from the entry
+pub record IsAnsweredFrom (old : State) (key : Key) (event : Event) (reply : Reply) : Type 0 where
+  pub found : Record
+  pub is : record_at key old.records ≡ Some found
+  pub held : 1 ≤ refs key old.tickets
+  pub answered : IsAnswered old key found event reply
+
+-- in a legal state a ticket that is out has an entry, and what is asked of it is answered from that
+abbrev pub ReferenceLaw : Type 0
+ReferenceLaw = (old : State) (event : Event) (reply : Reply) (new : State) (ticket : Ticket) (key : Key) → IsLegal old → Step old event reply new →
+    ticket_of event ≡ Some ticket → key_of ticket old.tickets ≡ Some key → IsAnsweredFrom old key event reply
+
+-- ---- expiry
+
+-- in every run from the empty table, each record is tracked or its date is still to come
+abbrev pub ExpiryLaw : Type 0
+ExpiryLaw = (spec : Spec) (events : List Event) (replies : List Reply) (new : State) (key : Key) (found : Record) → IfSome spec.expire (λ life. 1 ≤ life) →
+    Run (empty_table spec) events replies new → record_at key new.records ≡ Some found → IsTrue (is_tracked key new.tickets || outlives new.clock found)

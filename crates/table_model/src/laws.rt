@@ -1,16 +1,76 @@
 //! Laws of stick tables: what every run of every table keeps. Each is the contract of a function that does nothing.
 
-ghost use Rattle.table_model.specs.Laws.{LimitLaw, OneRunLaw};
+ghost use Rattle.table_model.specs.Laws.{CountLaw, EmptyLegalLaw, ExpiryLaw, JoinLaw, LimitLaw, NeverLostLaw, OneRunLaw, PurgeLaw, ReferenceLaw, RunLegalLaw, StepLegalLaw, TallyLaw, TicketsLaw};
 
 /// The limit law: in every run from a legal state, for every key and limit, at most `limit` references of the key are
 /// out that had, in this run, a look whose row has at most `limit` references.
 pub fn limit()
     ensures { LimitLaw }
-{
-}
+{}
 
 /// A list of stored calls has one run at most: its replies, and the state after it, are determined.
 pub fn one_run()
     ensures { OneRunLaw }
-{
-}
+{}
+
+/// A run counts as many events as it has.
+pub fn count()
+    ensures { CountLaw }
+{}
+
+/// A run over two lists joined is a run over the one, then the other.
+pub fn join()
+    ensures { JoinLaw }
+{}
+
+/// A reply tells all that becomes of the references: `Tracked` is one more, `Released` that of its event less, and any
+/// other leaves them as they are.
+pub fn tickets()
+    ensures { TicketsLaw }
+{}
+
+/// The empty table is legal.
+pub fn empty_legal()
+    ensures { EmptyLegalLaw }
+{}
+
+/// A step of an event that has life left keeps a state legal.
+pub fn step_legal()
+    ensures { StepLegalLaw }
+{}
+
+/// In a run from a legal state that ends within the life, the state at each place is legal.
+pub fn run_legal()
+    ensures { RunLegalLaw }
+{}
+
+/// A tracked entry is never lost: in a step from a legal state the entry of a key with a reference out is neither
+/// purged nor expired nor cleared, not even by the release of the last one. It is there before and after, as it was
+/// or, in an event of that key, with what the event makes of its data.
+pub fn never_lost()
+    ensures { NeverLostLaw }
+{}
+
+/// In every run from the empty table, what a record keeps of a rate is the tally of what the run counted in that column
+/// since the record was made, and the value it shows is their rate.
+pub fn tally()
+    ensures { TallyLaw }
+{}
+
+/// A purge takes the oldest untracked entries: each that it takes was refreshed before each untracked one that it
+/// leaves, and they are as many at most as are to be purged.
+pub fn purge()
+    ensures { PurgeLaw }
+{}
+
+/// In a legal state a reference that is out has an entry, and a look, a count and a release are answered from it:
+/// never as absent.
+pub fn reference()
+    ensures { ReferenceLaw }
+{}
+
+/// In every run from the empty table, where a life is at least 1 ms, each entry is tracked, or has no date, or its date
+/// is still to come.
+pub fn expiry()
+    ensures { ExpiryLaw }
+{}

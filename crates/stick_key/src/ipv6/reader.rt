@@ -11,6 +11,9 @@ use super::groups::{Groups, bytes_of};
 use crate::dotted::{read_dotted, split_once};
 use crate::numeral::read_numeral;
 
+/// The most groups beside a gap, which stands for one at least.
+const MOST_BESIDE_GAP: usize = 7;
+
 /// The number of a hexadecimal group.
 fn read_hex_group(part: &[u8]) -> Option<u16>
     ensures { SomeIff result (IsHexGroup part.now) (digits_value 16 part.now) }
@@ -114,7 +117,7 @@ fn read_shortened(before: &[u8], after: &[u8]) -> Option<[u16; 8]>
 {
     let high = read_side(before, false)?;
     let low = read_side(after, true)?;
-    if high.len() + low.len() > 7 {
+    if high.len() + low.len() > MOST_BESIDE_GAP {
         return None;
     }
     Some(filled(high.as_slice(), low.as_slice()))
