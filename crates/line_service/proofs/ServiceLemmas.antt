@@ -77,7 +77,7 @@ module _ {S : Type 0} (says : S → Option (List ℕ) → List ℕ → S → Typ
       → Progress says old whole [] line count output now → says now line text new → ServesAll says old whole (output ++ text) new
   all_served old now new whole line count output text p here =
       subst (λ ls. Chain (Serves says) old ls (output ++ text) new) (sym p.lines)
-        (Chain-more (Serves says) old now new p.done p.next output text p.served (subst (λ l. says now l text new) p.held_is here))
+      (Chain-more (Serves says) old now new p.done p.next output text p.served (subst (λ l. says now l text new) p.held_is here))
 
   pub progress_along : (old now : S) (whole : List ℕ) (later : List (List ℕ)) (line : Option (List ℕ)) (count count' : ℕ) (output output' : List ℕ) → count ≡ count' → output ≡ output'
       → Progress says old whole later line count output now → Progress says old whole later line count' output' now

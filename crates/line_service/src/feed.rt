@@ -10,7 +10,12 @@ use line_text::{LineSoFar, Parts};
 
 /// Goes on with the line by the bytes of a piece, and serves each line that ends. How many were served, also where
 /// the writer failed in the next.
-pub fn feed<L: LineServer, W: Sink>(server: &mut L, line: &mut LineSoFar, piece: &[u8], writer: &mut W) -> Result<u64, u64>
+pub fn feed<L: LineServer, W: Sink>(
+    server: &mut L,
+    line: &mut LineSoFar,
+    piece: &[u8],
+    writer: &mut W,
+) -> Result<u64, u64>
     // From where a text stood, after the piece it stands further on.
     ensures served { (old : L.State) (whole output : List ℕ) (count : ℕ) → Progress L.says old whole [] line.old count output (L.state server.old) →
         (more : List ℕ) × Grows W.tells (W.written writer.old) (W.written writer.new) more

@@ -47,7 +47,11 @@ impl LineFault {
 }
 
 /// Serves each line of a reader until it ends. The last line needs no line end.
-pub fn serve_lines<L: LineServer, R: Source, W: Sink>(server: &mut L, reader: &mut R, writer: &mut W) -> Result<(), LineFault>
+pub fn serve_lines<L: LineServer, R: Source, W: Sink>(
+    server: &mut L,
+    reader: &mut R,
+    writer: &mut W,
+) -> Result<(), LineFault>
     // All of the input was read, and what was written is what its lines say, and nothing else.
     ensures whole { OnOk result ((whole output : List ℕ) × Takes R.tells (R.left reader.old) (R.left reader.new) whole
         × Grows W.tells (W.written writer.old) (W.written writer.new) output

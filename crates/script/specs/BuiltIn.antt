@@ -9,5 +9,5 @@ use Rattle.script.specs.declared.setup.NamedSpec.{NamedSpec}
 abbrev pub built_in : List NamedSpec
 built_in = record {
   name = codes "t";
-  spec = record { kind = Ip; size = 100; expire = None; nopurge = false; columns = record { datum = Gpc0; period = 0 } ∷ []; max_refs = 65536; life = 2 ^ 62; seed = 0 }
+  spec = record { kind = Ip; size = 100; expire = None; nopurge = false; columns = record { datum = Gpc0; period = 0 } ∷ []; max_refs = 65536; life = 2 ^ 62; seed = 0 };
 } ∷ []

@@ -36,7 +36,12 @@ pub struct ReplayFault {
 /// Serves each line of a script from empty tables, until the script ends. Ok comes only at its end, and then exactly
 /// the script's text was written. After a fault that is the text of the lines done, and a front of what the next could
 /// have written. Where there is no memory for the tables, nothing is read or written.
-pub fn replay_script<R: Source, W: Sink>(alloc: Global, setup: &Setup, reader: &mut R, writer: &mut W) -> Result<(), ReplayFault>
+pub fn replay_script<R: Source, W: Sink>(
+    alloc: Global,
+    setup: &Setup,
+    reader: &mut R,
+    writer: &mut W,
+) -> Result<(), ReplayFault>
     requires { AreTableSpecs setup.now.tables }
     ensures whole { OnOk result ((script output : List ℕ) × (new : List NamedState) × Takes R.tells (R.left reader.old) (R.left reader.new) script
         × Grows W.tells (W.written writer.old) (W.written writer.new) output
@@ -69,7 +74,10 @@ pub fn replay_script<R: Source, W: Sink>(alloc: Global, setup: &Setup, reader: &
                 LineFaultKind::Read => FaultKind::ReadFault,
                 LineFaultKind::Write => FaultKind::WriteFault,
             };
-            Err(ReplayFault { kind, done: fault.done })
+            Err(ReplayFault {
+                kind,
+                done: fault.done,
+            })
         }
     }
 }

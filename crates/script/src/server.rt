@@ -34,7 +34,13 @@ impl<T: Table> LineServer for ScriptServer<T> {
                 Ok(()) => Ok(()),
                 Err(_) => Err(Failed),
             },
-            Line::Commands(moment, commands) => match answer(self.alloc, self.tables.as_mut_slice(), moment, commands, writer) {
+            Line::Commands(moment, commands) => match answer(
+                self.alloc,
+                self.tables.as_mut_slice(),
+                moment,
+                commands,
+                writer,
+            ) {
                 Ok(()) => Ok(()),
                 Err(error) => Err(error),
             },

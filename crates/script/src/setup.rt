@@ -6,8 +6,8 @@ ghost use Rattle.script.specs.Start.{start, AreTableSpecs};
 ghost use Rattle.table_cli.specs.Tables.{states_of};
 
 use sequence::{NoMemory, Sequence};
-use stick_table::{Spec, Table};
 use std::alloc::Global;
+use stick_table::{Spec, Table};
 use table_cli::Named;
 
 /// A table to be made, and its name.

@@ -2,7 +2,6 @@
 #![tactic(auto)]
 
 pub use std::alloc::AllocError as NoMemory;
-
 use std::alloc::Global;
 use std::marker::Model;
 

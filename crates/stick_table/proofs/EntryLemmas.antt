@@ -22,13 +22,13 @@ module _ {K X : Type 0} (R : K → K → Ordering) where
 
   -- the key stands at the place i
   pub insert-here : (es : List (K × X)) (i : ℕ) (k : K) (v : X) (x y : K × X) → i < length es → x ≡ get_or es i x → y ≡ get_or es i y → is_eq (R k x.0) ≡ true
-    → insert_entry R es k v ≡ take i es ++ insert_entry R (drop i es) k v → set es i (y.0, v) ≡ insert_entry R es k v
+      → insert_entry R es k v ≡ take i es ++ insert_entry R (drop i es) k v → set es i (y.0, v) ≡ insert_entry R es k v
   insert-here es i k v x y h is_x is_y same behind =
       let one : y ≡ x = is_y ∙ get_or_default es i y x h ∙ sym is_x in
       let left : set es i (y.0, v) ≡ take i es ++ (y.0, v) ∷ drop (i + 1) es =
-          sym (take-append-drop i (set es i (y.0, v))) ∙ ap (λ a. a ++ drop i (set es i (y.0, v))) (take-set es i (y.0, v)) ∙ ap (λ b. take i es ++ b) (drop-set es i (y.0, v) h) in
+      sym (take-append-drop i (set es i (y.0, v))) ∙ ap (λ a. a ++ drop i (set es i (y.0, v))) (take-set es i (y.0, v)) ∙ ap (λ b. take i es ++ b) (drop-set es i (y.0, v) h) in
       let right : insert_entry R (drop i es) k v ≡ (x.0, v) ∷ drop (i + 1) es =
-          at_drop_more (λ fs. insert_entry R fs k v) es i x h ∙ ap (λ e. insert_entry R (e ∷ drop (i + 1) es) k v) (sym is_x) ∙ insert-head x (drop (i + 1) es) k v (Equal-from (R k x.0) same) in
+      at_drop_more (λ fs. insert_entry R fs k v) es i x h ∙ ap (λ e. insert_entry R (e ∷ drop (i + 1) es) k v) (sym is_x) ∙ insert-head x (drop (i + 1) es) k v (Equal-from (R k x.0) same) in
       left ∙ ap (λ e. take i es ++ (e.0, v) ∷ drop (i + 1) es) one ∙ sym (behind ∙ ap (λ b. take i es ++ b) right)
 
 module _ {K X : Type 0} (test : K → Bool) where
@@ -39,9 +39,9 @@ module _ {K X : Type 0} (test : K → Bool) where
   pub set_value-here : (es : List (K × X)) (i : ℕ) (d : K × X) (w : X) → i < length es → test (get_or es i d).0 ≡ true → set_value test es w ≡ take i es ++ set_value test (drop i es) w → set_value test es w ≡ set es i ((get_or es i d).0, w)
   set_value-here es i d w h here behind =
       let right : set_value test (drop i es) w ≡ ((get_or es i d).0, w) ∷ drop (i + 1) es =
-          at_drop_more (λ fs. set_value test fs w) es i d h ∙ ap (λ b. cond b (((get_or es i d).0, w) ∷ drop (i + 1) es) (get_or es i d ∷ set_value test (drop (i + 1) es) w)) here in
+      at_drop_more (λ fs. set_value test fs w) es i d h ∙ ap (λ b. cond b (((get_or es i d).0, w) ∷ drop (i + 1) es) (get_or es i d ∷ set_value test (drop (i + 1) es) w)) here in
       let left : set es i ((get_or es i d).0, w) ≡ take i es ++ ((get_or es i d).0, w) ∷ drop (i + 1) es =
-          sym (take-append-drop i (set es i ((get_or es i d).0, w))) ∙ ap (λ a. a ++ drop i (set es i ((get_or es i d).0, w))) (take-set es i ((get_or es i d).0, w)) ∙ ap (λ b. take i es ++ b) (drop-set es i ((get_or es i d).0, w) h) in
+      sym (take-append-drop i (set es i ((get_or es i d).0, w))) ∙ ap (λ a. a ++ drop i (set es i ((get_or es i d).0, w))) (take-set es i ((get_or es i d).0, w)) ∙ ap (λ b. take i es ++ b) (drop-set es i ((get_or es i d).0, w) h) in
       behind ∙ ap (λ b. take i es ++ b) right ∙ sym left
 
 -- a place for each of n numbers
@@ -57,7 +57,7 @@ module _ {X : Type 0} (slot : X → ℕ) where
         | false ↦ λ is. elim (nat_eq (slot x) k) as (λ b. not b && list_all (λ x. not (nat_eq (slot x) k)) xs ≡ false → not b && list_all (λ x. not (nat_eq (slot x) k)) (filter (λ x. not (nat_eq (slot x) n)) xs) ≡ false) [
           | true ↦ λ _. refl
           | false ↦ λ f. still xs k n h f
-          ] e
+        ] e
       ] refl
 
   fewer : (xs : List X) (n : ℕ) → list_all (λ x. not (nat_eq (slot x) n)) xs ≡ false → length (filter (λ x. not (nat_eq (slot x) n)) xs) + 1 ≤ length xs

@@ -32,10 +32,10 @@ listed-more f p q xs i e ys h is kept passes =
     let rest = filter q (drop (i + 1) xs) in
     append_assoc ys (f e ∷ []) (map f (filter p rest))
     ∙ ap (λ zs. ys ++ zs) (sym (
-      at_drop_more (λ zs. map f (filter p (filter q zs))) xs i e h
-      ∙ ap (λ x. map f (filter p (filter q (x ∷ drop (i + 1) xs)))) (sym is)
-      ∙ ap (λ b. map f (filter p (cond b (e ∷ rest) rest))) kept
-      ∙ ap (λ b. map f (cond b (e ∷ filter p rest) (filter p rest))) passes))
+    at_drop_more (λ zs. map f (filter p (filter q zs))) xs i e h
+    ∙ ap (λ x. map f (filter p (filter q (x ∷ drop (i + 1) xs)))) (sym is)
+    ∙ ap (λ b. map f (filter p (cond b (e ∷ rest) rest))) kept
+    ∙ ap (λ b. map f (cond b (e ∷ filter p rest) (filter p rest))) passes))
 
 pub append-nil : {X : Type 0} (xs : List X) → xs ++ [] ≡ xs
 append-nil [] = refl

@@ -90,9 +90,9 @@ module _ {E : Type 0} where
             | true ↦ λ above. elim (nat_lt (rank (stamp e)) purge) as (λ d. nat_lt (rank (stamp e)) purge ≡ d → not d ≡ true) [
               | true ↦ λ in_rank. absurd (omega (arith, lt-from s (stamp e) above, low (ap (λ b. not b && nat_lt (rank (stamp e)) purge) is ∙ in_rank)))
               | false ↦ λ _. refl
-              ] refl
-            | false ↦ λ under. ap not (below 0 (rank (stamp e)) (rank (stamp first)) purge (count-monotone t stamp es (stamp e) (stamp first) (omega (arith, lt-or-le s (stamp e) under))) (ranked first gone))
             ] refl
+            | false ↦ λ under. ap not (below 0 (rank (stamp e)) (rank (stamp first)) purge (count-monotone t stamp es (stamp e) (stamp first) (omega (arith, lt-or-le s (stamp e) under))) (ranked first gone))
+          ] refl
         ] refl
 
     all_at_limit : (s : ℕ) (first : E) → goes first ≡ true → s ≤ stamp first → (xs : List E) → AllByRecursion (λ e. goes e ≡ true → stamp e ≤ s) xs → AllByRecursion (λ e. not (goes e) ≡ t e || nat_lt s (stamp e)) xs

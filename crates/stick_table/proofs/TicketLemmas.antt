@@ -35,7 +35,7 @@ lt-not_le a b h = grind (arith, nat_tests)
 pub track-stored : (state : State) (key : Key) (slot : ℕ) (records : List (Key × Record)) → length state.tickets < state.spec.max_refs
     → stored_in state.spec state.tickets state.records key (connected state key) ≡ Some records
     → let ticket : Ticket = record { number = state.events; slot = slot } in
-      track state key slot ≡ (Tracked ticket (row_of state.spec.columns state.clock (refs key state.tickets + 1) key (connected state key)), record state { records = records; tickets = state.tickets ++ (ticket, key) ∷ [] })
+    track state key slot ≡ (Tracked ticket (row_of state.spec.columns state.clock (refs key state.tickets + 1) key (connected state key)), record state { records = records; tickets = state.tickets ++ (ticket, key) ∷ [] })
 track-stored state key slot records left room =
     let kept : Record = connected state key in
     let ticket : Ticket = record { number = state.events; slot = slot } in
@@ -57,7 +57,7 @@ count-found old now ticket act key clock live records told clock_is live_is out 
     let z : Record = zero_record old.spec.columns in
     let lives : live ≡ state.records = live_is ∙ ap (λ t. filter (stays t old.tickets) old.records) clock_is in
     let acts : ℕ → List (Key × Record) → List (Key × Record) =
-        λ c es. set_value (same_key key) es (record (unwrap_or (record_at key es) z) { values = acted (unwrap_or (record_at key es) z).values c act }) in
+    λ c es. set_value (same_key key) es (record (unwrap_or (record_at key es) z) { values = acted (unwrap_or (record_at key es) z).values c act }) in
     let says_at : ℕ → List (Key × Record) → Option ℕ = λ c es. option_and_then (λ (kept : Record). answer kept.values c act) (record_at key es) in
     let records_are : acts state.clock state.records ≡ records = (λ i. acts (sym clock_is i) (sym lives i)) ∙ after z in
     let told_is : says_at state.clock state.records ≡ told = sym (says ∙ (λ i. says_at (clock_is i) (lives i))) in

@@ -8,6 +8,7 @@ mod tables;
 
 pub use plain::PlainTable;
 pub use running::run;
-pub use table_model::laws;
-pub use table_model::{Cell, Cells, Event, Filter, Op, Record, Refusal, Reply, Row, Rows, Spec, Stored, Ticket};
+pub use table_model::{
+    Cell, Cells, Event, Filter, Op, Record, Refusal, Reply, Row, Rows, Spec, Stored, Ticket, laws,
+};
 pub use tables::Table;

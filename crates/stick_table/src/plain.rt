@@ -60,7 +60,8 @@ impl PlainTable {
         ensures { result ≡ is_event_out self.now event.now }
     {
         match event {
-            Event::Look(_, ticket) | Event::Count(_, ticket, _) | Event::Release(_, ticket) => find_key(&self.tickets, *ticket).is_some(),
+            Event::Look(_, ticket) | Event::Count(_, ticket, _) | Event::Release(_, ticket) =>
+                find_key(&self.tickets, *ticket).is_some(),
             _ => true,
         }
     }
@@ -202,7 +203,14 @@ impl PlainTable {
         ensures err { OnErr result (self.new ≡ self.old) }
     {
         let clock = self.clock.max(now);
-        let mut values = live_values(self.alloc, &self.spec.columns, &self.records, &self.tickets, clock, key)?;
+        let mut values = live_values(
+            self.alloc,
+            &self.spec.columns,
+            &self.records,
+            &self.tickets,
+            clock,
+            key,
+        )?;
         put_pairs(&mut values, pairs);
         let entry_key = key.copy()?;
         self.records.reserve(1)?;
@@ -212,8 +220,18 @@ impl PlainTable {
         drop_dead(&mut self.records, &self.tickets, clock);
         let created = find(&self.records, key).is_none();
         let date = date_after(self.spec.expire, clock);
-        let found = Record { stamp, date, values };
-        if !store(&mut self.records, &self.tickets, &self.spec, entry_key, found) {
+        let found = Record {
+            stamp,
+            date,
+            values,
+        };
+        if !store(
+            &mut self.records,
+            &self.tickets,
+            &self.spec,
+            entry_key,
+            found,
+        ) {
             return Ok(Reply::Full);
         }
         Ok(Reply::Written { created })
@@ -261,7 +279,14 @@ impl PlainTable {
             Some(datum) => Ok(Reply::NotStored(datum)),
             None => {
                 let used = count_live(&self.records, &self.tickets, clock) as u64;
-                let rows = list_rows(self.alloc, &self.spec.columns, &self.records, &self.tickets, clock, choice)?;
+                let rows = list_rows(
+                    self.alloc,
+                    &self.spec.columns,
+                    &self.records,
+                    &self.tickets,
+                    clock,
+                    choice,
+                )?;
                 Ok(Reply::Rows { used, rows })
             }
         }
@@ -337,7 +362,13 @@ impl PlainTable {
         self.clock = clock;
         self.events = number;
         drop_dead(&mut self.records, &self.tickets, clock);
-        if !store(&mut self.records, &self.tickets, &self.spec, entry_key, found) {
+        if !store(
+            &mut self.records,
+            &self.tickets,
+            &self.spec,
+            entry_key,
+            found,
+        ) {
             return Ok(Reply::Full);
         }
         let ticket = Ticket { number, slot };
@@ -352,11 +383,22 @@ impl PlainTable {
         ensures { IfOk result (λ found. found ≡ connected_record (begun self.now now) key.now) }
     {
         let clock = self.clock.max(now);
-        let mut values = live_values(self.alloc, &self.spec.columns, &self.records, &self.tickets, clock, key)?;
+        let mut values = live_values(
+            self.alloc,
+            &self.spec.columns,
+            &self.records,
+            &self.tickets,
+            clock,
+            key,
+        )?;
         let _ = values.act(clock, Act::Connection);
         let stamp = self.events + 1;
         let date = date_after(self.spec.expire, clock);
-        Ok(Record { stamp, date, values })
+        Ok(Record {
+            stamp,
+            date,
+            values,
+        })
     }
 
     /// The row of a key that has one more reference.
@@ -366,7 +408,14 @@ impl PlainTable {
         ensures { IfOk result (λ row. row ≡ row_of self.now.spec.columns (max self.now.clock now) (refs key.now self.now.tickets + 1) key.now found.now) }
     {
         let refs = count_refs(&self.tickets, key) as u32 + 1;
-        make_row(self.alloc, &self.spec.columns, self.clock.max(now), refs, key, found)
+        make_row(
+            self.alloc,
+            &self.spec.columns,
+            self.clock.max(now),
+            refs,
+            key,
+            found,
+        )
     }
 }
 

@@ -10,7 +10,11 @@ use std::alloc::Global;
 use table_model::{Event, Refusal, Reply};
 
 /// The replies to events, one after another. It ends at the first refusal; the events before it stand.
-pub fn run<T: Table>(alloc: Global, table: &mut T, events: &[Event]) -> Result<Sequence<Reply>, Refusal>
+pub fn run<T: Table>(
+    alloc: Global,
+    table: &mut T,
+    events: &[Event],
+) -> Result<Sequence<Reply>, Refusal>
     requires { All IsTableEvent events.now }
     ensures { IfOk result (λ replies. Run (T.state table.old) events.now replies (T.state table.new)) }
 {

@@ -22,7 +22,10 @@ fn main(rt: HostRuntime) -> Result<ExitCode> {
 }
 
 /// What the program can be asked.
-fn read_command_line<'a>(alloc: Global, words: &'a [String]) -> std::result::Result<ArgMatches<'a>, Error> {
+fn read_command_line<'a>(
+    alloc: Global,
+    words: &'a [String],
+) -> std::result::Result<ArgMatches<'a>, Error> {
     let replay = Command::new(alloc, "replay")
         .about("Replay a timed script of commands on standard input")
         .after_help(

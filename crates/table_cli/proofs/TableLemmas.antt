@@ -34,7 +34,7 @@ asked_at {T} state moment form name tables place was now text asked within is fo
     let placed : place_of name (map f tables) ≡ Some place = position-map (λ (table : NamedState). bytes_eq table.name name) f tables ∙ sym found in
     let at : f was ≡ get_or (map f tables) place (f was) = ap f is ∙ sym (get_or-map f tables place was (f was) within) in
     let after : map f (set tables place now) ≡ set (map f tables) place (record { name = was.name; state = state now.table }) =
-        map-set f tables place now ∙ ap (λ n. set (map f tables) place (record { name = n; state = state now.table })) same in
+    map-set f tables place now ∙ ap (λ n. set (map f tables) place (record { name = n; state = state now.table })) same in
     subst (λ o. AsksOf moment form o (map f tables) text (map f (set tables place now))) (sym placed) (f was, state now.table, asked, at, asks, does, after)
 
 -- there is no table of the name

@@ -74,8 +74,8 @@ form_of [] = Nothing
 form_of (verb ∷ []) = Unknown
 form_of (verb ∷ noun ∷ rest) =
     if bytes_eq noun (codes "table") then
-      (if bytes_eq verb (codes "show") then show_of rest
-      else (if bytes_eq verb (codes "clear") then clear_of rest
-      else (if bytes_eq verb (codes "set") then set_of rest
-      else Unknown)))
+    (if bytes_eq verb (codes "show") then show_of rest
+    else (if bytes_eq verb (codes "clear") then clear_of rest
+    else (if bytes_eq verb (codes "set") then set_of rest
+    else Unknown)))
     else Unknown

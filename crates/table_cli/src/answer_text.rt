@@ -26,7 +26,12 @@ pub enum Answer {
 
 impl Answer {
     /// What a table's reply is answered.
-    pub fn to_reply(alloc: Global, table: &[u8], spec: &Spec, reply: &Reply) -> Result<Answer, NoMemory>
+    pub fn to_reply(
+        alloc: Global,
+        table: &[u8],
+        spec: &Spec,
+        reply: &Reply,
+    ) -> Result<Answer, NoMemory>
         ensures { IfOk result (λ answer. bytes_of answer ≡ reply_text table.now spec.now reply.now) }
     {
         match reply {
@@ -63,7 +68,13 @@ fn cleared(kept: u64) -> Answer
     Answer::Message(Message::InUse)
 }
 
-fn listing(alloc: Global, table: &[u8], spec: &Spec, used: u64, rows: &[Row]) -> Result<Answer, NoMemory>
+fn listing(
+    alloc: Global,
+    table: &[u8],
+    spec: &Spec,
+    used: u64,
+    rows: &[Row],
+) -> Result<Answer, NoMemory>
     ensures { IfOk result (λ answer. bytes_of answer
         ≡ header_text table.now spec.now.kind spec.now.size used ++ flat_map (row_text spec.now.kind spec.now.columns) rows.now ++ codes "\n") }
 {

@@ -92,7 +92,11 @@ fn read_choice(mut rest: Words<'_>) -> Option<Choice<'_>>
         return None;
     };
     let Some(value) = rest.next() else {
-        return if word == b"key".as_slice() { Some(Choice::Key(second)) } else { None };
+        return if word == b"key".as_slice() {
+            Some(Choice::Key(second))
+        } else {
+            None
+        };
     };
     if rest.next().is_some() {
         return None;

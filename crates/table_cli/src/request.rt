@@ -108,7 +108,13 @@ fn read_cells(alloc: Global, text: &[u8]) -> Result<Cells, Message>
     Ok(cells)
 }
 
-fn read_put(alloc: Global, kind: KeyType, moment: u64, key: &[u8], pairs: &[u8]) -> Result<Event, Message>
+fn read_put(
+    alloc: Global,
+    kind: KeyType,
+    moment: u64,
+    key: &[u8],
+    pairs: &[u8],
+) -> Result<Event, Message>
     requires { moment < 2 ^ 62 }
     ensures put { ReadsPut kind moment key.now (words_of pairs.now) result }
     ensures event { IfOk result IsTableEvent }
@@ -123,7 +129,12 @@ fn read_put(alloc: Global, kind: KeyType, moment: u64, key: &[u8], pairs: &[u8])
     }
 }
 
-fn read_clear(alloc: Global, kind: KeyType, moment: u64, choice: Choice<'_>) -> Result<Event, Message>
+fn read_clear(
+    alloc: Global,
+    kind: KeyType,
+    moment: u64,
+    choice: Choice<'_>,
+) -> Result<Event, Message>
     requires { moment < 2 ^ 62 }
     ensures clear { (table : List ℕ) → Asks kind moment (spec.Clear table (seen_choice choice.entry)) result }
     ensures event { IfOk result IsTableEvent }
@@ -141,7 +152,12 @@ fn read_clear(alloc: Global, kind: KeyType, moment: u64, choice: Choice<'_>) -> 
 }
 
 /// The event that a form makes of a table.
-pub fn read_event(alloc: Global, kind: KeyType, moment: u64, form: Form<'_>) -> Result<Event, Message>
+pub fn read_event(
+    alloc: Global,
+    kind: KeyType,
+    moment: u64,
+    form: Form<'_>,
+) -> Result<Event, Message>
     requires words { seen form ≢ spec.Nothing }
     requires moment { moment < 2 ^ 62 }
     ensures asks { Asks kind moment (seen form.entry) result }

@@ -29,7 +29,9 @@ fn place_of<T: Table>(tables: &[Named<T>], name: &[u8]) -> Option<usize>
     ensures place { result ≡ position (λ table. bytes_eq table.name name.now) tables.now }
     ensures within { IfSome result (λ place. place < length tables.now) }
 {
-    tables.iter().position(|table| table.name.as_slice() == name)
+    tables
+        .iter()
+        .position(|table| table.name.as_slice() == name)
 }
 
 /// Makes an event of a table, and answers its reply.
@@ -62,7 +64,13 @@ fn ask_table<T: Table>(alloc: Global, named: &mut Named<T>, moment: u64, form: F
 }
 
 /// Does what a form asks of the table of a name.
-fn ask_named<T: Table>(alloc: Global, tables: &mut [Named<T>], moment: u64, form: Form<'_>, name: &[u8]) -> Answer
+fn ask_named<T: Table>(
+    alloc: Global,
+    tables: &mut [Named<T>],
+    moment: u64,
+    form: Form<'_>,
+    name: &[u8],
+) -> Answer
     requires words { seen form ≢ spec.Nothing }
     requires moment { moment < 2 ^ 62 }
     ensures { AsksOf moment (seen form.entry) (specified_place name.now (states_of T.state tables.old)) (states_of T.state tables.old) (bytes_of result) (states_of T.state tables.new) }
@@ -89,7 +97,13 @@ fn perform<T: Table>(alloc: Global, tables: &mut [Named<T>], moment: u64, comman
 }
 
 /// Serves one command. All that it changes is changed before the first byte of its answer.
-fn answer_command<T: Table, W: Sink>(alloc: Global, tables: &mut [Named<T>], moment: u64, command: &[u8], writer: &mut W) -> Result<(), Failed>
+fn answer_command<T: Table, W: Sink>(
+    alloc: Global,
+    tables: &mut [Named<T>],
+    moment: u64,
+    command: &[u8],
+    writer: &mut W,
+) -> Result<(), Failed>
     requires { moment < 2 ^ 62 }
     ensures answer { (text : List ℕ) × Answers moment (states_of T.state tables.old) command.now text (states_of T.state tables.new)
         × MatchResult result (λ _. Grows W.tells (W.written writer.old) (W.written writer.new) text)
@@ -106,7 +120,13 @@ fn answer_command<T: Table, W: Sink>(alloc: Global, tables: &mut [Named<T>], mom
 
 /// Serves the commands of a line at a moment in ms, and writes their answers. Where the writer fails, the events of
 /// the command in hand stand, and what was written is a front of what the line could have been answered.
-pub fn answer<T: Table, W: Sink>(alloc: Global, tables: &mut [Named<T>], moment: u64, line: &[u8], writer: &mut W) -> Result<(), Failed>
+pub fn answer<T: Table, W: Sink>(
+    alloc: Global,
+    tables: &mut [Named<T>],
+    moment: u64,
+    line: &[u8],
+    writer: &mut W,
+) -> Result<(), Failed>
     requires { moment < 2 ^ 62 }
     ensures answer { OnOk result ((text : List ℕ) × AnswersLine moment (states_of T.state tables.old) line.now text (states_of T.state tables.new)
         × Grows W.tells (W.written writer.old) (W.written writer.new) text) }

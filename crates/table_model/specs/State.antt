@@ -66,7 +66,7 @@ row_of columns clock count key found = record {
   key = key;
   refs = count;
   left = unwrap_or found.date 0 - clock;
-  cells = map (shown clock count found) columns
+  cells = map (shown clock count found) columns;
 }
 
 abbrev pub row : State → Key → Record → Row

@@ -123,9 +123,10 @@ clear state key =
 -- the untracked that match are gone; it tells how many they were, and how many tracked ones match
 abbrev pub cleared : State → Filter → Outcome
 cleared state choice =
-    let matched = is_matched state.clock state.tickets choice in
-    (Cleared (count_by (matched false) state.records) (count_by (matched true) state.records),
-    record state { records = filter (λ entry. not (matched false entry)) state.records })
+    let matched = is_matched state.clock state.tickets choice in (
+      Cleared (count_by (matched false) state.records) (count_by (matched true) state.records),
+      record state { records = filter (λ entry. not (matched false entry)) state.records },
+    )
 
 abbrev pub clear_where : State → Filter → Outcome
 clear_where state choice = option_map_or {U = Outcome} (λ datum. (NotStored datum, state)) (not_stored state.spec.columns choice) (cleared state choice)

@@ -19,10 +19,7 @@ pub enum Reply {
     /// There is no room for a new entry.
     Full,
     /// The new reference, and what is shown of its entry.
-    Tracked {
-        ticket: Ticket,
-        row: Row,
-    },
+    Tracked { ticket: Ticket, row: Row },
     /// What the act answered.
     Value(Option<u64>),
     Released,
@@ -31,22 +28,14 @@ pub enum Reply {
     /// The table doesn't store the datum.
     NotStored(Datum),
     /// The data are set, in an entry that was made for them or was there.
-    Written {
-        created: bool,
-    },
+    Written { created: bool },
     /// The entry has references.
     InUse,
     Removed,
     /// How many matched and were removed, and how many matched and were tracked.
-    Cleared {
-        removed: u64,
-        kept: u64,
-    },
+    Cleared { removed: u64, kept: u64 },
     /// How many entries there are, and what is shown of those that match.
-    Rows {
-        used: u64,
-        rows: Rows,
-    },
+    Rows { used: u64, rows: Rows },
     /// How many entries' dates were reached.
     Expired(u64),
 }

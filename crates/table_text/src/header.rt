@@ -21,7 +21,13 @@ pub fn kind_word(kind: KeyType) -> &'static str
 }
 
 /// Appends a table's header: its name, what its keys are, its whole size and how many entries it has.
-pub fn push_header(text: &mut Vec<u8>, table: &[u8], kind: KeyType, size: u64, used: u64) -> Result<(), NoMemory>
+pub fn push_header(
+    text: &mut Vec<u8>,
+    table: &[u8],
+    kind: KeyType,
+    size: u64,
+    used: u64,
+) -> Result<(), NoMemory>
     ensures { OnOk result (text.new.items ≡ text.old.items ++ header_text table.now kind size used) }
 {
     text.extend_from_slice(b"# table: ")?;

@@ -58,7 +58,13 @@ fn push_cells(text: &mut Vec<u8>, columns: &[Column], cells: &[Cell]) -> Result<
 }
 
 /// Appends a row: its key, its references, what is left of its life in ms, and its data.
-fn push_row(alloc: Global, text: &mut Vec<u8>, kind: KeyType, columns: &[Column], row: &Row) -> Result<(), NoMemory>
+fn push_row(
+    alloc: Global,
+    text: &mut Vec<u8>,
+    kind: KeyType,
+    columns: &[Column],
+    row: &Row,
+) -> Result<(), NoMemory>
     ensures { OnOk result (text.new.items ≡ text.old.items ++ row_text kind columns.now row.now) }
 {
     let key = write_key(alloc, kind, &row.key)?;
@@ -74,7 +80,13 @@ fn push_row(alloc: Global, text: &mut Vec<u8>, kind: KeyType, columns: &[Column]
 }
 
 /// Appends rows, each a line.
-pub fn push_rows(alloc: Global, text: &mut Vec<u8>, kind: KeyType, columns: &[Column], rows: &[Row]) -> Result<(), NoMemory>
+pub fn push_rows(
+    alloc: Global,
+    text: &mut Vec<u8>,
+    kind: KeyType,
+    columns: &[Column],
+    rows: &[Row],
+) -> Result<(), NoMemory>
     ensures { OnOk result (text.new.items ≡ text.old.items ++ flat_map (row_text kind columns.now) rows.now) }
 {
     for row in rows {

@@ -3,13 +3,18 @@ ghost use Rattle.std.specs.Prelude.{◌≡◌, ◌<◌, ◌^◌, filter, not, co
 ghost use Rattle.table_model.specs.declared.replies.Reply.TheVariants.{Cleared};
 ghost use Rattle.table_model.specs.Filters.{passes as passes_filter, not_stored as not_stored_in, compares as compares_by, is_matched};
 
-use crate::plain::tickets::{count_refs, is_tracked};
 use crate::plain::records::is_same;
+use crate::plain::tickets::{count_refs, is_tracked};
 use stick_key::StickKey;
 use stored_data::{Datum, StoredSet};
 use table_model::{Filter, Op, Record, Reply, Ticket};
 
-pub fn passes(tickets: &[(Ticket, StickKey)], clock: u64, choice: &Filter, entry: &(StickKey, Record)) -> bool
+pub fn passes(
+    tickets: &[(Ticket, StickKey)],
+    clock: u64,
+    choice: &Filter,
+    entry: &(StickKey, Record),
+) -> bool
     requires clock { clock < 2 ^ 62 }
     ensures { result ≡ passes_filter clock tickets.now choice.now entry.now }
 {
@@ -18,7 +23,11 @@ pub fn passes(tickets: &[(Ticket, StickKey)], clock: u64, choice: &Filter, entry
         Filter::Nothing => false,
         Filter::Key(key) => is_same(key, &entry.0),
         Filter::Compare(datum, op, bound) => {
-            let value = entry.1.values.get(*datum, clock).unwrap_or(count_refs(tickets, &entry.0) as u64);
+            let value = entry
+                .1
+                .values
+                .get(*datum, clock)
+                .unwrap_or(count_refs(tickets, &entry.0) as u64);
             compares(*op, value, *bound)
         }
     }

@@ -95,10 +95,17 @@ pub fn live_values(
     }
 }
 
-pub fn count_live(records: &[(StickKey, Record)], tickets: &[(Ticket, StickKey)], clock: u64) -> usize
+pub fn count_live(
+    records: &[(StickKey, Record)],
+    tickets: &[(Ticket, StickKey)],
+    clock: u64,
+) -> usize
     ensures { result ≡ length (filter (stays clock tickets.now) records.now) }
 {
-    records.iter().filter(|entry| is_live(tickets, clock, entry)).count()
+    records
+        .iter()
+        .filter(|entry| is_live(tickets, clock, entry))
+        .count()
 }
 
 /// The place of the first key that isn't below the key.
@@ -167,7 +174,12 @@ pub fn touch(records: &mut [(StickKey, Record)], key: &StickKey, stamp: u64, dat
 }
 
 /// Does an act on the data of a key's record.
-pub fn act_at(records: &mut [(StickKey, Record)], key: &StickKey, clock: u64, act: Act) -> Option<u64>
+pub fn act_at(
+    records: &mut [(StickKey, Record)],
+    key: &StickKey,
+    clock: u64,
+    act: Act,
+) -> Option<u64>
     requires clock { clock < 2 ^ 62 }
     ensures records { (z : Record) → set_value (same_key key.now) records.old
         (record (unwrap_or (record_at key.now records.old) z) { values = acted (unwrap_or (record_at key.now records.old) z).values clock act }) ≡ records.new }

@@ -4,8 +4,8 @@ ghost use Rattle.std.specs.Bool.{OnFalse};
 ghost use Rattle.table_model.specs.Room.{count_older as count_older_of, is_purged as is_purged_entry, purged, all_tracked as are_all_tracked, room_in, stored_in};
 ghost use Rattle.stick_table.specs.Purging.{purge_limit as purge_limit_of};
 
-use crate::plain::tickets::is_tracked;
 use crate::plain::records::{find, put_record};
+use crate::plain::tickets::is_tracked;
 use stick_key::StickKey;
 use table_model::{Record, Spec, Ticket};
 

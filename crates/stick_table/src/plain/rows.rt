@@ -3,9 +3,9 @@ ghost use Rattle.std.specs.Prelude.{◌≡◌, ◌≤◌, ◌<◌, ◌^◌, leng
 ghost use Rattle.table_model.specs.State.{row_of};
 ghost use Rattle.stick_table.specs.Replies.{listed_rows};
 
-use crate::plain::tickets::count_refs;
-use crate::plain::records::is_live;
 use crate::plain::filters::passes;
+use crate::plain::records::is_live;
+use crate::plain::tickets::count_refs;
 use sequence::{NoMemory, Sequence};
 use std::alloc::Global;
 use stick_key::StickKey;
@@ -27,7 +27,10 @@ pub fn make_row(
     let key = key.copy()?;
     let mut cells = Vec::new(alloc);
     for column in columns.columns() {
-        let value = found.values.get(column.datum, clock).unwrap_or(u64::from(refs));
+        let value = found
+            .values
+            .get(column.datum, clock)
+            .unwrap_or(u64::from(refs));
         cells.push(Cell {
             datum: column.datum,
             value,

@@ -8,9 +8,12 @@ pub loop-part-init : goal.loop-part-init
 loop-part-init g c =
     let first = c.in-Some.ensures in
     record {
-      going = λ old whole output count p. ([], λ shown. sym (append-nil _),
-          progress_along g.L.LineServer.says old _ _ _ _ count _ output _ (search rules) (sym (append-nil output))
-            (progress_piece g.L.LineServer.says old _ whole _ _ _ _ _ count output (sym c.new-parts.ensures.parts ∙ first) c.extend.ensures.stands p));
+      going = λ old whole output count p. (
+        [],
+        λ shown. sym (append-nil _),
+        progress_along g.L.LineServer.says old _ _ _ _ count _ output _ (search rules) (sym (append-nil output))
+            (progress_piece g.L.LineServer.says old _ whole _ _ _ _ _ count output (sym c.new-parts.ensures.parts ∙ first) c.extend.ensures.stands p),
+      );
       bound = omega (arith, ap length first, c.new-parts.ensures.few);
       failures = refl;
     }
@@ -27,7 +30,7 @@ loop-part-preserved g c =
             at.0 ++ here.0,
             grown_twice _ _ _ _ _ _ at.1 here.2,
             progress_along L.says old _ _ _ _ _ _ _ _ (omega arith) (append_assoc output at.0 here.0)
-              (progress_line L.says old _ _ _ _ _ _ _ _ _ _
+                (progress_line L.says old _ _ _ _ _ _ _ _ _ _
                 (subst (λ (ls : List (List ℕ)). Progress {S = L.State} L.says old (whole ++ c.args.piece.now) ls c.loop-part.line (count + c.loop-part.served) (output ++ at.0) (L.state c.loop-part.server)) next at.2)
                 said (c.extend-in-Some-next.ensures.stands [] c.clear.ensures)),
           );
@@ -44,7 +47,7 @@ returns-in-Err-clause-served g c = λ old whole output count p.
       at.0 ++ here.0,
       grown_twice _ _ _ _ _ _ at.1 here.2,
       stops_along L.says L.stops old _ _ _ _ _ refl (append_assoc output at.0 here.0)
-        (stops_within L.says L.stops old _ _ _ _ _ _ _ at.2 stopped),
+          (stops_within L.says L.stops old _ _ _ _ _ _ _ at.2 stopped),
     )
 
 pub returns-clause-served : goal.returns-clause-served

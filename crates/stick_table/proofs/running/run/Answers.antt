@@ -13,15 +13,15 @@ loop-event-preserved g c = λ rest new more.
     let i = c.loop-event.event-index in
     let reply = c.in_ok-reply.reply in
     let split : drop i events ≡ c.event-item.result ∷ drop (i + 1) events =
-        at_drop_more (λ xs. xs) events i c.event-item.result c.loop-event-test.true ∙ ap (λ e. e ∷ drop (i + 1) events) (sym c.event-item.is) in
+    at_drop_more (λ xs. xs) events i c.event-item.result c.loop-event-test.true ∙ ap (λ e. e ∷ drop (i + 1) events) (sym c.event-item.is) in
     let longer = c.loop-event.invariant (reply ∷ rest) new (subst (λ (es : List Event). Run (state c.loop-event.table) es (reply ∷ rest) new) (sym split) (state c.step.new.self, c.in_ok-reply.ensures.ok, more)) in
     let joined : c.push.new.self ++ rest ≡ c.loop-event.replies ++ reply ∷ rest =
-        ap (λ rs. rs ++ rest) c.in-Ok.ensures.ok ∙ append_assoc c.loop-event.replies (reply ∷ []) rest in
+    ap (λ rs. rs ++ rest) c.in-Ok.ensures.ok ∙ append_assoc c.loop-event.replies (reply ∷ []) rest in
     subst (λ (rs : List Reply). Run (state c.args.table.now) events rs new) (sym joined) longer
 
 pub returns : goal.returns
 returns g c =
     let state = g.T.Table.state in
     let done = c.loop-event.invariant [] (state c.loop-event.table)
-        (subst (λ (es : List Event). Run (state c.loop-event.table) es [] (state c.loop-event.table)) (sym (at_drop_all (λ xs. xs) c.args.events.now c.loop-event.event-index c.loop-event-test.false)) refl) in
+    (subst (λ (es : List Event). Run (state c.loop-event.table) es [] (state c.loop-event.table)) (sym (at_drop_all (λ xs. xs) c.args.events.now c.loop-event.event-index c.loop-event-test.false)) refl) in
     subst (λ (rs : List Reply). Run (state c.args.table.now) c.args.events.now rs (state c.loop-event.table)) (append-nil c.loop-event.replies) done

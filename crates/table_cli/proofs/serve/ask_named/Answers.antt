@@ -9,7 +9,7 @@ returns-in-Some g c =
     let here = c.index-tables-place in
     let did = c.ask_table.ensures.does in
     asked_at g.T.Table.state c.args.moment _ c.args.name.now tables place (get_or tables place here.result) c.ask_table.new.named _ did.0
-      c.in-Some.ensures.within (ap (λ d. get_or tables place d) here.is) c.in-Some.ensures.place c.ask_table.ensures.name did.1 did.2
+    c.in-Some.ensures.within (ap (λ d. get_or tables place d) here.is) c.in-Some.ensures.place c.ask_table.ensures.name did.1 did.2
 
 pub returns-in-None : goal.returns-in-None
 returns-in-None g c = no_table g.T.Table.state c.args.moment _ c.args.name.now c.args.tables.now c.in-None.ensures.place

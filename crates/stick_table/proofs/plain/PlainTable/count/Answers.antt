@@ -20,5 +20,5 @@ returns-in-Some c =
     let refill : (with_items c.drop_dead.new.records c.act_at.new.records).items ≡ c.act_at.new.records = grind (arith, common_steps) in
     ap (λ s. count (begun s c.args.now) c.args.ticket c.args.act) (sym c.self.view_is)
     ∙ count-found old c.args.now c.args.ticket c.args.act c.in-Some.key.now c.max-clock.result c.drop_dead.new.records.items c.act_at.new.records c.act_at.result
-        c.max-clock.ensures live (sym out) after told
+    c.max-clock.ensures live (sym out) after told
     ∙ ap (λ (rs : List (Key × Record)). let outcome : Outcome = (Value c.act_at.result, record old { clock = c.max-clock.result; events = fields.events + 1; records = rs }) in outcome) (sym refill)

@@ -21,7 +21,7 @@ returns-clause-ok c =
     let the_row = shown ∙ ap (row_of fields.spec.columns state.clock (refs key fields.tickets.items + 1) key) found in
     let tickets = rw (c.reserve-2.ensures.items, c.in_ok-ticket_key.ensures.equal) at c.push_ticket.ensures.items in
     rw (← c.self.view_is) (
-      track-stored state key c.args.slot c.store.new.records.items left room
-      ∙ ap (λ (r : Row). let outcome : Outcome = (Tracked ticket r, record state { records = c.store.new.records.items; tickets = fields.tickets.items ++ (ticket, key) ∷ [] }) in outcome) (sym the_row)
-      ∙ ap (λ (ts : List (Ticket × Key)). let outcome : Outcome = (Tracked ticket c.in_ok-row.row, record state { records = c.store.new.records.items; tickets = ts }) in outcome) (sym tickets)
-      ∙ ap (λ clock. let outcome : Outcome = (Tracked ticket c.in_ok-row.row, record state { clock = clock; records = c.store.new.records.items; tickets = c.push_ticket.new.tickets.items }) in outcome) (sym c.max-clock.ensures))
+    track-stored state key c.args.slot c.store.new.records.items left room
+    ∙ ap (λ (r : Row). let outcome : Outcome = (Tracked ticket r, record state { records = c.store.new.records.items; tickets = fields.tickets.items ++ (ticket, key) ∷ [] }) in outcome) (sym the_row)
+    ∙ ap (λ (ts : List (Ticket × Key)). let outcome : Outcome = (Tracked ticket c.in_ok-row.row, record state { records = c.store.new.records.items; tickets = ts }) in outcome) (sym tickets)
+    ∙ ap (λ clock. let outcome : Outcome = (Tracked ticket c.in_ok-row.row, record state { clock = clock; records = c.store.new.records.items; tickets = c.push_ticket.new.tickets.items }) in outcome) (sym c.max-clock.ensures))

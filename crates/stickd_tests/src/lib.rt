@@ -1,0 +1,7 @@
+//! Tests that cross the crates: worked examples, refusals, and devices that fail.
+#![tactic(auto)]
+
+#[cfg(test)]
+mod replays;
+#[cfg(test)]
+mod tables;
