@@ -1,11 +1,14 @@
 //! Scripts, replayed over memory.
 
+ghost use Rattle.std.specs.Prelude.{◌<◌};
+
 use byte_ports::{MemorySink, MemorySource};
 use script::{FaultKind, ReplayFault, built_in_setup, replay_script};
 use std::alloc::{AllocError, Global};
 use std::test::Fail;
 
 /// What a script writes, and why it stopped.
+#[derive(Drop)]
 struct Replayed {
     result: Result<(), ReplayFault>,
     written: Vec<u8>,
@@ -59,15 +62,24 @@ static SCRIPTS: [(&[u8], &[u8]); 20] = [
         b"Invalid value.\n\n",
     ),
     (b"0 cmd clear table t key 10.0.0.1", b"Key not present.\n\n"),
-    (b"0 cmd show table t\r\n", b"# table: t, type: ip, size:100, used:0\n\n"),
+    (
+        b"0 cmd show table t\r\n",
+        b"# table: t, type: ip, size:100, used:0\n\n",
+    ),
     (b"0 cmd ; ;", b""),
-    (b"0\tcmd show table t\n \n0 cmd\tshow table t\n", b"bad line\nbad line\nbad line\n"),
+    (
+        b"0\tcmd show table t\n \n0 cmd\tshow table t\n",
+        b"bad line\nbad line\nbad line\n",
+    ),
     (b"4611686018427387904 cmd show table t", b"bad line\n"),
     (
         b"4611686018427387903 cmd show table t",
         b"# table: t, type: ip, size:100, used:0\n\n",
     ),
-    (b"0 cmd;show table t\n0 Cmd show table t\n", b"bad line\nbad line\n"),
+    (
+        b"0 cmd;show table t\n0 Cmd show table t\n",
+        b"bad line\nbad line\n",
+    ),
     (
         b"0 cmd show table t;show table;show table t",
         b"# table: t, type: ip, size:100, used:0\n\nUnknown command.\n\n# table: t, type: ip, size:100, used:0\n\n",
@@ -92,7 +104,8 @@ const FIRST_LINE: usize = 43;
 
 const FIRST_ANSWER: &[u8] = b"\n";
 
-const LISTING: &[u8] = b"# table: t, type: ip, size:100, used:1\n0x0: key=10.0.0.1 use=0 exp=0 gpc0=5\n\n";
+const LISTING: &[u8] =
+    b"# table: t, type: ip, size:100, used:1\n0x0: key=10.0.0.1 use=0 exp=0 gpc0=5\n\n";
 
 /// Up to which length a front of the first line is answered so.
 static FIRST_FRONTS: [(usize, &[u8]); 8] = [
@@ -137,7 +150,10 @@ fn every_front_of_a_script_is_served(rt: HostRuntime) -> Result<(), Fail> {
         let (first, second) = if length <= FIRST_LINE {
             (answer_to_front(&FIRST_FRONTS, length), b"".as_slice())
         } else {
-            (FIRST_ANSWER, answer_to_front(&SECOND_FRONTS, length - FIRST_LINE))
+            (
+                FIRST_ANSWER,
+                answer_to_front(&SECOND_FRONTS, length - FIRST_LINE),
+            )
         };
         assert!(rt; is_joined(&replayed.written, first, second));
     }
@@ -172,7 +188,11 @@ fn a_reader_that_fails_has_served_the_lines_before(rt: HostRuntime) -> Result<()
             done,
         };
         assert!(rt; replayed.result == Err(wanted));
-        let text = if limit < FIRST_LINE { b"".as_slice() } else { FIRST_ANSWER };
+        let text = if limit < FIRST_LINE {
+            b"".as_slice()
+        } else {
+            FIRST_ANSWER
+        };
         assert!(rt; replayed.written.as_slice() == text);
     }
     Ok(())
@@ -194,7 +214,10 @@ fn a_line_that_is_too_long_is_one_bad_line(rt: HostRuntime) -> Result<(), Fail> 
         let script = long_line(rt.alloc(), length)?;
         let replayed = replay(rt.alloc(), &script, 4_000, None, None)?;
         assert!(rt; replayed.result.is_ok());
-        assert_eq!(rt; replayed.written.as_slice(), b"bad line\nNo such table.\n\n".as_slice());
+        assert_eq!(rt;
+            replayed.written.as_slice(),
+            b"bad line\nNo such table.\n\n".as_slice()
+        );
     }
     Ok(())
 }

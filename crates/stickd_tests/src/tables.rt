@@ -7,9 +7,7 @@ use sequence::Sequence;
 use std::alloc::{AllocError, Global};
 use std::test::Fail;
 use stick_key::{KeyFault, KeyType, StickKey, read_key};
-use stick_table::{
-    Cell, Event, Filter, Op, PlainTable, Refusal, Reply, Spec, Table, Ticket, run,
-};
+use stick_table::{Cell, Event, Filter, Op, PlainTable, Refusal, Reply, Spec, Table, Ticket, run};
 use stored_data::{Act, Column, Datum, StoredSet};
 
 /// A table of IPv4 addresses.
@@ -140,7 +138,15 @@ fn each_event_is_answered(rt: HostRuntime) -> Result<(), Fail> {
     let replies = replies.as_slice();
     assert!(rt; matches!(replies[0], Reply::Written { created: true }));
     assert!(rt; counts_of(&replies[1]) == Some((1, 1)));
-    assert!(rt; matches!(replies[2], Reply::Cleared { removed: 0, kept: 0 }));
+    assert!(rt;
+        matches!(
+            replies[2],
+            Reply::Cleared {
+                removed: 0,
+                kept: 0
+            }
+        )
+    );
     assert!(rt; matches!(replies[3], Reply::Absent));
     assert!(rt; matches!(replies[4], Reply::Expired(1)));
     let tracked = table.step(&Event::Track(1_000, key(alloc, b"10.0.0.1")?))?;
