@@ -4,7 +4,6 @@ ghost use Rattle.std.specs.Prelude.{◌≡◌, ◌+◌, ◌*◌, ◌<◌, ◌^�
 ghost use Rattle.std.specs.Option.{SomeIff};
 ghost use Rattle.line_text.specs.Number.{number_of};
 
-use itoa::Buffer;
 use sequence::NoMemory;
 
 /// The number with one more digit behind it, where that fits.
@@ -38,6 +37,7 @@ pub fn push_decimal(text: &mut Vec<u8>, number: u64) -> Result<(), NoMemory>
     ensures ok { OnOk result (text.new.items ≡ text.old.items ++ decimal number) }
     ensures err { OnErr result (text.new.items ≡ text.old.items) }
 {
-    text.extend_from_slice(Buffer::new().format(number).as_bytes())?;
+    let digits = number.to_string(*text.allocator())?;
+    text.extend_from_slice(digits.as_bytes())?;
     Ok(())
 }

@@ -4,8 +4,8 @@ ghost use Rattle.std.specs.Prelude.{◌≡◌, IfOk};
 ghost use Rattle.script.specs.BuiltIn.{built_in as specified};
 ghost use Rattle.script.specs.Start.{AreTableSpecs};
 
-use crate::{NamedSpec, Setup};
-use sequence::{NoMemory, Sequence};
+use crate::Setup;
+use sequence::NoMemory;
 use std::alloc::Global;
 use stick_key::KeyType;
 use stick_table::Spec;
@@ -37,8 +37,5 @@ pub fn built_in(alloc: Global) -> Result<Setup, NoMemory>
         life: LIFE,
         seed: 0,
     };
-    let name = Sequence::from_slice(alloc, b"t")?;
-    let mut tables = Sequence::new(alloc);
-    tables.push(NamedSpec { name, spec })?;
-    Ok(Setup { tables })
+    Setup::of_table(alloc, b"t", spec)
 }

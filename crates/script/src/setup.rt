@@ -1,6 +1,6 @@
 //! What is served.
 
-ghost use Rattle.std.specs.Prelude.{◌≡◌, All, IfOk};
+ghost use Rattle.std.specs.Prelude.{◌≡◌, [], ◌∷◌, IfOk};
 ghost use Rattle.table_model.specs.Limits.{IsTableSpec};
 ghost use Rattle.script.specs.Start.{start, AreTableSpecs};
 ghost use Rattle.table_cli.specs.Tables.{states_of};
@@ -24,6 +24,18 @@ pub struct Setup {
 }
 
 impl Setup {
+    /// The setup of one table.
+    pub fn of_table(alloc: Global, name: &[u8], spec: Spec) -> Result<Setup, NoMemory>
+        requires { IsTableSpec spec }
+        ensures table { IfOk result (λ setup. setup.tables ≡ record { name = name.now; spec = spec } ∷ []) }
+        ensures limits { IfOk result (λ setup. AreTableSpecs setup.tables) }
+    {
+        let name = Sequence::from_slice(alloc, name)?;
+        let mut tables = Sequence::new(alloc);
+        tables.push(NamedSpec { name, spec })?;
+        Ok(Setup { tables })
+    }
+
     /// The tables, empty.
     pub(crate) fn open_tables<T: Table>(&self, alloc: Global) -> Result<Vec<Named<T>>, NoMemory>
         requires { AreTableSpecs self.now.tables }

@@ -1,7 +1,6 @@
 //! stickd: stick tables whose answers are proved.
 #![tactic(auto)]
 
-use anyhow::Result;
 use byte_ports::{StreamSink, StreamSource};
 use clap::{ArgMatches, Command, Error};
 use script::{FaultKind, ReplayFault, built_in_setup, replay_script};
@@ -9,7 +8,7 @@ use std::alloc::Global;
 use std::io;
 use std::process::ExitCode;
 
-fn main(rt: HostRuntime) -> Result<ExitCode> {
+fn main(rt: HostRuntime) -> io::Result<ExitCode> {
     let alloc = rt.alloc();
     let words: Vec<String> = std::env::args(&rt)?.collect(alloc)?;
     match read_command_line(alloc, words.as_slice()) {
@@ -22,10 +21,7 @@ fn main(rt: HostRuntime) -> Result<ExitCode> {
 }
 
 /// What the program can be asked.
-fn read_command_line<'a>(
-    alloc: Global,
-    words: &'a [String],
-) -> std::result::Result<ArgMatches<'a>, Error> {
+fn read_command_line<'a>(alloc: Global, words: &'a [String]) -> Result<ArgMatches<'a>, Error> {
     let replay = Command::new(alloc, "replay")
         .about("Replay a timed script of commands on standard input")
         .after_help(
@@ -44,7 +40,7 @@ fn read_command_line<'a>(
 }
 
 /// Replays the script on standard input.
-fn replay_input<R: Input + Print + Eprint + AllocGlobal>(rt: &R) -> Result<ExitCode> {
+fn replay_input<R: Input + Print + Eprint + AllocGlobal>(rt: &R) -> io::Result<ExitCode> {
     let Ok(setup) = built_in_setup(rt.alloc()) else {
         eprintln!(rt; "stickd: out of memory")?;
         return Ok(ExitCode::FAILURE);

@@ -1,0 +1,78 @@
+-- How an `Index` lays out its chains. No public clause cites this module.
+use Rattle.std.specs.Prelude.{◌≡◌, ℕ, zero, suc, ◌^◌, ◌<◌, ◌≤◌, ◌⊎◌, ◌==◌, if◌then◌else◌, List, [], ◌∷◌, length, get_or, slice_set, Option, Some, None, eqb}
+use Rattle.std.specs.Prelude.{bit_and, ◌-◌}
+use Rattle.core.specs.Hash.DefaultHasher.{finish, write, with_keys}
+use Rattle.std.specs.List.{IsDistinct}
+use Rattle.key_index.specs.Keys.{Entry, entry}
+use Rattle.key_index.specs.declared.Node.{Node}
+use Rattle.key_index.specs.declared.TheConstants.{NONE}
+
+-- SipHash-1-3 of the bytes, under the seed for both keys
+unfoldable pub hash_of : ℕ → List ℕ → ℕ
+hash_of seed bytes = finish (write (with_keys seed seed) bytes)
+
+-- the bucket of a key: so many of the low bits of its hash
+abbrev pub bucket_of : ℕ → ℕ → List ℕ → ℕ
+bucket_of seed buckets key = bit_and (hash_of seed key) (buckets - 1)
+
+-- the heads, where a bucket that no slot comes before begins with another
+abbrev pub heads_with_next : List ℕ → ℕ → ℕ → ℕ → List ℕ
+heads_with_next heads bucket before next = if before == NONE then slice_set heads bucket next else heads
+
+-- the slot is one of these
+abbrev pub IsAmong : ℕ → List ℕ → Type 0
+IsAmong slot [] = ⊥
+IsAmong slot (first ∷ rest) = (slot ≡ first) ⊎ IsAmong slot rest
+
+-- what a contract sees of a slot
+abbrev pub entry_in : Option Node → Option Entry
+entry_in None = None
+entry_in (Some node) = Some (entry node.key node.generation)
+
+-- the slot has this node
+abbrev pub HasNode : List (Option Node) → ℕ → Node → Type 0
+HasNode nodes slot node = get_or nodes slot None ≡ Some node
+
+-- from this slot on, the nodes of these slots each name the next
+abbrev pub IsChain : List (Option Node) → ℕ → List ℕ → Type 0
+IsChain nodes at [] = at ≡ NONE
+IsChain nodes at (slot ∷ slots) =
+    (at ≡ slot) × ((node : Node) × HasNode nodes slot node × IsChain nodes node.next slots)
+
+-- the slot has a node that names this next one
+abbrev pub NamesNext : List (Option Node) → ℕ → ℕ → Type 0
+NamesNext nodes slot next = (node : Node) × HasNode nodes slot node × (node.next ≡ next)
+
+-- a node with another next slot
+abbrev pub with_next : Option Node → ℕ → Option Node
+with_next None next = None
+with_next (Some node) next = Some (record { key = node.key; generation = node.generation; next = next })
+
+-- the nodes, where a slot names another next one
+abbrev pub nodes_with_next : List (Option Node) → ℕ → ℕ → List (Option Node)
+nodes_with_next nodes before next = if before == NONE then nodes else slice_set nodes before (with_next (get_or nodes before None) next)
+
+-- how many slots a walk from this one visits, at most `most`
+abbrev pub next_of : Option Node → ℕ
+next_of None = NONE
+next_of (Some node) = node.next
+
+abbrev pub steps_left : List (Option Node) → ℕ → ℕ → ℕ
+steps_left nodes zero at = 0
+steps_left nodes (suc most) at = if at == NONE then 0 else suc (steps_left nodes most (next_of (get_or nodes at None)))
+
+-- the chain from this slot on has the slots whose keys are of this bucket
+pub record Chain (nodes : List (Option Node)) (seed buckets bucket first : ℕ) : Type 0 where
+  pub slots : List ℕ
+  pub linked : IsChain nodes first slots
+  pub distinct : IsDistinct eqb slots
+  pub home : (slot : ℕ) (node : Node) → IsAmong slot slots → HasNode nodes slot node → bucket_of seed buckets node.key ≡ bucket
+  pub complete : (slot : ℕ) (node : Node) → HasNode nodes slot node → bucket_of seed buckets node.key ≡ bucket → IsAmong slot slots
+
+pub record IsSound (nodes : List (Option Node)) (heads : List ℕ) (seed : ℕ) : Type 0 where
+  pub small : length nodes ≤ 2 ^ 30
+  pub some : 0 < length heads
+  -- each bucket's head is the first of its chain
+  pub chains : (bucket : ℕ) → bucket < length heads → Chain nodes seed (length heads) bucket (get_or heads bucket NONE)
+  -- no two slots have one key
+  pub single : (i j : ℕ) (m n : Node) → HasNode nodes i m → HasNode nodes j n → m.key ≡ n.key → i ≡ j

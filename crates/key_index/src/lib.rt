@@ -1,0 +1,242 @@
+//! From keys to handles: hash chains through slot numbers.
+#![tactic(auto)]
+
+ghost use Rattle.std.specs.Prelude.{◌≡◌, ◌≢◌, ℕ, ◌<◌, ◌≤◌, ◌^◌, ◌%◌, length, Some, None, IsSome, IfNone, IfOk, IfSome, IsTrue, ◌↔◌};
+ghost use Rattle.key_index.specs.Keys.{no_keys, capacity_of, entry, entry_at, handle_at, MapsTo, HasKey, IsAbsent, HasDistinctKeys, with_key, without_slot};
+ghost use Rattle.std.specs.Prelude.{◌⊎◌, List, eqb, vec_len, get_or};
+ghost use Rattle.std.specs.List.{IsDistinct};
+ghost use Rattle.key_index.specs.Chains.{hash_of, bucket_of, IsAmong, IsChain, NamesNext, heads_with_next, nodes_with_next};
+
+#[cfg(test)]
+mod tests;
+
+use core::hash::keyed_hasher;
+use sequence::NoMemory;
+pub use slot_handle::Handle;
+use std::alloc::Global;
+use std::hash::Hasher;
+use std::marker::Model;
+use std::mem;
+use stick_key::StickKey;
+
+/// No slot: the slots are below 2^30.
+const NONE: u32 = u32::MAX;
+
+/// A key, the generation of its handle, and the next slot of its chain.
+#[derive(Drop)]
+struct Node {
+    key: StickKey,
+    generation: u64,
+    next: u32,
+}
+
+/// A finite map from keys to handles: a slot has at most one key, and a key at most one slot.
+/// Contracts see what each slot has. The seed changes nothing that they see.
+///
+/// A key's chain is the low bits of its SipHash-1-3, with the seed for both halves of the hash's key. Without the
+/// seed nobody can choose keys of one chain, as far as is known of SipHash; whoever knows it can, and then a call
+/// takes steps in proportion to the keys.
+#[derive(Drop)]
+pub struct Index {
+    heads: Vec<u32>,
+    nodes: Vec<Option<Node>>,
+    seed: u64,
+}
+
+impl Model for Index {
+    ghost use Rattle.std.specs.Prelude.{map};
+    ghost use Rattle.key_index.specs.Keys.{Keys, keys, keys_code};
+
+    ghost Value = { Keys };
+
+    ghost coded = { keys_code };
+
+    ghost use Rattle.key_index.specs.Chains.{entry_in, IsSound};
+
+    ghost view = { λ i. keys (map entry_in i.nodes.items) };
+
+    ghost invariant = { λ i. IsSound i.nodes.items i.heads.items i.seed };
+}
+
+// The hash of a key's bytes: SipHash-1-3, under the seed for both keys.
+#[tactic(auto, unfolding(crate::specs::Chains::hash_of))]
+fn hash(seed: u64, bytes: &[u8]) -> u64
+    ensures { result ≡ hash_of seed bytes.now }
+{
+    let mut hasher = keyed_hasher(seed, seed);
+    hasher.write(bytes);
+    hasher.finish()
+}
+
+// The bucket of a key, of so many, a power of two.
+fn bucket(seed: u64, buckets: usize, key: &StickKey) -> usize
+    requires { 0 < buckets }
+    ensures bucket { result ≡ bucket_of seed buckets key.now }
+    ensures within { result < buckets }
+{
+    (hash(seed, key.bytes()) & (buckets as u64 - 1)) as usize
+}
+
+fn is_same(key: &StickKey, other: &StickKey) -> bool
+    ensures { IsTrue result ↔ key.now ≡ other.now }
+{
+    key.bytes() == other.bytes()
+}
+
+// The slot before this one in the chain that begins at `first`, or none where this one begins it.
+fn before(nodes: &[Option<Node>], first: u32, slot: u32) -> u32
+    requires small { length nodes.now ≤ 2 ^ 30 }
+    requires inside { slot < 2 ^ 30 }
+    requires chained { (slots : List ℕ) × IsChain nodes.now first slots × IsDistinct eqb slots × IsAmong slot slots }
+    ensures { ((result ≡ NONE) × (first ≡ slot)) ⊎ NamesNext nodes.now result slot }
+{
+    let mut before = NONE;
+    let mut at = first;
+    while at != slot {
+        match &nodes[at as usize] {
+            Some(node) => {
+                before = at;
+                at = node.next;
+            }
+            None => unreachable!(),
+        }
+    }
+    before
+}
+
+// Names the next of a slot, or the head of the bucket where there is no slot.
+fn set_next(
+    heads: &mut Vec<u32>,
+    nodes: &mut Vec<Option<Node>>,
+    bucket: usize,
+    before: u32,
+    next: u32,
+)
+    requires bucket { bucket < vec_len heads.old }
+    requires slot { before ≢ NONE → IsSome (get_or nodes.old.items before None) }
+    ensures heads { heads.new.items ≡ heads_with_next heads.old.items bucket before next }
+    ensures nodes { nodes.new.items ≡ nodes_with_next nodes.old.items before next }
+{
+    if before == NONE {
+        heads[bucket] = next;
+    } else {
+        match &mut nodes[before as usize] {
+            Some(node) => node.next = next,
+            None => unreachable!(),
+        }
+    }
+}
+
+impl Index {
+    /// An empty index of `capacity` slots, 1 to 2^30. It takes the memory of them all, and of the heads of its
+    /// chains: the least power of two that is not below the capacity.
+    pub fn new(alloc: Global, capacity: u32, seed: u64) -> Result<Self, NoMemory>
+        requires positive { 0 < capacity }
+        requires within { capacity ≤ 2 ^ 30 }
+        ensures { IfOk result (λ index. index ≡ no_keys capacity) }
+    {
+        let mut nodes = Vec::with_capacity(alloc, capacity as usize)?;
+        for _slot in 0..capacity {
+            nodes.push_reserved(None);
+        }
+        Ok(Index {
+            heads: Vec::from_elem(alloc, NONE, capacity.next_power_of_two() as usize)?,
+            nodes,
+            seed,
+        })
+    }
+
+    /// The handle of a key, or `None` where no slot has the key. It also tells that no two slots have one key.
+    pub fn get(&self, key: &StickKey) -> Option<Handle>
+        ensures found { IfSome result (λ handle. MapsTo self.now key.now handle) }
+        ensures absent { IfNone result (IsAbsent self.now key.now) }
+        ensures distinct { HasDistinctKeys self.now }
+    {
+        let bucket = bucket(self.seed, self.heads.len(), key);
+        let mut slot = self.heads[bucket];
+        while slot != NONE {
+            match &self.nodes[slot as usize] {
+                Some(node) if is_same(&node.key, key) => {
+                    return Some(Handle {
+                        slot,
+                        generation: node.generation,
+                    });
+                }
+                Some(node) => slot = node.next,
+                None => unreachable!(),
+            }
+        }
+        None
+    }
+
+    /// Maps a key that is absent to a handle whose slot has no key.
+    pub fn insert(&mut self, key: StickKey, handle: Handle)
+        requires below { handle.slot < capacity_of self.old }
+        requires unused { entry_at self.old handle.slot ≡ None }
+        requires absent { IsAbsent self.old key }
+        ensures { self.new ≡ with_key self.old key handle }
+    {
+        let bucket = bucket(self.seed, self.heads.len(), &key);
+        let next = self.heads[bucket];
+        self.nodes[handle.slot as usize] = Some(Node {
+            key,
+            generation: handle.generation,
+            next,
+        });
+        self.heads[bucket] = handle.slot;
+    }
+
+    /// Takes the key of a slot that has one out, and gives it back.
+    pub fn remove_slot(&mut self, slot: u32) -> StickKey
+        requires { IsSome (entry_at self.old slot) }
+        ensures key { HasKey self.old slot result }
+        ensures removed { self.new ≡ without_slot self.old slot }
+    {
+        let (bucket, next) = match &self.nodes[slot as usize] {
+            Some(node) => (bucket(self.seed, self.heads.len(), &node.key), node.next),
+            None => unreachable!(),
+        };
+        let before = before(&self.nodes, self.heads[bucket], slot);
+        set_next(&mut self.heads, &mut self.nodes, bucket, before, next);
+        match mem::replace(&mut self.nodes[slot as usize], None) {
+            Some(
+                Node {
+                    key,
+                    generation: _,
+                    next: _,
+                },
+            ) => key,
+            None => unreachable!(),
+        }
+    }
+
+    // What a slot that has a key holds.
+    fn node(&self, slot: u32) -> &Node
+        requires { IsSome (entry_at self.now slot) }
+        ensures { entry_at self.now slot ≡ Some (entry result.now.key result.now.generation) }
+    {
+        match &self.nodes[slot as usize] {
+            Some(node) => node,
+            None => unreachable!(),
+        }
+    }
+
+    /// The key of a slot that has one.
+    pub fn key_of(&self, slot: u32) -> &StickKey
+        requires { IsSome (entry_at self.now slot) }
+        ensures { HasKey self.now slot result.now }
+    {
+        &self.node(slot).key
+    }
+
+    /// The handle of the key of a slot that has one.
+    pub fn handle_of(&self, slot: u32) -> Handle
+        requires { IsSome (entry_at self.now slot) }
+        ensures { handle_at self.now slot ≡ Some result }
+    {
+        Handle {
+            slot,
+            generation: self.node(slot).generation,
+        }
+    }
+}

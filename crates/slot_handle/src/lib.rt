@@ -1,0 +1,11 @@
+//! What names a slot of a table, and lemmas on lists of distinct slots.
+#![tactic(auto)]
+
+/// Names what a slot holds for as long as it is there. A slot is used again, a generation never is.
+#[derive(Clone, Copy, PartialEq, Eq, Debug)]
+pub struct Handle {
+    /// The number of the slot, below the capacity.
+    pub slot: u32,
+    /// Which of the slot's tenants is meant: each has a greater generation than all before it.
+    pub generation: u64,
+}
