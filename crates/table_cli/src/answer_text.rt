@@ -46,6 +46,7 @@ impl Answer {
         }
     }
 
+    /// The text, with the empty line that ends it.
     pub fn bytes(&self) -> &[u8]
         ensures { result.now ≡ bytes_of self.now }
     {

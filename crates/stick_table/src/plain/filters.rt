@@ -9,6 +9,7 @@ use stick_key::StickKey;
 use stored_data::{Datum, StoredSet};
 use table_model::{Filter, Op, Record, Reply, Ticket};
 
+/// Whether a filter means an entry, by the values that its row shows at this moment in ms.
 pub fn passes(
     tickets: &[(Ticket, StickKey)],
     clock: u64,

@@ -21,6 +21,7 @@ pub fn put_fault(columns: &StoredSet, pairs: &[Cell]) -> Option<Reply>
     None
 }
 
+/// Puts pairs, the first to the last.
 pub fn put_pairs(values: &mut Values, pairs: &[Cell])
     ensures { values.new ≡ put_pairs_of pairs.now values.old }
 {

@@ -40,6 +40,7 @@ pub fn is_live(tickets: &[(Ticket, StickKey)], clock: u64, entry: &(StickKey, Re
     is_tracked(tickets, &entry.0) || outlives(&entry.1, clock)
 }
 
+/// Drops the untracked records whose date the clock has reached.
 pub fn drop_dead(records: &mut Vec<(StickKey, Record)>, tickets: &[(Ticket, StickKey)], clock: u64)
     ensures items { records.new.items ≡ filter (stays clock tickets.now) records.old.items }
     ensures capacity { vec_capacity records.new ≡ vec_capacity records.old }
@@ -95,6 +96,7 @@ pub fn live_values(
     }
 }
 
+/// How many records are there when the clock has come to this moment.
 pub fn count_live(
     records: &[(StickKey, Record)],
     tickets: &[(Ticket, StickKey)],

@@ -21,6 +21,7 @@ pub fn count_refs(tickets: &[(Ticket, StickKey)], key: &StickKey) -> usize
     count
 }
 
+/// Whether a ticket of the key is out.
 pub fn is_tracked(tickets: &[(Ticket, StickKey)], key: &StickKey) -> bool
     ensures { result ≡ is_key_tracked key.now tickets.now }
 {
