@@ -49,7 +49,7 @@ impl<T> Sequence<T> {
     pub fn len(&self) -> usize
         ensures { result ≡ length self.now }
     {
-        self.all.as_slice().len()
+        self.as_slice().len()
     }
 
     /// The items as a vector.
@@ -90,6 +90,6 @@ impl<T: Copy> Sequence<T> {
     pub fn copy(&self) -> Result<Sequence<T>, NoMemory>
         ensures { IfOk result (λ list. list ≡ self.now) }
     {
-        Sequence::from_slice(*self.all.allocator(), self.all.as_slice())
+        Sequence::from_slice(*self.all.allocator(), self.as_slice())
     }
 }

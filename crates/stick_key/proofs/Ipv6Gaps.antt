@@ -55,12 +55,12 @@ split-join (part ∷ next ∷ parts) some all =
     ∙ ap (λ rest. part ∷ rest) (split-join (next ∷ parts) (omega arith) all.1)
 
 -- no gap, by recursion
-NoGap : List ℕ → Type 0
+unfoldable pub NoGap : List ℕ → Type 0
 NoGap [] = Unit {0}
 NoGap (c ∷ []) = Unit {0}
 NoGap (c ∷ d ∷ rest) = (c ≡ 58 → d ≡ 58 → ⊥) × NoGap (d ∷ rest)
 
-no_gap-is : (text : List ℕ) → NoGap text → HasNoGap text
+pub no_gap-is : (text : List ℕ) → NoGap text → HasNoGap text
 unfolding NoGap
 no_gap-is [] none k inside first second = omega arith
 no_gap-is (c ∷ []) none k inside first second = omega arith

@@ -20,7 +20,7 @@ hex_no_dot : (part : List ℕ) → AllDigits 16 part → AllByRecursion (λ byte
 hex_no_dot [] digits = tt
 hex_no_dot (c ∷ part) digits = let small = digits.0 in (grind (arith, nat_tests), hex_no_dot part digits.1)
 
-hex_not_dotted : (part : List ℕ) → AllDigits 16 part → IsDotted part → ⊥
+pub hex_not_dotted : (part : List ℕ) → AllDigits 16 part → IsDotted part → ⊥
 hex_not_dotted part digits dotted =
     let one = slice_split_none (λ byte. byte == 46) part (All-from_recursion (λ byte. (byte == 46) ≡ false) part (hex_no_dot part digits)) in
     omega (arith, ap length one, dotted.four)
@@ -82,7 +82,7 @@ pub full_only : (text all : List ℕ) → HasNoGap text → 0 < length all → S
 full_only text all none some (inl full) = full_complete text all some full
 full_only text all none some (inr short) = absurd (has_gap (join_with_byte 58 short.front) (join_with_byte 58 short.back) (rw short.spelled at none))
 
-length-sides : (high low : List ℕ) (zeros : ℕ) → length (high ++ (replicate zeros 0 ++ low)) ≡ length high + (zeros + length low)
+pub length-sides : (high low : List ℕ) (zeros : ℕ) → length (high ++ (replicate zeros 0 ++ low)) ≡ length high + (zeros + length low)
 length-sides high low zeros = omega (arith, length-append high (replicate zeros 0 ++ low), length-append (replicate zeros 0) low, length-replicate {A = ℕ} zeros 0)
 
 -- more than seven groups leave no room for the gap

@@ -1,3 +1,6 @@
+mod AddressLaws
+mod DottedLemmas
+mod Ipv6AddressLemmas
 mod Ipv6Bytes
 mod Ipv6Digits
 mod Ipv6Gaps

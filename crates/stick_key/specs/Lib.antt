@@ -1,3 +1,4 @@
+pub mod AddressOf
 pub mod Convert
 pub mod Dotted
 pub mod Ipv6Canonical

@@ -5,6 +5,7 @@ mod mapped;
 mod printer;
 mod reader;
 
-pub(crate) use mapped::{mapped, unmapped};
+pub(crate) use mapped::mapped;
+pub use mapped::unmapped;
 pub(crate) use printer::print_ipv6;
-pub(crate) use reader::read_ipv6;
+pub use reader::read_ipv6;

@@ -15,8 +15,8 @@ pub(crate) fn mapped(address: [u8; 4]) -> [u8; 16]
     bytes
 }
 
-/// The IPv4 address that this address stands for, if any.
-pub(crate) fn unmapped(address: [u8; 16]) -> Option<[u8; 4]>
+/// The IPv4 address that this IPv6 address stands for, if any: the last four bytes of one in `::ffff:0:0/96`.
+pub fn unmapped(address: [u8; 16]) -> Option<[u8; 4]>
     ensures { result ≡ (if is_mapped address then Some (drop 12 address) else None) }
 {
     if !address.starts_with(&MAPPED_PREFIX) {

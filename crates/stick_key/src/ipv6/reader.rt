@@ -4,6 +4,7 @@ ghost use Rattle.std.specs.Bool.{OnTrue, OnFalse};
 ghost use Rattle.std.specs.List.{slice_split};
 ghost use Rattle.std.specs.Option.{SomeIff};
 ghost use Rattle.std.specs.Str.Parse.{digits_value};
+ghost use Rattle.stick_key.specs.AddressOf.{ipv6_of};
 ghost use Rattle.stick_key.specs.Ipv6Reader.{HasNoGap, SpellSide, SpellSides};
 ghost use Rattle.stick_key.specs.Ipv6Text.{IsHexGroup, IsIpv6, Spell, Spells};
 
@@ -134,8 +135,9 @@ fn read_all(text: &[u8]) -> Option<[u16; 8]>
     }
 }
 
-/// The sixteen bytes of an address.
-pub(crate) fn read_ipv6(text: &[u8]) -> Option<[u8; 16]>
+/// The sixteen bytes of the IPv6 address that a text spells, if any, in one of the forms of RFC 4291, section 2.2.
+pub fn read_ipv6(text: &[u8]) -> Option<[u8; 16]>
+    ensures address { result ≡ ipv6_of text.now }
     ensures found { IfSome result (IsIpv6 text.now) }
     ensures none { IfNone result ((address : List ℕ) → IsIpv6 text.now address → ⊥) }
 {

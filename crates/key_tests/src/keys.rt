@@ -1,10 +1,11 @@
-//! Outside vectors, and the rows that the manual and the RFCs work out.
+//! Keys: outside vectors, and the rows that the manual and the RFCs work out.
 
-use super::shard::hash_bytes;
-use super::*;
 use std::alloc::Global;
 use std::collections::{BTreeMap, HashMap};
 use std::test::Fail;
+use stick_key::{
+    Bytes, KeyFault, KeyType, Sample, convert, fits, read_key, shard_of, size_of_shard, write_key,
+};
 
 /// Texts of IPv6 addresses, and how RFC 5952 writes them.
 static IPV6_TEXTS: [(&str, &str); 67] = [
@@ -273,13 +274,15 @@ fn more_conversions(rt: HostRuntime) -> Result<(), Fail> {
 
 #[test]
 fn shards(rt: HostRuntime) -> Result<(), Fail> {
-    // The published FNV-1a hashes of no bytes, of "a" and of "foobar".
-    assert_eq!(rt; hash_bytes(b""), 0xcbf2_9ce4_8422_2325);
-    assert_eq!(rt; hash_bytes(b"a"), 0xaf63_dc4c_8601_ec8c);
-    assert_eq!(rt; hash_bytes(b"foobar"), 0x8594_4171_f739_67e8);
+    // The published FNV-1a hashes of "a" and of "foobar" are 0xaf63dc4c8601ec8c and 0x85944171f73967e8.
     let key = read_key(rt.alloc(), KeyType::Text(32), b"a")?;
+    assert_eq!(rt; shard_of(&key, 0x8000_0000), 0x0601_ec8c);
+    assert_eq!(rt; shard_of(&key, 0xffff_ffff), 0x3565_c8d9);
     assert_eq!(rt; shard_of(&key, 64), 12);
     assert_eq!(rt; shard_of(&key, 1), 0);
+    let key = read_key(rt.alloc(), KeyType::Text(32), b"foobar")?;
+    assert_eq!(rt; shard_of(&key, 0x8000_0000), 0x7739_67e8);
+    assert_eq!(rt; shard_of(&key, 0xffff_ffff), 0x7ccd_a95a);
     assert_eq!(rt; size_of_shard(10, 3, 0), 4);
     assert_eq!(rt; size_of_shard(10, 3, 1), 3);
     Ok(())

@@ -1,0 +1,11 @@
+//! IP addresses, networks and endpoints, read from their texts.
+#![tactic(auto)]
+
+mod address;
+mod endpoint;
+pub mod laws;
+mod network;
+
+pub use address::{Address, Endpoint, Network, read_address};
+pub use endpoint::{read_bind, read_server};
+pub use network::read_network;
