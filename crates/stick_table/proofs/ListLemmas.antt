@@ -6,13 +6,6 @@ use Rattle.std.proofs.lemmas.List.{at_drop_more}
 use Rattle.std.proofs.lemmas.Grind.{common_steps}
 use Rattle.std.proofs.lemmas.List.Edits.{map_over_more}
 
-get_or_again : {X : Type 0} → (xs : List X) (i : ℕ) (d e : X) → i < length xs → get_or xs i d ≡ get_or xs i e
-get_or_again xs i d e h = grind (arith, common_steps)
-
--- a loop that writes f x over each element x of xs
-pub map_over_at : {X : Type 0} → (f : X → X) (xs ys : List X) (i : ℕ) (d : X) → i < length xs → length ys ≡ length xs → ys ≡ map f (take i xs) ++ drop i xs → set ys i (f (get_or ys i d)) ≡ map f (take (i + 1) xs) ++ drop (i + 1) xs
-map_over_at f xs ys i d h same is = map_over_more f xs ys i (get_or ys i d) h is (get_or_again ys i d (get_or ys i d) (omega arith))
-
 -- the first element of what is left fails the test
 pub list_all-fails : {X : Type 0} → (p : X → Bool) (xs : List X) (i : ℕ) (x : X) → i < length xs → x ≡ get_or xs i x → p x ≡ false → list_all p (drop i xs) ≡ false
 list_all-fails p xs i x h is fails = at_drop_more (list_all p) xs i x h ∙ ap (λ y. p y && list_all p (drop (i + 1) xs)) (sym is) ∙ ap (λ b. b && list_all p (drop (i + 1) xs)) fails
@@ -36,7 +29,3 @@ listed-more f p q xs i e ys h is kept passes =
     ∙ ap (λ x. map f (filter p (filter q (x ∷ drop (i + 1) xs)))) (sym is)
     ∙ ap (λ b. map f (filter p (cond b (e ∷ rest) rest))) kept
     ∙ ap (λ b. map f (cond b (e ∷ filter p rest) (filter p rest))) passes))
-
-pub append-nil : {X : Type 0} (xs : List X) → xs ++ [] ≡ xs
-append-nil [] = refl
-append-nil (x ∷ xs) = ap (λ ys. x ∷ ys) (append-nil xs)

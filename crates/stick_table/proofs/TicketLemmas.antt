@@ -1,9 +1,11 @@
 -- On the tickets of a key.
 use Rattle.table_model.specs.Room.{stored, stored_in}
-use Rattle.std.proofs.Common.{◌≡◌, ℕ, ◌+◌, List, [], ◌∷◌, ◌++◌, arith, ap, sym, ◌∙◌, true, false, cond, length, ◌<◌, nat_le, Some, Option, max, filter, unwrap_or}
+use Rattle.std.proofs.Common.{refl, subst, None, ◌≡◌, ℕ, ◌+◌, List, [], ◌∷◌, ◌++◌, arith, ap, sym, ◌∙◌, true, false, cond, length, ◌<◌, nat_le, Some, Option, max, filter, unwrap_or}
 use Rattle.std.specs.Option.{option_map, option_map_or}
 use Rattle.std.proofs.lemmas.Bool.Decides.{nat_tests}
-use Rattle.table_model.specs.Step.{Outcome, begun, connected, track, tracked, count, counted_at}
+use Rattle.table_model.specs.Step.{Outcome, begun, connected, track, tracked, count, counted_at, with_ticket}
+use Rattle.stick_table.specs.References.{entered}
+use Rattle.table_model.specs.declared.rows.Row.{Row}
 use Rattle.table_model.specs.declared.rows.Record.{Record}
 use Rattle.table_model.specs.declared.replies.Reply.TheVariants.{NoRefs, Full, Tracked, Absent, Value}
 use Rattle.std.specs.Cmp.{eq_by_cmp_equiv}
@@ -43,6 +45,34 @@ track-stored state key slot records left room =
     ap (λ b. cond {A = Outcome} b (NoRefs, state) (option_map_or (tracked state key kept ticket) (stored state key kept) (Full, state))) (lt-not_le (length state.tickets) state.spec.max_refs left)
     ∙ ap (λ o. option_map_or {U = Outcome} (tracked state key kept ticket) (option_map (λ rs. record state { records = rs }) o) (Full, state)) room
     ∙ ap (λ n. let outcome : Outcome = (Tracked ticket (row_of state.spec.columns state.clock n key kept), new) in outcome) (refs_more key state.tickets ticket)
+
+-- where references are left, and the record that a tracked key gets was entered with one
+pub track-entered : (state : State) (key : Key) (slot : ℕ) (found : Record) (shown : Row) (ticket : Ticket) (new : State) → length state.tickets < state.spec.max_refs
+    → found ≡ connected state key
+    → shown ≡ row_of state.spec.columns state.clock (refs key state.tickets + 1) key found
+    → entered state key slot found ≡ (Some ticket, new)
+    → track state key slot ≡ (Tracked ticket shown, new)
+track-entered state key slot found shown ticket new left is shows enters = by-room (stored_in state.spec state.tickets state.records key found) refl
+  where
+    by-room : (room : Option (List (Key × Record))) → stored_in state.spec state.tickets state.records key found ≡ room → track state key slot ≡ (Tracked ticket shown, new)
+    by-room None none =
+        let ticket_made : Ticket = record { number = state.events; slot = slot } in
+        let both : ◌≡◌ {A = Option Ticket × State} (None, state) (Some ticket, new) =
+        sym (ap (λ o. option_map_or {U = Option Ticket × State} (λ roomy. (Some ticket_made, with_ticket roomy ticket_made key)) (option_map (λ rs. record state { records = rs }) o) (None, state)) none) ∙ enters in
+        let never : ◌≡◌ {A = Option Ticket} None (Some ticket) = ap (λ (o : Option Ticket × State). o.0) both in
+        cc
+    by-room (Some records) some =
+        let ticket_made : Ticket = record { number = state.events; slot = slot } in
+        let made : State = record state { records = records; tickets = state.tickets ++ (ticket_made, key) ∷ [] } in
+        let both : ◌≡◌ {A = Option Ticket × State} (Some ticket_made, made) (Some ticket, new) =
+        sym (ap (λ o. option_map_or {U = Option Ticket × State} (λ roomy. (Some ticket_made, with_ticket roomy ticket_made key)) (option_map (λ rs. record state { records = rs }) o) (None, state)) some) ∙ enters in
+        let tickets : ◌≡◌ {A = Option Ticket} (Some ticket_made) (Some ticket) = ap (λ (o : Option Ticket × State). o.0) both in
+        let same : ticket_made ≡ ticket = cc in
+        let after : made ≡ new = ap (λ (o : Option Ticket × State). o.1) both in
+        let row : row_of state.spec.columns state.clock (refs key state.tickets + 1) key (connected state key) ≡ shown =
+        ap (row_of state.spec.columns state.clock (refs key state.tickets + 1) key) (sym is) ∙ sym shows in
+        track-stored state key slot records left (subst (λ f. stored_in state.spec state.tickets state.records key f ≡ Some records) is some)
+        ∙ (λ i. (Tracked (same i) (row i), after i))
 
 -- an act on the record of a ticket that is out, among the records that are there when the clock has come to its moment
 pub count-found : (old : State) (now : ℕ) (ticket : Ticket) (act : Act) (key : Key) (clock : ℕ) (live records : List (Key × Record)) (told : Option ℕ)

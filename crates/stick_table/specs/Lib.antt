@@ -1,3 +1,4 @@
 pub mod Invariant
 pub mod Replies
 pub mod Purging
+pub mod References

@@ -3,10 +3,12 @@
 #![tactic(auto)]
 
 mod plain;
+mod redoing;
 mod running;
 mod tables;
 
 pub use plain::PlainTable;
+pub use redoing::redo_all;
 pub use running::run;
 pub use table_model::{
     Cell, Cells, Event, Filter, Op, Record, Refusal, Reply, Row, Rows, Spec, Stored, Ticket, laws,

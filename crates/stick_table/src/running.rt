@@ -1,7 +1,7 @@
 //! A list of events on any table.
 
-ghost use Rattle.std.specs.Prelude.{All, IfOk};
-ghost use Rattle.table_model.specs.Run.{Run};
+ghost use Rattle.std.specs.Prelude.{All, IfOk, IfErr};
+ghost use Rattle.table_model.specs.Run.{Run, RunStops};
 ghost use Rattle.table_model.specs.Limits.{IsTableEvent};
 
 use crate::Table;
@@ -16,7 +16,8 @@ pub fn run<T: Table>(
     events: &[Event],
 ) -> Result<Sequence<Reply>, Refusal>
     requires { All IsTableEvent events.now }
-    ensures { IfOk result (λ replies. Run (T.state table.old) events.now replies (T.state table.new)) }
+    ensures ok { IfOk result (λ replies. Run (T.state table.old) events.now replies (T.state table.new)) }
+    ensures err { IfErr result (λ refusal. RunStops (T.state table.old) events.now refusal (T.state table.new)) }
 {
     let mut replies = Sequence::new(alloc);
     for event in events {

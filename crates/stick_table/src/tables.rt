@@ -6,6 +6,7 @@ ghost use Rattle.table_model.specs.Step.{Step};
 ghost use Rattle.table_model.specs.Refusals.{IsRefused, has_life};
 ghost use Rattle.table_model.specs.Limits.{IsTableSpec, IsTableEvent};
 
+use crate::PlainTable;
 use sequence::NoMemory;
 use std::alloc::Global;
 use table_model::{Event, Refusal, Reply, Spec};
@@ -27,11 +28,26 @@ pub trait Table: Drop {
 
     /// One event: its moment comes, it is counted, and it is done and answered; or it is refused, and nothing changes.
     /// The refusals, in this order: `Stale` where its ticket isn't outstanding, `Exhausted` where the life would be
-    /// passed (never for a `Release`), `Memory` where a growth was refused (never for an event that needs none).
+    /// passed (never for a `Release`), `Memory` where a growth was refused (never for a `Count`, a `Release`, a `Clear`,
+    /// a `ClearWhere` or an `Expire`, which need none).
     fn step(&mut self, event: &Event) -> Result<Reply, Refusal>
         requires { IsTableEvent event.now }
         ensures ok { IfOk result (λ reply. Step (state self.old) event.now reply (state self.new)) }
         ensures lives { OnOk result (has_life (state self.old) event.now ≡ true) }
         ensures refused { IfErr result (IsRefused (state self.old) event.now) }
         ensures err { OnErr result (state self.new ≡ state self.old) };
+
+    /// One event, its reply given twice, as for a caller and for a record. Memory for both is taken before anything
+    /// changes; it is refused as `step` is, and no more often needs memory for it: a reply that shows no row takes none.
+    fn step_twice(&mut self, event: &Event) -> Result<(Reply, Reply), Refusal>
+        requires { IsTableEvent event.now }
+        ensures ok { IfOk result (λ replies. Step (state self.old) event.now replies.0 (state self.new)) }
+        ensures twice { IfOk result (λ replies. replies.1 ≡ replies.0) }
+        ensures lives { OnOk result (has_life (state self.old) event.now ≡ true) }
+        ensures refused { IfErr result (IsRefused (state self.old) event.now) }
+        ensures err { OnErr result (state self.new ≡ state self.old) };
+
+    /// A plain table in the same state.
+    fn to_plain(&self) -> Result<PlainTable, NoMemory>
+        ensures { IfOk result (λ table. table ≡ state self.now) };
 }

@@ -15,7 +15,9 @@ use Rattle.table_model.specs.State.{State, is_tracked, refs, record_at, zero_rec
 use Rattle.table_model.specs.Filters.{is_matched}
 use Rattle.table_model.specs.Step.{Step, begun, found_or_zero, connected, written}
 use Rattle.table_model.specs.Limits.{moment_of}
-use Rattle.table_model.specs.Laws.{values_after, subject_of, Taken, act_told, act_for, IsKept, NeverLostLaw}
+use Rattle.table_model.specs.Laws.{values_after, IsKept, NeverLostLaw}
+use Rattle.table_model.specs.Counted.{Taken, act_told, act_for}
+use Rattle.table_model.specs.Step.{subject_of}
 use Rattle.table_model.specs.declared.rows.Ticket.{Ticket}
 use Rattle.table_model.specs.declared.rows.Record.{Record}
 use Rattle.table_model.specs.declared.events.Event.{Event}

@@ -17,10 +17,10 @@ use Rattle.table_model.specs.Limits.{moment_of}
 use Rattle.table_model.specs.declared.filters.Filter.{Filter}
 use Rattle.table_model.specs.Step.{Step, begun, found_or_zero, without_ticket, connected, written, is_free_slot, slot_of}
 use Rattle.table_model.specs.Refusals.{life_taken, has_life}
-use Rattle.table_model.specs.Run.{Run, StoredRun}
+use Rattle.table_model.specs.Run.{Run, events_of, StoredRun, LastingRun}
 use Rattle.table_model.specs.Laws.{StepLegalLaw, EmptyLegalLaw, RunLegalLaw}
 use Rattle.table_model.specs.declared.events.Stored.{Stored}
-use Rattle.table_model.proofs.RunLemmas.{run_spec, run_from_stored, events_of}
+use Rattle.table_model.proofs.RunLemmas.{run_spec, run_from_stored}
 use Rattle.table_model.specs.Legal.{IsLegal, number_in, slot_in, stamp_in}
 use Rattle.table_model.specs.declared.rows.Ticket.{Ticket}
 use Rattle.table_model.specs.declared.rows.Record.{Record}
@@ -261,3 +261,10 @@ run_legal old events replies new legal run within = legal-from_orderly new (run_
 
 pub stored_run_legal : (old : State) (calls : List Stored) (replies : List Reply) (new : State) → IsLegal old → StoredRun old calls replies new → new.events + length new.tickets ≤ new.spec.life → IsLegal new
 stored_run_legal old calls replies new legal run within = run_legal old (events_of calls) replies new legal (run_from_stored old calls replies new run) within
+
+-- a run whose events had life left ends legal
+pub lasting_run_legal : (old : State) (calls : List Stored) (replies : List Reply) (new : State) → IsLegal old → LastingRun old calls replies new → IsLegal new
+lasting_run_legal old [] [] new legal run = subst IsLegal (sym run) legal
+lasting_run_legal old [] (r ∷ rs) new legal run = absurd run
+lasting_run_legal old (c ∷ cs) [] new legal run = absurd run
+lasting_run_legal old (c ∷ cs) (r ∷ rs) new legal run = lasting_run_legal run.0 cs rs new (step_legal old c.event r run.0 legal run.2 run.3) run.4

@@ -4,6 +4,7 @@ pub mod EntryLemmas
 pub mod RoomLemmas
 pub mod StepCases
 pub mod StepLemmas
+pub mod ReplyLemmas
 pub mod RunLemmas
 pub mod LimitLemmas
 pub mod RecordLemmas

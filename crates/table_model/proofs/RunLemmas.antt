@@ -1,12 +1,17 @@
 -- On runs, of events and of stored calls.
-use Rattle.std.proofs.Common.{◌≡◌, ◌+◌, refl, sym, ◌∙◌, ap, subst, arith, List, [], ◌∷◌, ◌++◌, length, map}
+use Rattle.std.proofs.Common.{◌≡◌, ℕ, ◌+◌, refl, sym, ◌∙◌, ap, subst, arith, List, [], ◌∷◌, ◌++◌, length, true, Option, None, Some, unwrap_or, IfSome, IsTrue}
+use Rattle.std.specs.Option.{option_map_or}
 use Rattle.table_model.specs.State.{State}
-use Rattle.table_model.specs.Step.{Step, slot_of}
-use Rattle.table_model.specs.Run.{Run, StoredRun}
-use Rattle.table_model.specs.Laws.{OneRunLaw, RunsOn, JoinLaw, CountLaw}
+use Rattle.table_model.specs.Step.{Outcome, Step, slot_of, is_free_slot, after}
+use Rattle.table_model.specs.Run.{Run, events_of, stored_calls, StoredRun, LastingRun, redone, CanRedo, CanRedoAll, redone_all}
+use Rattle.table_model.specs.Refusals.{has_life, IsRefused}
+use Rattle.table_model.specs.Laws.{OneRunLaw, RedoLaw, RunsOn, JoinLaw, CountLaw}
 use Rattle.table_model.specs.declared.events.Stored.{Stored}
 use Rattle.table_model.specs.declared.events.Event.{Event}
 use Rattle.table_model.specs.declared.replies.Reply.{Reply}
+use Rattle.table_model.specs.declared.replies.Refusal.{Refusal}
+use Rattle.table_model.specs.declared.replies.Refusal.TheVariants.{Stale, Exhausted, Memory, Behind}
+use Rattle.std.proofs.lemmas.Bool.{false≢true}
 use Rattle.table_model.proofs.StepLemmas.{step_events, step_spec, step_determined}
 
 -- ---- runs of events
@@ -67,21 +72,11 @@ run_spec old (e ∷ es) (r ∷ rs) new run = run_spec run.0 es rs new run.2 ∙ 
 
 -- ---- runs of stored calls
 
--- the events that are stored
-abbrev pub events_of : List Stored → List Event
-events_of calls = map (λ (call : Stored). call.event) calls
-
 pub run_from_stored : (old : State) (calls : List Stored) (replies : List Reply) (new : State) → StoredRun old calls replies new → Run old (events_of calls) replies new
 run_from_stored old [] [] new run = run
 run_from_stored old [] (r ∷ rs) new run = absurd run
 run_from_stored old (c ∷ cs) [] new run = absurd run
 run_from_stored old (c ∷ cs) (r ∷ rs) new run = (run.0, run.2, run_from_stored run.0 cs rs new run.3)
-
--- the calls that store a run
-abbrev pub stored_calls : List Event → List Reply → List Stored
-stored_calls [] replies = []
-stored_calls (event ∷ events) [] = []
-stored_calls (event ∷ events) (reply ∷ replies) = record { event = event; slot = slot_of reply } ∷ stored_calls events replies
 
 pub stored_from_run : (old : State) (events : List Event) (replies : List Reply) (new : State) → Run old events replies new → StoredRun old (stored_calls events replies) replies new
 stored_from_run old [] [] new run = run
@@ -143,3 +138,78 @@ run_determined old (call ∷ calls) (r ∷ rs) (s ∷ ss) new other a b =
     let one = step_determined old call.event r s a.0 b.0 a.2 b.2 (sym a.1 ∙ b.1) in
     let rest = run_determined a.0 calls rs ss new other a.3 (subst (λ (m : State). StoredRun m calls ss other) (sym one.1) b.3) in
     ((λ i. one.0 i ∷ rest.0 i), rest.1)
+
+-- ---- stored calls, made again
+
+-- a stored call that was answered so is answered so again
+pub redone_is : (old : State) (call : Stored) (reply : Reply) (new : State) → Step old call.event reply new → call.slot ≡ slot_of reply → redone old call ≡ (reply, new)
+redone_is old call reply new step slot = ap (λ o. after old call.event (unwrap_or o 0)) slot ∙ step.gives
+
+pub can_redo : (old : State) (call : Stored) (reply : Reply) (new : State) → Step old call.event reply new → call.slot ≡ slot_of reply → CanRedo old call
+can_redo old call reply new step slot =
+    subst (λ (o : Outcome). IfSome (slot_of o.0) (λ s. (call.slot ≡ Some s) × IsTrue (is_free_slot old s))) (sym (redone_is old call reply new step slot)) (named (slot_of reply) slot step.free)
+  where
+    named : (told : Option ℕ) → call.slot ≡ told → IsTrue (option_map_or (is_free_slot old) told true) → IfSome told (λ s. (call.slot ≡ Some s) × IsTrue (is_free_slot old s))
+    named None is free = tt
+    named (Some s) is free = (is, free)
+
+pub redo-law : RedoLaw
+redo-law old [] [] new run = (tt, ap (λ (s : State). let none : List Reply = [] in (none, s)) (sym run))
+redo-law old [] (r ∷ rs) new run = absurd run
+redo-law old (c ∷ cs) [] new run = absurd run
+redo-law old (c ∷ cs) (r ∷ rs) new run =
+    let one : redone old c ≡ (r, run.0) = redone_is old c r run.0 run.2 run.1 in
+    let rest = redo-law run.0 cs rs new run.3 in (
+      (can_redo old c r run.0 run.2 run.1, subst (λ (o : Outcome). CanRedoAll o.1 cs) (sym one) rest.0),
+      ap (λ (o : Outcome). let more = redone_all o.1 cs in (o.0 ∷ more.0, more.1)) one ∙ ap (λ (more : List Reply × State). (r ∷ more.0, more.1)) rest.1,
+    )
+
+-- a run of stored calls, each with life left where it was made
+pub stored-from-lasting : (old : State) (calls : List Stored) (replies : List Reply) (new : State) → LastingRun old calls replies new → StoredRun old calls replies new
+stored-from-lasting old [] [] new run = run
+stored-from-lasting old [] (r ∷ rs) new run = absurd run
+stored-from-lasting old (c ∷ cs) [] new run = absurd run
+stored-from-lasting old (c ∷ cs) (r ∷ rs) new run = (run.0, run.1, run.3, stored-from-lasting run.0 cs rs new run.4)
+
+pub lasting_run_more : (old : State) (calls : List Stored) (replies : List Reply) (new : State) (call : Stored) (reply : Reply) (next : State)
+    → LastingRun old calls replies new → call.slot ≡ slot_of reply → IsTrue (has_life new call.event) → Step new call.event reply next → LastingRun old (calls ++ call ∷ []) (replies ++ reply ∷ []) next
+lasting_run_more old [] [] new call reply next run slot life step =
+    (next, slot, subst (λ (s : State). IsTrue (has_life s call.event)) run life, subst (λ (s : State). Step s call.event reply next) run step, refl)
+lasting_run_more old [] (r ∷ rs) new call reply next run slot life step = absurd run
+lasting_run_more old (c ∷ cs) [] new call reply next run slot life step = absurd run
+lasting_run_more old (c ∷ cs) (r ∷ rs) new call reply next run slot life step = (run.0, run.1, run.2, run.3, lasting_run_more run.0 cs rs new call reply next run.4 slot life step)
+
+-- one call more that is made again
+pub redone_all-more : (old : State) (calls : List Stored) (replies : List Reply) (new : State) (call : Stored) (reply : Reply) (next : State)
+    → redone_all old calls ≡ (replies, new) → redone new call ≡ (reply, next) → redone_all old (calls ++ call ∷ []) ≡ (replies ++ reply ∷ [], next)
+redone_all-more old [] replies new call reply next so_far one =
+    let none : [] ≡ replies = ap (λ (o : List Reply × State). o.0) so_far in
+    let same : old ≡ new = ap (λ (o : List Reply × State). o.1) so_far in
+    let here : redone old call ≡ (reply, next) = ap (λ s. redone s call) same ∙ one in
+    ap (λ (o : Outcome). let all : List Reply × State = (o.0 ∷ [], o.1) in all) here ∙ ap (λ rs. let all : List Reply × State = (rs ++ reply ∷ [], next) in all) none
+redone_all-more old (c ∷ cs) replies new call reply next so_far one =
+    let first : Outcome = redone old c in
+    let rest : List Reply × State = redone_all first.1 cs in
+    let more : redone_all first.1 (cs ++ call ∷ []) ≡ (rest.0 ++ reply ∷ [], next) =
+    redone_all-more first.1 cs rest.0 rest.1 call reply next refl (ap (λ (o : List Reply × State). redone o.1 call) so_far ∙ one) in
+    ap (λ (o : List Reply × State). let all : List Reply × State = (first.0 ∷ o.0, o.1) in all) more ∙ ap (λ (o : List Reply × State). let all : List Reply × State = (o.0 ++ reply ∷ [], next) in all) so_far
+
+-- what is left of calls that can be made again, once the first is made
+pub can_redo-rest : (old : State) (call : Stored) (calls : List Stored) (reply : Reply) (new : State) → CanRedoAll old (call ∷ calls) → redone old call ≡ (reply, new) → CanRedoAll new calls
+can_redo-rest old call calls reply new can one = subst (λ (o : Outcome). CanRedoAll o.1 calls) one can.1
+
+-- and of a run whose events had life left
+pub lasting-rest : (old : State) (call : Stored) (calls : List Stored) (replies : List Reply) (end : State) (reply : Reply) (new : State)
+    → LastingRun old (call ∷ calls) replies end → redone old call ≡ (reply, new) → (rest : List Reply) × LastingRun new calls rest end
+lasting-rest old call calls [] end reply new run one = absurd run
+lasting-rest old call calls (r ∷ rs) end reply new run one =
+    let same : run.0 ≡ new = ap (λ (o : Outcome). o.1) (sym (redone_is old call r run.0 run.3 run.1) ∙ one) in
+    (rs, subst (λ (s : State). LastingRun s calls rs end) same run.4)
+
+-- such a run's next call is refused for want of memory alone
+pub lasting-refused : (old : State) (call : Stored) (calls : List Stored) (replies : List Reply) (end : State) (refusal : Refusal) → LastingRun old (call ∷ calls) replies end → IsRefused old call.event refusal → refusal ≡ Memory
+lasting-refused old call calls [] end refusal run refused = absurd run
+lasting-refused old call calls (r ∷ rs) end Memory run refused = refl
+lasting-refused old call calls (r ∷ rs) end Stale run refused = absurd (false≢true (sym refused ∙ run.3.out))
+lasting-refused old call calls (r ∷ rs) end Exhausted run refused = absurd (false≢true (sym refused.1 ∙ run.2))
+lasting-refused old call calls (r ∷ rs) end (Behind count front) run refused = absurd refused

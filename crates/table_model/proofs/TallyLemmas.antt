@@ -28,7 +28,8 @@ use Rattle.table_model.specs.State.{State, empty_table, record_at, zero_record, 
 use Rattle.table_model.specs.Step.{Step, begun, put_pairs, found_or_zero}
 use Rattle.table_model.specs.Run.{Run}
 use Rattle.table_model.specs.Limits.{moment_of}
-use Rattle.table_model.specs.Laws.{steps_of, values_after, act_told, act_for, added, counted_by, counted_with, counted_since, TallyLaw}
+use Rattle.table_model.specs.Laws.{values_after, TallyLaw}
+use Rattle.table_model.specs.Counted.{steps_of, act_told, act_for, added, counted_by, counted_with, counted_since}
 use Rattle.table_model.specs.declared.rows.Record.{Record}
 use Rattle.table_model.specs.declared.rows.Cell.{Cell}
 use Rattle.table_model.specs.declared.specification.Spec.{Spec}

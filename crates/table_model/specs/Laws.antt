@@ -15,8 +15,9 @@ use Rattle.stored_data.specs.declared.act.Act.{Act}
 use Rattle.stored_data.specs.declared.act.Change.{Change}
 use Rattle.stored_data.specs.declared.act.Change.TheVariants.{Add}
 use Rattle.stored_data.specs.declared.act.Act.TheVariants.{Connection}
-use Rattle.table_model.specs.Step.{Step, put_pairs, ticket_of}
-use Rattle.table_model.specs.Run.{Run, StoredRun}
+use Rattle.table_model.specs.Step.{Step, put_pairs, subject_of, ticket_of}
+use Rattle.table_model.specs.Counted.{IsTallied, counted_since, steps_of}
+use Rattle.table_model.specs.Run.{Run, StoredRun, CanRedoAll, redone_all}
 use Rattle.std.specs.List.{IsDistinct}
 use Rattle.table_model.specs.Room.{is_purged, purged, all_tracked}
 use Rattle.table_model.specs.Legal.{IsLegal, stamp_in}
@@ -42,6 +43,11 @@ LimitLaw = (old : State) (events : List Event) (replies : List Reply) (new : Sta
 abbrev pub OneRunLaw : Type 0
 OneRunLaw = (old : State) (calls : List Stored) (replies others : List Reply) (new other : State) →
     StoredRun old calls replies new → StoredRun old calls others other → (replies ≡ others) × (new ≡ other)
+
+-- the stored calls of a run can be made again from where it began, and then give its replies and the state after it
+abbrev pub RedoLaw : Type 0
+RedoLaw = (old : State) (calls : List Stored) (replies : List Reply) (new : State) →
+    StoredRun old calls replies new → CanRedoAll old calls × (redone_all old calls ≡ (replies, new))
 
 -- ---- runs
 
@@ -98,14 +104,6 @@ values_after clock (Count now ticket act) values = acted values clock act
 values_after clock (Put now key pairs) values = put_pairs pairs values
 values_after clock event values = values
 
--- the key that an event is of: that which it names, or that of its ticket
-abbrev pub subject_of : State → Event → Option Key
-subject_of old (Track now key) = Some key
-subject_of old (Put now key pairs) = Some key
-subject_of old (Count now ticket act) = key_of ticket old.tickets
-subject_of old (Release now ticket) = key_of ticket old.tickets
-subject_of old event = None
-
 -- the key has a record before and after: the same, or, where the event is of the key, with the data that the event makes of it
 pub record IsKept (old : State) (event : Event) (new : State) (key : Key) : Type 0 where
   pub before : Record
@@ -119,56 +117,6 @@ abbrev pub NeverLostLaw : Type 0
 NeverLostLaw = (old : State) (event : Event) (reply : Reply) (new : State) (key : Key) → IsLegal old → Step old event reply new → IsTrue (is_tracked key old.tickets) → IsKept old event new key
 
 -- ---- rates
-
--- a step of a run, from the state before it
-pub record Taken : Type 0 where
-  pub before : State
-  pub event : Event
-  pub reply : Reply
-
--- the steps of a run
-abbrev pub steps_of : (old : State) (events : List Event) (replies : List Reply) (new : State) → Run old events replies new → List Taken
-steps_of old [] [] new run = []
-steps_of old (event ∷ events) (reply ∷ replies) new run = record { before = old; event = event; reply = reply } ∷ steps_of run.0 events replies new run.2
-steps_of old [] (reply ∷ replies) new run = []
-steps_of old (event ∷ events) [] new run = []
-
--- the act that an event's reply tells to be counted: a connection for a new reference, and the act of a count
-abbrev pub act_told : Event → Reply → Option Act
-act_told (Track now key) (Tracked ticket row) = Some Connection
-act_told (Count now ticket act) (Value value) = Some act
-act_told event reply = None
-
--- the act that a step counts for a key
-abbrev pub act_for : Key → Taken → Option Act
-act_for key step = if option_map_or (same_key key) (subject_of step.before step.event) false then act_told step.event step.reply else None
-
--- what a change adds, at a moment
-abbrev pub added : ℕ → Change → List Rated
-added moment (Add n) = record { moment = moment; amount = n } ∷ []
-added moment change = []
-
--- what a step counts of a key in a datum, at the clock
-abbrev pub counted_by : Key → Datum → Taken → List Rated
-counted_by key datum step = option_map_or (λ act. added (max step.before.clock (moment_of step.event)) (change act datum)) (act_for key step) []
-
--- whether the key still has its record when the clock has come to the step's moment
-abbrev pub has_record : Key → Taken → Bool
-has_record key step = is_some (record_at key (advance step.before (moment_of step.event)).records)
-
--- what was counted up to a step: a record that is gone took all before with it
-abbrev pub counted_with : Key → Datum → List Rated → Taken → List Rated
-counted_with key datum counts step = (if has_record key step then counts else []) ++ counted_by key datum step
-
--- what the steps of a run counted of a key in a datum since the key's record was made
-abbrev pub counted_since : Key → Datum → List Taken → List Rated
-counted_since key datum steps = fold (counted_with key datum) [] steps
-
--- a record keeps of a rate the tally of these counts, and shows their rate
-pub record IsTallied (values : List Field) (column : Column) (counts : List Rated) (clock : ℕ) : Type 0 where
-  pub up_to : AreUpTo counts clock
-  pub kept : content_of values column.datum ≡ Some (Rate (tally counts column.period))
-  pub shown : value_at values column.datum clock ≡ Some (rate counts column.period clock)
 
 -- in every run from the empty table, a rate's tally is the tally of what the run counted in its column since the record was made
 abbrev pub TallyLaw : Type 0

@@ -8,4 +8,5 @@ pub mod Limits
 pub mod Run
 pub mod Legal
 pub mod Passed
+pub mod Counted
 pub mod Laws

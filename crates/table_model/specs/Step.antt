@@ -1,5 +1,5 @@
 -- What each event does.
-use Rattle.std.specs.Prelude.{◌≡◌, ℕ, ◌+◌, ◌-◌, nat_lt, nat_le, Bool, true, false, not, ◌&&◌, if◌then◌else◌, List, [], ◌∷◌, ◌++◌, length, map, filter, count_by, fold, Option, Some, None, unwrap_or, is_some, IsTrue}
+use Rattle.std.specs.Prelude.{◌≡◌, ℕ, ◌+◌, ◌-◌, ◌<◌, nat_lt, nat_le, Bool, true, false, not, ◌&&◌, if◌then◌else◌, List, [], ◌∷◌, ◌++◌, length, map, filter, count_by, fold, Option, Some, None, unwrap_or, is_some, IsTrue}
 use Rattle.std.specs.Option.{option_map_or, option_and_then}
 use Rattle.std.specs.Map.{set_value}
 use Rattle.stored_data.specs.Acts.{acted, answer, with_value}
@@ -160,6 +160,20 @@ abbrev pub slot_of : Reply → Option ℕ
 slot_of (Tracked ticket row) = Some ticket.slot
 slot_of _ = None
 
+-- whether a reply shows rows, and whether an event asks for some
+abbrev pub shows_rows : Reply → Bool
+shows_rows (ARow row) = true
+shows_rows (Tracked ticket row) = true
+shows_rows (Rows used rows) = true
+shows_rows _ = false
+
+abbrev pub asks_rows : Event → Bool
+asks_rows (Get now key) = true
+asks_rows (Track now key) = true
+asks_rows (Look now ticket) = true
+asks_rows (ListRows now choice) = true
+asks_rows _ = false
+
 -- the ticket that an event names
 abbrev pub ticket_of : Event → Option Ticket
 ticket_of (Look now ticket) = Some ticket
@@ -167,9 +181,22 @@ ticket_of (Count now ticket act) = Some ticket
 ticket_of (Release now ticket) = Some ticket
 ticket_of _ = None
 
+-- the key that an event is of: that which it names, or that of its ticket
+abbrev pub subject_of : State → Event → Option Key
+subject_of old (Track now key) = Some key
+subject_of old (Put now key pairs) = Some key
+subject_of old (Count now ticket act) = key_of ticket old.tickets
+subject_of old (Release now ticket) = key_of ticket old.tickets
+subject_of old event = None
+
 -- whether the ticket that it names, if it names one, is out
 abbrev pub is_out : State → Event → Bool
 is_out state event = option_map_or (λ ticket. is_some (key_of ticket state.tickets)) (ticket_of event) true
+
+-- whether the event may make a reference: it tracks, and fewer are out than may be
+abbrev pub MayTrack : State → Event → Type 0
+MayTrack state (Track now key) = length state.tickets < state.spec.max_refs
+MayTrack state _ = ⊥
 
 abbrev pub is_free_slot : State → ℕ → Bool
 is_free_slot state slot = nat_lt slot state.spec.max_refs && is_free slot state.tickets

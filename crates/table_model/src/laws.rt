@@ -1,6 +1,6 @@
 //! Laws of stick tables: what every run of every table keeps. Each is the contract of a function that does nothing.
 
-ghost use Rattle.table_model.specs.Laws.{CountLaw, EmptyLegalLaw, ExpiryLaw, JoinLaw, LimitLaw, NeverLostLaw, OneRunLaw, PurgeLaw, ReferenceLaw, RunLegalLaw, StepLegalLaw, TallyLaw, TicketsLaw};
+ghost use Rattle.table_model.specs.Laws.{CountLaw, EmptyLegalLaw, ExpiryLaw, JoinLaw, LimitLaw, NeverLostLaw, OneRunLaw, PurgeLaw, RedoLaw, ReferenceLaw, RunLegalLaw, StepLegalLaw, TallyLaw, TicketsLaw};
 
 /// The limit law: in every run from a legal state, for every key and limit, at most `limit` references of the key are
 /// out that had, in this run, a look whose row has at most `limit` references.
@@ -11,6 +11,12 @@ pub fn limit()
 /// A list of stored calls has one run at most: its replies, and the state after it, are determined.
 pub fn one_run()
     ensures { OneRunLaw }
+{}
+
+/// The stored calls of a run can be made again from where it began, from the empty table or any other state, and then
+/// give its replies and the state after it.
+pub fn redo()
+    ensures { RedoLaw }
 {}
 
 /// A run counts as many events as it has.

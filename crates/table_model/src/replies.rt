@@ -1,10 +1,12 @@
 //! What a table answers.
-ghost use Rattle.std.specs.Prelude.{◌≡◌};
+ghost use Rattle.std.specs.Prelude.{◌≡◌, IfOk, IsOk, false};
+ghost use Rattle.table_model.specs.Step.{shows_rows, slot_of};
 ghost use Rattle.table_model.specs.declared.replies.Refusal.TheVariants.{Memory};
 
+use crate::rows::copy_rows;
 use crate::{Row, Rows, Ticket};
 use sequence::NoMemory;
-use std::alloc::AllocFailed;
+use std::alloc::{AllocFailed, Global};
 use stored_data::Datum;
 use thiserror::Error;
 
@@ -38,6 +40,51 @@ pub enum Reply {
     Rows { used: u64, rows: Rows },
     /// How many entries' dates were reached.
     Expired(u64),
+}
+
+impl Reply {
+    /// The slot of the reference that it tells, where it is `Tracked`.
+    pub fn slot(&self) -> Option<u32>
+        ensures { result ≡ slot_of self.now }
+    {
+        match self {
+            Reply::Tracked { ticket, .. } => Some(ticket.slot),
+            _ => None,
+        }
+    }
+
+    /// An equal reply. One that shows no row takes no memory.
+    pub fn copy(&self, alloc: Global) -> Result<Reply, NoMemory>
+        ensures equal { IfOk result (λ reply. reply ≡ self.now) }
+        ensures memory { shows_rows self.now ≡ false → IsOk result }
+    {
+        match self {
+            Reply::Absent => Ok(Reply::Absent),
+            Reply::Row(row) => Ok(Reply::Row(row.copy()?)),
+            Reply::NoRefs => Ok(Reply::NoRefs),
+            Reply::Full => Ok(Reply::Full),
+            Reply::Tracked { ticket, row } => Ok(Reply::Tracked {
+                ticket: *ticket,
+                row: row.copy()?,
+            }),
+            Reply::Value(value) => Ok(Reply::Value(*value)),
+            Reply::Released => Ok(Reply::Released),
+            Reply::NotSettable(datum) => Ok(Reply::NotSettable(*datum)),
+            Reply::NotStored(datum) => Ok(Reply::NotStored(*datum)),
+            Reply::Written { created } => Ok(Reply::Written { created: *created }),
+            Reply::InUse => Ok(Reply::InUse),
+            Reply::Removed => Ok(Reply::Removed),
+            Reply::Cleared { removed, kept } => Ok(Reply::Cleared {
+                removed: *removed,
+                kept: *kept,
+            }),
+            Reply::Rows { used, rows } => Ok(Reply::Rows {
+                used: *used,
+                rows: copy_rows(alloc, rows.as_slice())?,
+            }),
+            Reply::Expired(count) => Ok(Reply::Expired(*count)),
+        }
+    }
 }
 
 /// Why an event was refused. A refusal changes nothing and is no event.

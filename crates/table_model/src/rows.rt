@@ -1,6 +1,8 @@
 //! What a table keeps of a key, and what it shows of it.
+ghost use Rattle.std.specs.Prelude.{◌≡◌, IfOk};
 
-use sequence::Sequence;
+use sequence::{NoMemory, Sequence};
+use std::alloc::Global;
 use stick_key::StickKey;
 use stored_data::{Datum, Values};
 
@@ -18,6 +20,19 @@ pub struct Record {
     pub stamp: u64,
     pub date: Option<u64>,
     pub values: Values,
+}
+
+impl Record {
+    /// An equal record.
+    pub fn copy(&self) -> Result<Record, NoMemory>
+        ensures { IfOk result (λ found. found ≡ self.now) }
+    {
+        Ok(Record {
+            stamp: self.stamp,
+            date: self.date,
+            values: self.values.copy()?,
+        })
+    }
 }
 
 /// A datum and its value.
@@ -40,5 +55,30 @@ pub struct Row {
     pub cells: Cells,
 }
 
+impl Row {
+    /// An equal row.
+    pub fn copy(&self) -> Result<Row, NoMemory>
+        ensures { IfOk result (λ row. row ≡ self.now) }
+    {
+        Ok(Row {
+            key: self.key.copy()?,
+            refs: self.refs,
+            left: self.left,
+            cells: self.cells.copy()?,
+        })
+    }
+}
+
 /// Rows in the order of their keys.
 pub type Rows = Sequence<Row>;
+
+/// Equal rows.
+pub fn copy_rows(alloc: Global, rows: &[Row]) -> Result<Rows, NoMemory>
+    ensures { IfOk result (λ copy. copy ≡ rows.now) }
+{
+    let mut copy = Vec::new(alloc);
+    for row in rows {
+        copy.push(row.copy()?)?;
+    }
+    Ok(Sequence::from_vec(copy))
+}

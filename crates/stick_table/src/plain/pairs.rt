@@ -1,14 +1,13 @@
 //! Data that are put.
-ghost use Rattle.std.specs.Prelude.{◌≡◌, IfSome, None};
-ghost use Rattle.table_model.specs.Step.{put_fault as put_fault_of, put_pairs as put_pairs_of, slot_of};
+ghost use Rattle.std.specs.Prelude.{◌≡◌};
+ghost use Rattle.table_model.specs.Step.{put_fault as put_fault_of, put_pairs as put_pairs_of};
 
 use stored_data::{StoredSet, Values, settable};
 use table_model::{Cell, Reply};
 
 /// What the first pair that can't be put is answered.
 pub fn put_fault(columns: &StoredSet, pairs: &[Cell]) -> Option<Reply>
-    ensures fault { result ≡ put_fault_of columns.now pairs.now }
-    ensures no_slot { IfSome result (λ reply. slot_of reply ≡ None) }
+    ensures { result ≡ put_fault_of columns.now pairs.now }
 {
     for pair in pairs {
         if !settable(pair.datum) {

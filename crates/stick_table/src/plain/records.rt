@@ -195,3 +195,17 @@ pub fn act_at(
         None
     }
 }
+
+/// Equal records with equal keys.
+pub fn copy_records(
+    alloc: Global,
+    records: &[(StickKey, Record)],
+) -> Result<Vec<(StickKey, Record)>, NoMemory>
+    ensures { IfOk result (λ copy. copy.items ≡ records.now) }
+{
+    let mut copy = Vec::new(alloc);
+    for entry in records {
+        copy.push((entry.0.copy()?, entry.1.copy()?))?;
+    }
+    Ok(copy)
+}

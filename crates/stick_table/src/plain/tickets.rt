@@ -1,9 +1,11 @@
 //! References: tickets with their keys, the oldest first.
-ghost use Rattle.std.specs.Prelude.{◌≡◌, ◌≢◌, ◌+◌, ◌≤◌, ◌<◌, ◌++◌, ◌∷◌, [], length, filter, not, MatchOption, vec_len, vec_capacity, None, true};
+ghost use Rattle.std.specs.Prelude.{◌≡◌, ◌≢◌, ◌+◌, ◌≤◌, ◌<◌, ◌++◌, ◌∷◌, [], length, filter, not, MatchOption, IfOk, vec_len, vec_capacity, None, true};
 ghost use Rattle.std.specs.Option.{option_copied};
 ghost use Rattle.table_model.specs.State.{same_ticket, key_of, refs as refs_of, is_tracked as is_key_tracked, is_free as is_slot_free};
 
 use crate::plain::records::is_same;
+use sequence::NoMemory;
+use std::alloc::Global;
 use stick_key::StickKey;
 use table_model::Ticket;
 
@@ -88,4 +90,18 @@ pub fn push_ticket(tickets: &mut Vec<(Ticket, StickKey)>, ticket: Ticket, key: S
     ensures len { vec_len tickets.new ≡ vec_len tickets.old + 1 }
 {
     let _ = tickets.push((ticket, key));
+}
+
+/// Equal tickets with equal keys.
+pub fn copy_tickets(
+    alloc: Global,
+    tickets: &[(Ticket, StickKey)],
+) -> Result<Vec<(Ticket, StickKey)>, NoMemory>
+    ensures { IfOk result (λ copy. copy.items ≡ tickets.now) }
+{
+    let mut copy = Vec::new(alloc);
+    for held in tickets {
+        copy.push((held.0, held.1.copy()?))?;
+    }
+    Ok(copy)
 }

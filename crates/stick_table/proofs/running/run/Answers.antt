@@ -1,27 +1,34 @@
-use Rattle.std.proofs.Common.{◌≡◌, ◌∷◌, [], ◌++◌, ◌+◌, sym, ◌∙◌, ap, subst, drop, List, append_assoc, refl}
-use Rattle.std.proofs.lemmas.List.{at_drop_more, at_drop_all}
+use Rattle.std.proofs.Common.{◌≡◌, ℕ, ◌<◌, ◌∷◌, [], ◌++◌, ◌+◌, sym, ◌∙◌, ap, subst, take, get_or, length, List, refl, inl}
+use Rattle.std.proofs.lemmas.List.{take_more}
+use Rattle.table_model.specs.State.{State}
 use Rattle.table_model.specs.Run.{Run}
+use Rattle.table_model.specs.Step.{Step}
 use Rattle.table_model.specs.declared.events.Event.{Event}
 use Rattle.table_model.specs.declared.replies.Reply.{Reply}
-use Rattle.stick_table.proofs.ListLemmas.{append-nil}
+use Rattle.table_model.proofs.RunLemmas.{run_more}
 use Rattle.stick_table.proofs.running.run.Goals as goal
 
-pub loop-event-preserved : goal.loop-event-preserved
-loop-event-preserved g c = λ rest new more.
-    let state = g.T.Table.state in
-    let events = c.args.events.now in
-    let i = c.loop-event.event-index in
-    let reply = c.in_ok-reply.reply in
-    let split : drop i events ≡ c.event-item.result ∷ drop (i + 1) events =
-    at_drop_more (λ xs. xs) events i c.event-item.result c.loop-event-test.true ∙ ap (λ e. e ∷ drop (i + 1) events) (sym c.event-item.is) in
-    let longer = c.loop-event.invariant (reply ∷ rest) new (subst (λ (es : List Event). Run (state c.loop-event.table) es (reply ∷ rest) new) (sym split) (state c.step.new.self, c.in_ok-reply.ensures.ok, more)) in
-    let joined : c.push.new.self ++ rest ≡ c.loop-event.replies ++ reply ∷ rest =
-    ap (λ rs. rs ++ rest) c.in-Ok.ensures.ok ∙ append_assoc c.loop-event.replies (reply ∷ []) rest in
-    subst (λ (rs : List Reply). Run (state c.args.table.now) events rs new) (sym joined) longer
+-- one event more of those that were answered
+answered-more : (old : State) (events : List Event) (i : ℕ) (event : Event) (replies : List Reply) (middle : State) (reply : Reply) (next : State) → i < length events → event ≡ get_or events i event
+    → Run old (take i events) replies middle → Step middle event reply next → Run old (take (i + 1) events) (replies ++ reply ∷ []) next
+answered-more old events i event replies middle reply next below is so_far step =
+    let split : take (i + 1) events ≡ take i events ++ event ∷ [] = take_more events i event below ∙ ap (λ (e : Event). take i events ++ e ∷ []) (sym is) in
+    subst (λ (es : List Event). Run old es (replies ++ reply ∷ []) next) (sym split) (run_more old (take i events) replies middle event reply next so_far step)
 
-pub returns : goal.returns
-returns g c =
+pub loop-event-preserved : goal.loop-event-preserved
+loop-event-preserved g c =
     let state = g.T.Table.state in
-    let done = c.loop-event.invariant [] (state c.loop-event.table)
-    (subst (λ (es : List Event). Run (state c.loop-event.table) es [] (state c.loop-event.table)) (sym (at_drop_all (λ xs. xs) c.args.events.now c.loop-event.event-index c.loop-event-test.false)) refl) in
-    subst (λ (rs : List Reply). Run (state c.args.table.now) c.args.events.now rs (state c.loop-event.table)) (append-nil c.loop-event.replies) done
+    subst (λ (rs : List Reply). Run (state c.args.table.now) (take (c.loop-event.event-index + 1) c.args.events.now) rs (state c.step.new.self)) (sym c.in-Ok.ensures.ok)
+    (answered-more (state c.args.table.now) c.args.events.now c.loop-event.event-index c.event-item.result c.loop-event.replies (state c.loop-event.table) c.in_ok-reply.reply (state c.step.new.self)
+    c.loop-event-test.true c.event-item.is c.loop-event.invariant c.in_ok-reply.ensures.ok)
+
+pub returns-in-Err-clause-err : goal.returns-in-Err-clause-err
+returns-in-Err-clause-err g c =
+    let state = g.T.Table.state in
+    record {
+      done = c.loop-event.event-index + 1;
+      replies = c.loop-event.replies ++ c.in_ok-reply.reply ∷ [];
+      run = answered-more (state c.args.table.now) c.args.events.now c.loop-event.event-index c.event-item.result c.loop-event.replies (state c.loop-event.table) c.in_ok-reply.reply (state c.step.new.self)
+          c.loop-event-test.true c.event-item.is c.loop-event.invariant c.in_ok-reply.ensures.ok;
+      why = inl refl;
+    }

@@ -1,0 +1,46 @@
+use Rattle.std.proofs.Common.{◌≡◌, ℕ, ◌<◌, ◌∷◌, [], ◌++◌, ◌+◌, sym, ◌∙◌, ap, subst, take, drop, get_or, length, List, refl, inl}
+use Rattle.std.proofs.lemmas.List.{take_more, at_drop_more}
+use Rattle.table_model.specs.State.{State}
+use Rattle.table_model.specs.Run.{LastingRun, CanRedoAll, redone, redone_all}
+use Rattle.table_model.specs.declared.events.Stored.{Stored}
+use Rattle.table_model.specs.declared.replies.Reply.{Reply}
+use Rattle.table_model.proofs.RunLemmas.{redone_all-more, can_redo-rest, lasting-rest}
+use Rattle.stick_table.proofs.redoing.redo_all.Goals as goal
+
+-- one call more of those that were made again
+made-more : (old : State) (calls : List Stored) (i : ℕ) (call : Stored) (replies : List Reply) (middle : State) (reply : Reply) (next : State) → i < length calls → call ≡ get_or calls i call
+    → redone_all old (take i calls) ≡ (replies, middle) → redone middle call ≡ (reply, next) → redone_all old (take (i + 1) calls) ≡ (replies ++ reply ∷ [], next)
+made-more old calls i call replies middle reply next below is so_far one =
+    let split : take (i + 1) calls ≡ take i calls ++ call ∷ [] = take_more calls i call below ∙ ap (λ (e : Stored). take i calls ++ e ∷ []) (sym is) in
+    subst (λ (cs : List Stored). redone_all old cs ≡ (replies ++ reply ∷ [], next)) (sym split) (redone_all-more old (take i calls) replies middle call reply next so_far one)
+
+left : (calls : List Stored) (i : ℕ) (call : Stored) → i < length calls → call ≡ get_or calls i call → drop i calls ≡ call ∷ drop (i + 1) calls
+left calls i call below is = at_drop_more (λ cs. cs) calls i call below ∙ ap (λ (c : Stored). c ∷ drop (i + 1) calls) (sym is)
+
+pub loop-call-preserved : goal.loop-call-preserved
+loop-call-preserved c =
+    let old : State = c.args.table.now in
+    let calls : List Stored = c.args.calls.now in
+    let i : ℕ = c.loop-call.call-index in
+    let call : Stored = c.call-item.result in
+    let middle : State = c.loop-call.table in
+    let reply : Reply = c.in_ok-reply.reply in
+    let next : State = c.redo.new.self in
+    let one : redone middle call ≡ (reply, next) = c.in_ok-reply.ensures.redone in
+    let rest : drop i calls ≡ call ∷ drop (i + 1) calls = left calls i call c.loop-call-test.true c.call-item.is in
+    record {
+      done = made-more old calls i call c.loop-call.replies middle reply next c.loop-call-test.true c.call-item.is c.loop-call.invariant.done one ∙ ap (λ (rs : List Reply). let all : List Reply × State = (rs, next) in all) (sym c.in-Ok.ensures.ok);
+      slots = can_redo-rest middle call (drop (i + 1) calls) reply next (subst (CanRedoAll middle) rest c.loop-call.invariant.slots) one;
+      lasts = λ replies end run.
+          let lasting = c.loop-call.invariant.lasts replies end run in
+          lasting-rest middle call (drop (i + 1) calls) lasting.0 end reply next (subst (λ (cs : List Stored). LastingRun middle cs lasting.0 end) rest lasting.1) one;
+    }
+
+pub returns-in-Err-clause-err : goal.returns-in-Err-clause-err
+returns-in-Err-clause-err c =
+    record {
+      done = c.loop-call.call-index + 1;
+      made = ap (λ (o : List Reply × State). o.1) (made-more c.args.table.now c.args.calls.now c.loop-call.call-index c.call-item.result c.loop-call.replies c.loop-call.table c.in_ok-reply.reply c.redo.new.self
+          c.loop-call-test.true c.call-item.is c.loop-call.invariant.done c.in_ok-reply.ensures.redone);
+      why = inl refl;
+    }

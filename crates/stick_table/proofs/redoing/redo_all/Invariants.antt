@@ -1,0 +1,12 @@
+use Rattle.std.proofs.Common.{◌≡◌, List, take, drop}
+use Rattle.table_model.specs.State.{State}
+use Rattle.table_model.specs.Run.{LastingRun, CanRedoAll, redone_all}
+use Rattle.table_model.specs.declared.replies.Reply.{Reply}
+use Rattle.stick_table.proofs.redoing.redo_all.Given as goal
+
+abbrev pub invariant-loop-call : goal.invariant-loop-call
+invariant-loop-call l = record {
+  done : redone_all l.fn.table (take l.call-index l.calls) ≡ (l.replies, l.table);
+  slots : CanRedoAll l.table (drop l.call-index l.calls);
+  lasts : (replies : List Reply) (new : State) → LastingRun l.fn.table l.calls replies new → (rest : List Reply) × LastingRun l.table (drop l.call-index l.calls) rest new;
+}

@@ -1,0 +1,185 @@
+//! What changes a plain table: the clock, data that are set or counted, references that are given back, entries that
+//! are removed.
+ghost use Rattle.std.specs.Prelude.{◌≡◌, ◌≢◌, ◌+◌, ◌<◌, ◌^◌, IfOk, IsOk, OnErr, None, true, false, length};
+ghost use Rattle.table_model.specs.State.{key_of};
+ghost use Rattle.table_model.specs.Limits.{IsTableEvent};
+ghost use Rattle.table_model.specs.Refusals.{has_life, takes_memory};
+ghost use Rattle.table_model.specs.Step.{asks_rows, is_out, after, begun, clear as reply_to_clear, clear_where as reply_to_clear_where, put as reply_to_put, put_allowed as reply_to_put_allowed, expire as reply_to_expire, count as reply_to_count, release as reply_to_release};
+
+use crate::plain::filters::{clear_matching, not_stored};
+use crate::plain::pairs::{put_fault, put_pairs};
+use crate::plain::records::{act_at, drop_dead, find, live_values, remove_record, touch};
+use crate::plain::room::store;
+use crate::plain::tickets::{find_key, is_tracked, remove_ticket};
+use crate::plain::{PlainTable, date_after};
+use sequence::NoMemory;
+use stick_key::StickKey;
+use stored_data::Act;
+use table_model::{Cell, Event, Filter, Record, Reply, Ticket};
+
+impl PlainTable {
+    /// The moment of an event has come.
+    pub(super) fn begin(&mut self, now: u64)
+        requires moment { now < 2 ^ 62 }
+        requires life { self.old.events + length self.old.tickets < self.old.spec.life }
+        ensures { self.new ≡ begun self.old now }
+    {
+        let clock = self.clock.max(now);
+        self.clock = clock;
+        self.events += 1;
+        drop_dead(&mut self.records, &self.tickets, clock);
+    }
+
+    pub(super) fn clear(&mut self, now: u64, key: &StickKey) -> Reply
+        requires moment { now < 2 ^ 62 }
+        requires life { self.old.events + length self.old.tickets < self.old.spec.life }
+        ensures { reply_to_clear (begun self.old now) key.now ≡ (result, self.new) }
+    {
+        self.begin(now);
+        if find(&self.records, key).is_none() {
+            return Reply::Absent;
+        }
+        if is_tracked(&self.tickets, key) {
+            return Reply::InUse;
+        }
+        remove_record(&mut self.records, key);
+        Reply::Removed
+    }
+
+    pub(super) fn put(
+        &mut self,
+        now: u64,
+        key: &StickKey,
+        pairs: &[Cell],
+    ) -> Result<Reply, NoMemory>
+        requires moment { now < 2 ^ 62 }
+        requires life { self.old.events + length self.old.tickets < self.old.spec.life }
+        ensures ok { IfOk result (λ reply. reply_to_put (begun self.old now) key.now pairs.now ≡ (reply, self.new)) }
+        ensures err { OnErr result (self.new ≡ self.old) }
+    {
+        match put_fault(&self.spec.columns, pairs) {
+            Some(fault) => {
+                self.begin(now);
+                Ok(fault)
+            }
+            None => self.put_allowed(now, key, pairs),
+        }
+    }
+
+    fn put_allowed(&mut self, now: u64, key: &StickKey, pairs: &[Cell]) -> Result<Reply, NoMemory>
+        requires moment { now < 2 ^ 62 }
+        requires life { self.old.events + length self.old.tickets < self.old.spec.life }
+        ensures ok { IfOk result (λ reply. reply_to_put_allowed (begun self.old now) key.now pairs.now ≡ (reply, self.new)) }
+        ensures err { OnErr result (self.new ≡ self.old) }
+    {
+        let clock = self.clock.max(now);
+        let mut values = live_values(
+            self.alloc,
+            &self.spec.columns,
+            &self.records,
+            &self.tickets,
+            clock,
+            key,
+        )?;
+        put_pairs(&mut values, pairs);
+        let entry_key = key.copy()?;
+        self.records.reserve(1)?;
+        let stamp = self.events + 1;
+        self.clock = clock;
+        self.events = stamp;
+        drop_dead(&mut self.records, &self.tickets, clock);
+        let created = find(&self.records, key).is_none();
+        let date = date_after(self.spec.expire, clock);
+        let found = Record {
+            stamp,
+            date,
+            values,
+        };
+        if !store(
+            &mut self.records,
+            &self.tickets,
+            &self.spec,
+            entry_key,
+            found,
+        ) {
+            return Ok(Reply::Full);
+        }
+        Ok(Reply::Written { created })
+    }
+
+    pub(super) fn expire(&mut self, now: u64) -> Reply
+        requires moment { now < 2 ^ 62 }
+        requires life { self.old.events + length self.old.tickets < self.old.spec.life }
+        ensures { reply_to_expire self.old (begun self.old now) ≡ (result, self.new) }
+    {
+        let before = self.records.len();
+        self.begin(now);
+        Reply::Expired(before.saturating_sub(self.records.len()) as u64)
+    }
+
+    pub(super) fn clear_where(&mut self, now: u64, choice: &Filter) -> Reply
+        requires moment { now < 2 ^ 62 }
+        requires life { self.old.events + length self.old.tickets < self.old.spec.life }
+        ensures { reply_to_clear_where (begun self.old now) choice.now ≡ (result, self.new) }
+    {
+        self.begin(now);
+        match not_stored(&self.spec.columns, choice) {
+            Some(datum) => Reply::NotStored(datum),
+            None => clear_matching(&mut self.records, &self.tickets, self.clock, choice),
+        }
+    }
+
+    pub(super) fn count(&mut self, now: u64, ticket: Ticket, act: Act) -> Reply
+        requires moment { now < 2 ^ 62 }
+        requires life { self.old.events + length self.old.tickets < self.old.spec.life }
+        ensures { reply_to_count (begun self.old now) ticket act ≡ (result, self.new) }
+    {
+        let clock = self.clock.max(now);
+        self.clock = clock;
+        self.events += 1;
+        drop_dead(&mut self.records, &self.tickets, clock);
+        match find_key(&self.tickets, ticket) {
+            Some(key) => Reply::Value(act_at(self.records.as_mut_slice(), key, clock, act)),
+            None => Reply::Absent,
+        }
+    }
+
+    pub(super) fn release(&mut self, now: u64, ticket: Ticket) -> Reply
+        requires moment { now < 2 ^ 62 }
+        requires out { key_of ticket self.old.tickets ≢ None }
+        ensures { reply_to_release (begun self.old now) ticket ≡ (result, self.new) }
+    {
+        let clock = self.clock.max(now);
+        let date = date_after(self.spec.expire, clock);
+        drop_dead(&mut self.records, &self.tickets, clock);
+        if let Some(key) = find_key(&self.tickets, ticket) {
+            touch(self.records.as_mut_slice(), key, self.events + 1, date);
+        }
+        remove_ticket(&mut self.tickets, ticket);
+        self.clock = clock;
+        self.events += 1;
+        Reply::Released
+    }
+
+    /// The reply to an event that asks for no rows, twice.
+    pub(super) fn change_twice(
+        &mut self,
+        event: &Event,
+        slot: u32,
+    ) -> Result<(Reply, Reply), NoMemory>
+        requires event { IsTableEvent event.now }
+        requires out { is_out self.old event.now ≡ true }
+        requires life { has_life self.old event.now ≡ true }
+        requires rows { asks_rows event.now ≡ false }
+        ensures ok { IfOk result (λ replies. after self.old event.now slot ≡ (replies.0, self.new)) }
+        ensures twice { IfOk result (λ replies. replies.1 ≡ replies.0) }
+        ensures err { OnErr result (self.new ≡ self.old) }
+        ensures memory { takes_memory event.now ≡ false → IsOk result }
+    {
+        let reply = self.answer(event, slot)?;
+        match reply.copy(self.alloc) {
+            Ok(again) => Ok((reply, again)),
+            Err(_) => unreachable!(),
+        }
+    }
+}

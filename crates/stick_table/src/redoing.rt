@@ -1,0 +1,36 @@
+//! Stored calls, made again on a plain table.
+
+ghost use Rattle.std.specs.Prelude.{◌≡◌, All, IfOk, IfErr, List};
+ghost use Rattle.table_model.specs.State.{State};
+ghost use Rattle.table_model.specs.Run.{LastingRun, RedoStops, CanRedoAll, redone_all};
+ghost use Rattle.table_model.specs.Limits.{IsTableEvent};
+
+use crate::PlainTable;
+use sequence::Sequence;
+use std::alloc::Global;
+use table_model::{Refusal, Reply, Stored};
+
+/// The replies to stored calls, made again one after another: a reference that one makes gets the slot that it names.
+/// It ends at the first refusal; the calls before it stand. Calls that had life left where they were made are refused
+/// for want of memory alone.
+pub fn redo_all(
+    alloc: Global,
+    table: &mut PlainTable,
+    calls: &[Stored],
+) -> Result<Sequence<Reply>, Refusal>
+    requires events { All (λ (call : Stored). IsTableEvent call.event) calls.now }
+    requires slots { CanRedoAll table.old calls.now }
+    ensures ok { IfOk result (λ replies. redone_all table.old calls.now ≡ (replies, table.new)) }
+    ensures err { IfErr result (λ refusal. RedoStops table.old calls.now refusal table.new) }
+    ensures memory { (replies : List Reply) (new : State) → LastingRun table.old calls.now replies new → IfErr result (λ refusal. refusal ≡ Refusal.Memory) }
+{
+    let mut replies = Sequence::new(alloc);
+    for call in calls {
+        let reply = table.redo(call)?;
+        match replies.push(reply) {
+            Ok(()) => {}
+            Err(_) => return Err(Refusal::Memory),
+        }
+    }
+    Ok(replies)
+}
