@@ -1,0 +1,81 @@
+-- A call more keeps a book, and its record's places.
+use Rattle.std.proofs.Common.{◌≡◌, ℕ, ◌+◌, ◌≤◌, List, [], ◌∷◌, ◌++◌, length, true, refl, sym, ap, ◌∙◌, subst, arith, rules}
+use Rattle.std.proofs.lemmas.List.Elements.{All-push}
+use Rattle.table_model.specs.State.{State, empty_table}
+use Rattle.table_model.specs.Step.{Step, slot_of}
+use Rattle.table_model.specs.Legal.{IsLegal}
+use Rattle.table_model.specs.Limits.{IsTableSpec, IsTableEvent}
+use Rattle.table_model.specs.Refusals.{has_life, life_taken}
+use Rattle.table_model.specs.declared.specification.Spec.{Spec}
+use Rattle.table_model.specs.declared.events.Stored.{Stored}
+use Rattle.table_model.specs.declared.events.Event.{Event}
+use Rattle.table_model.specs.declared.replies.Reply.{Reply}
+use Rattle.table_model.specs.declared.replies.Reply.TheVariants.{Tracked, Released}
+use Rattle.table_model.proofs.StepLemmas.{step_places, given_by, taken_by}
+use Rattle.table_model.proofs.RunLemmas.{stored_run_more, stored_run_spec}
+use Rattle.table_model.proofs.LegalLemmas.{orderly-from_legal, step_legal, step_tickets-length, empty_legal}
+use Rattle.shard_book.specs.declared.recorded.Recorded.{Recorded}
+use Rattle.shard_book.specs.BookState.{BookState, IsBook, HasPlaces, stored_of, recorded, opened, out_after}
+
+pub stored_of-push : (calls : List Recorded) (call : Recorded) → stored_of (calls ++ call ∷ []) ≡ stored_of calls ++ call.stored ∷ []
+stored_of-push [] call = refl
+stored_of-push (first ∷ rest) call = ap (λ xs. first.stored ∷ xs) (stored_of-push rest call)
+
+-- a list that is another with one item behind it
+pub one_behind : {X : Type 0} (old middle new : List X) (x y : X) → new ≡ middle ++ x ∷ [] → middle ≡ old → x ≡ y → new ≡ old ++ y ∷ []
+one_behind old middle new x y more stays same = more ∙ (λ k. stays k ++ same k ∷ [])
+
+-- a call more
+pub book_more : (base live : State) (calls : List Recorded) (seat : ℕ) (event : Event) (reply : Reply) (next : State)
+    → IsBook (record { base = base; calls = calls; live = live }) → IsTableEvent event → has_life live event ≡ true → Step live event reply next
+    → IsBook (record { base = base; calls = calls ++ recorded seat event reply ∷ []; live = next })
+book_more base live calls seat event reply next book taken lives step =
+    let call : Stored = record { event = event; slot = slot_of reply } in
+    record {
+      limits = book.limits;
+      base_legal = book.base_legal;
+      events = All-push (λ (c : Recorded). IsTableEvent c.stored.event) calls (recorded seat event reply) book.events taken;
+      replies = book.replies ++ reply ∷ [];
+      run = rw (stored_of-push calls (recorded seat event reply)) (stored_run_more base (stored_of calls) book.replies live call reply next book.run refl step);
+      live_legal = step_legal live event reply next book.live_legal lives step;
+    }
+
+out-counted : (reply : Reply) (before after : ℕ) → after + taken_by reply ≡ before + given_by reply → after ≡ out_after before reply
+out-counted (Tracked ticket row) before after h = omega (arith, h)
+out-counted Released before after h = omega (arith, h)
+out-counted _ before after h = omega (arith, h)
+
+held-before : (reply : Reply) (before after : ℕ) → after + taken_by reply ≡ before + given_by reply → reply ≡ Released → 1 ≤ before
+held-before reply before after h is = let released : after + taken_by Released ≡ before + given_by Released = subst (λ r. after + taken_by r ≡ before + given_by r) is h in omega (arith, released)
+
+-- a ticket that is given back was out
+pub held : (live : State) (event : Event) (reply : Reply) (next : State) → IsLegal live → Step live event reply next → reply ≡ Released → 1 ≤ length live.tickets
+held live event reply next legal step is = held-before reply (length live.tickets) (length next.tickets) (step_tickets-length live event reply next (orderly-from_legal live legal) step) is
+
+-- with the places that an event takes, the record has its places after it
+pub places-more : (live : State) (event : Event) (reply : Reply) (next : State) (used capacity : ℕ)
+    → IsLegal live → Step live event reply next → used + length live.tickets + life_taken event ≤ capacity
+    → HasPlaces next (used + 1) capacity (out_after (length live.tickets) reply)
+places-more live event reply next used capacity legal step room =
+    let tickets : length next.tickets + taken_by reply ≡ length live.tickets + given_by reply = step_tickets-length live event reply next (orderly-from_legal live legal) step in
+    let counted : length next.tickets ≡ out_after (length live.tickets) reply = out-counted reply (length live.tickets) (length next.tickets) tickets in
+    let places : 1 + given_by reply ≤ life_taken event + taken_by reply = step_places live event reply next step in
+    record {
+      counted = sym counted;
+      room = omega (arith, counted, tickets, places, room);
+    }
+
+-- a book is of one specification
+pub live_limits : (book : BookState) → IsBook book → IsTableSpec book.live.spec
+live_limits book is = subst IsTableSpec (sym (stored_run_spec book.base (stored_of book.calls) is.replies book.live is.run)) is.limits
+
+-- ---- the book of an empty table
+
+pub opened_is_book : (spec : Spec) → IsTableSpec spec → IsBook (opened spec)
+opened_is_book spec limits = record { limits = limits; events = search rules; base_legal = empty_legal spec; replies = []; run = refl; live_legal = empty_legal spec }
+
+pub empty_is_book : (spec : Spec) (base live : State) (calls : List Recorded) → IsTableSpec spec → base ≡ empty_table spec → calls ≡ [] → live ≡ empty_table spec → IsBook (record { base = base; calls = calls; live = live })
+empty_is_book spec base live calls limits base_is calls_are live_is = rw (base_is, calls_are, live_is) (opened_is_book spec limits)
+
+pub empty_has_places : (spec : Spec) (live : State) (used capacity : ℕ) → live ≡ empty_table spec → used ≤ capacity → HasPlaces live used capacity 0
+empty_has_places spec live used capacity live_is within = rw live_is (let places : HasPlaces (empty_table spec) used capacity 0 = record { counted = refl; room = omega arith } in places)

@@ -1,0 +1,102 @@
+//! A table with its calls since a base.
+
+ghost use Rattle.std.specs.Prelude.{◌≡◌, true, is_some, IfOk, IfErr, OnOk, OnErr, IsOk};
+ghost use Rattle.table_model.specs.State.{key_of};
+ghost use Rattle.table_model.specs.Limits.{IsTableSpec, IsTableEvent};
+ghost use Rattle.table_model.specs.Refusals.{has_life};
+ghost use Rattle.table_model.specs.declared.events.Event.TheVariants.{Release};
+ghost use Rattle.shard_book.specs.BookState.{IsBook, Extends, IsCallRefused, opened};
+
+use crate::Recorded;
+use crate::recorded::{answer, out_after, record_of};
+use sequence::NoMemory;
+use std::alloc::Global;
+use std::marker::Model;
+use stick_table::{Event, PlainTable, Refusal, Reply, Spec, Table};
+
+/// A table, what it was at its base, and the calls recorded since: those that were answered, in their order.
+#[derive(Drop)]
+pub struct Book<T: Table> {
+    base: PlainTable,
+    calls: Vec<Recorded>,
+    live: T,
+    /// How many tickets are out. The record keeps a place for the release of each.
+    out: usize,
+}
+
+impl<T: Table> Model for Book<T> {
+    ghost use Rattle.std.specs.Prelude.{vec_capacity, vec_len};
+    ghost use Rattle.shard_book.specs.BookState.{BookState, IsBook, HasPlaces};
+
+    ghost Value = { BookState };
+
+    ghost view = { λ book. record { base = book.base; calls = book.calls.items; live = T.state book.live } };
+
+    ghost invariant = { λ book. IsBook (record { base = book.base; calls = book.calls.items; live = T.state book.live })
+        × HasPlaces (T.state book.live) (vec_len book.calls) (vec_capacity book.calls) book.out };
+}
+
+impl<T: Table> Book<T> {
+    /// The book of an empty table.
+    pub fn open(alloc: Global, spec: Spec) -> Result<Book<T>, NoMemory>
+        requires { IsTableSpec spec }
+        ensures opened { IfOk result (λ book. book ≡ opened spec) }
+        ensures book { IfOk result (λ book. IsBook book) }
+    {
+        let base = PlainTable::open(alloc, spec.copy()?)?;
+        let live = T::open(alloc, spec)?;
+        Ok(Book {
+            base,
+            calls: Vec::new(alloc),
+            live,
+            out: 0,
+        })
+    }
+
+    /// Has the live table answer an event, and records the call with its seat. A refusal changes nothing: `Memory`
+    /// where a growth was refused, which is answered first where it is the record's; else as the table refuses.
+    /// A `Release` takes no memory, and that of an outstanding ticket always succeeds.
+    pub fn call(&mut self, seat: u32, event: Event) -> Result<Reply, Refusal>
+        requires { IsTableEvent event }
+        ensures before { IsBook self.old }
+        ensures book { OnOk result (IsBook self.new) }
+        ensures ok { IfOk result (λ reply. Extends self.old seat event reply self.new) }
+        ensures lives { OnOk result (has_life self.old.live event ≡ true) }
+        ensures refused { IfErr result (IsCallRefused self.old.live event) }
+        ensures release { (now : _) (ticket : _) → event ≡ Release now ticket → is_some (key_of ticket self.old.live.tickets) ≡ true → IsOk result }
+        ensures err { OnErr result (self.new ≡ self.old) }
+    {
+        match answer(&mut self.live, &mut self.calls, self.out, &event) {
+            Ok(reply) => {
+                self.out = out_after(self.out, &reply);
+                self.calls.push_reserved(record_of(seat, event, &reply));
+                Ok(reply)
+            }
+            Err(refusal) => Err(refusal),
+        }
+    }
+
+    /// The table from which the record begins.
+    pub fn base(&self) -> &PlainTable
+        ensures base { result.now ≡ self.now.base }
+        ensures book { IsBook self.now }
+    {
+        &self.base
+    }
+
+    /// The calls answered since the base, in their order.
+    pub fn calls(&self) -> &[Recorded]
+        ensures calls { result.now ≡ self.now.calls }
+        ensures book { IsBook self.now }
+    {
+        self.calls.as_slice()
+    }
+
+    /// The table as it is now.
+    pub fn live(&self) -> &T
+        ensures live { T.state result.now ≡ self.now.live }
+        ensures book { IsBook self.now }
+    {
+        &self.live
+    }
+}

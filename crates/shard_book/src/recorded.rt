@@ -1,0 +1,96 @@
+//! A call as it is recorded, and the places that the record has.
+
+ghost use Rattle.std.specs.Prelude.{◌≡◌, ◌+◌, ◌≤◌, ◌<◌, ◌^◌, true, IfOk, IfErr, OnOk, OnErr, vec_len, vec_capacity};
+ghost use Rattle.table_model.specs.Step.{Step, slot_of};
+ghost use Rattle.table_model.specs.Limits.{IsTableEvent};
+ghost use Rattle.table_model.specs.Refusals.{has_life, life_taken};
+ghost use Rattle.table_model.specs.declared.replies.Reply.TheVariants.{Released};
+ghost use Rattle.shard_book.specs.BookState.{IsCallRefused, may_grow, out_after as specified_out, recorded as specified_record};
+
+use sequence::NoMemory;
+use stick_table::{Event, Refusal, Reply, Stored, Table};
+
+/// A call that was answered, and the seat that made it.
+#[derive(Drop)]
+pub struct Recorded {
+    pub seat: u32,
+    pub stored: Stored,
+}
+
+/// The slot that a reply tells.
+fn slot_told(reply: &Reply) -> Option<u32>
+    ensures { result ≡ slot_of reply.now }
+{
+    match reply {
+        Reply::Tracked { ticket, .. } => Some(ticket.slot),
+        _ => None,
+    }
+}
+
+/// How a call is recorded.
+pub(crate) fn record_of(seat: u32, event: Event, reply: &Reply) -> Recorded
+    ensures { result ≡ specified_record seat event reply.now }
+{
+    let slot = slot_told(reply);
+    Recorded {
+        seat,
+        stored: Stored { event, slot },
+    }
+}
+
+/// Reserves the record's place for an event, and for a reference the place for its release beside it. Those for the
+/// releases of the tickets that are out stay, so that a release reserves nothing.
+pub(crate) fn reserve_places(
+    calls: &mut Vec<Recorded>,
+    out: usize,
+    event: &Event,
+) -> Result<(), NoMemory>
+    requires { vec_len calls.old + out ≤ vec_capacity calls.old }
+    ensures items { calls.new.items ≡ calls.old.items }
+    ensures room { vec_len calls.new + out ≤ vec_capacity calls.new }
+    ensures ok { OnOk result (vec_len calls.new + out + life_taken event.now ≤ vec_capacity calls.new) }
+    ensures err { OnErr result (may_grow event.now ≡ true) }
+{
+    let places = match event {
+        Event::Release(_, _) => 0,
+        Event::Track(_, _) => 2,
+        _ => 1,
+    };
+    calls.reserve(out + places)
+}
+
+/// Has a table answer an event, once the record has its place.
+pub(crate) fn answer<T: Table>(
+    live: &mut T,
+    calls: &mut Vec<Recorded>,
+    out: usize,
+    event: &Event,
+) -> Result<Reply, Refusal>
+    requires event { IsTableEvent event.now }
+    requires room { vec_len calls.old + out ≤ vec_capacity calls.old }
+    ensures items { calls.new.items ≡ calls.old.items }
+    ensures room { vec_len calls.new + out ≤ vec_capacity calls.new }
+    ensures place { OnOk result (vec_len calls.new + out + life_taken event.now ≤ vec_capacity calls.new) }
+    ensures ok { IfOk result (λ reply. Step (T.state live.old) event.now reply (T.state live.new)) }
+    ensures lives { OnOk result (has_life (T.state live.old) event.now ≡ true) }
+    ensures refused { IfErr result (IsCallRefused (T.state live.old) event.now) }
+    ensures err { OnErr result (T.state live.new ≡ T.state live.old) }
+{
+    match reserve_places(calls, out, event) {
+        Ok(()) => live.step(event),
+        Err(_) => Err(Refusal::Memory),
+    }
+}
+
+/// How many tickets are out after a reply.
+pub(crate) fn out_after(out: usize, reply: &Reply) -> usize
+    requires limit { out ≤ 2 ^ 62 }
+    requires held { reply.now ≡ Released → 1 ≤ out }
+    ensures { result ≡ specified_out out reply.now }
+{
+    match reply {
+        Reply::Tracked { .. } => out + 1,
+        Reply::Released => out - 1,
+        _ => out,
+    }
+}
