@@ -1,0 +1,114 @@
+-- A line `stick-table`.
+use Rattle.std.specs.Prelude.{ℕ, ◌^◌, Bool, true, false, not, ◌==◌, List, [], ◌∷◌, codes, is_some, Option, Some, None, Result, Ok, Err, if◌then◌else◌}
+use Rattle.std.specs.Str.{bytes_eq}
+use Rattle.line_text.specs.Parts.{parts, is_byte}
+use Rattle.line_text.specs.Words.{is_some_text}
+use Rattle.stick_key.specs.declared.kind.KeyType.{KeyType}
+use Rattle.stick_key.specs.declared.kind.KeyType.TheVariants.{Ip, Ipv6, Integer, Text}
+use Rattle.stored_data.specs.Data.{is_rate}
+use Rattle.stored_data.specs.Names.{datum_of}
+use Rattle.stored_data.specs.Stored.{is_column, with_column}
+use Rattle.stored_data.specs.declared.stored_set.Column.{Column}
+use Rattle.rule_model.specs.declared.faults.Fault.{Fault}
+use Rattle.rule_model.specs.declared.faults.Fault.TheVariants.{UnknownKeyword, BadSize, UnknownType}
+use Rattle.rule_model.specs.declared.sections.TableSpec.{TableSpec}
+use Rattle.rule_model.specs.Reading.{◌>>=◌, demand}
+use Rattle.config_words.specs.Numbers.{bounded_number, size_of, time_of, before_parenthesis, from_parenthesis, inside}
+use Rattle.config_words.specs.declared.table.Settings.{Settings}
+
+-- what has to be there, or a fault
+abbrev pub found : {A : Type 0} → Option A → Fault → Result A Fault
+found (Some x) fault = Ok x
+found None fault = Err fault
+
+-- ---- what is stored
+
+-- what follows a datum's name: for a rate its period in parentheses, for another nothing
+abbrev pub period_of : Bool → List ℕ → Result ℕ Fault
+period_of true text = found (inside text) UnknownType >>= time_of
+period_of false text = demand (not (is_some_text text)) UnknownType >>= (λ _. Ok 0)
+
+-- the columns, and one more
+unfoldable pub with_item : List Column → List ℕ → Result (List Column) Fault
+with_item columns text = do
+  datum ← found (datum_of (before_parenthesis text)) UnknownType
+  new ← demand (not (is_column columns datum)) UnknownType
+  period ← period_of (is_rate datum) (from_parenthesis text)
+  Ok (with_column columns (record { datum = datum; period = period }))
+
+abbrev pub with_items : List Column → List (List ℕ) → Result (List Column) Fault
+with_items columns [] = Ok columns
+with_items columns (text ∷ texts) = with_item columns text >>= (λ more. with_items more texts)
+
+-- ---- what a line sets
+
+-- each keyword with the word behind it: nopurge has none, and one that is missing is empty
+abbrev pub pairs_of : List (List ℕ) → List (List ℕ × List ℕ)
+pairs_of [] = []
+pairs_of (word ∷ []) = (word, []) ∷ []
+pairs_of (word ∷ value ∷ words) = if bytes_eq word (codes "nopurge") then (word, []) ∷ pairs_of (value ∷ words) else (word, value) ∷ pairs_of words
+
+-- the kind of key of a name; a text has 32 bytes where no length is said
+unfoldable pub kind_of : List ℕ → Option KeyType
+kind_of word =
+    if bytes_eq word (codes "ip") then Some Ip
+    else (if bytes_eq word (codes "ipv6") then Some Ipv6
+    else (if bytes_eq word (codes "integer") then Some Integer
+    else (if bytes_eq word (codes "string") then Some (Text 32)
+    else None)))
+
+abbrev pub is_text : KeyType → Bool
+is_text (Text n) = true
+is_text Ip = false
+is_text Ipv6 = false
+is_text Integer = false
+
+abbrev pub no_settings : Settings
+no_settings = record { kind = None; takes_length = false; size = None; expire = None; nopurge = false; columns = [] }
+
+-- what stands once
+abbrev pub once : {A : Type 0} → Option A → Result (Unit {0}) Fault
+once set = demand (not (is_some set)) UnknownKeyword
+
+-- what is set so far, and one more setting: a keyword with its value. A length stands right behind type string
+unfoldable pub with_setting : Settings → List ℕ → List ℕ → Result Settings Fault
+with_setting old word value =
+    let settings = record old { takes_length = false } in
+    if bytes_eq word (codes "type") then (do
+      first ← once old.kind
+      kind ← found (kind_of value) UnknownType
+      Ok (record settings { kind = Some kind; takes_length = is_text kind }))
+    else (if bytes_eq word (codes "len") then (do
+      behind ← demand old.takes_length UnknownKeyword
+      length ← bounded_number 1 1024 value
+      Ok (record settings { kind = Some (Text length) }))
+    else (if bytes_eq word (codes "size") then (do
+      first ← once old.size
+      size ← size_of value
+      Ok (record settings { size = Some size }))
+    else (if bytes_eq word (codes "expire") then (do
+      first ← once old.expire
+      time ← time_of value
+      Ok (record settings { expire = Some time }))
+    else (if bytes_eq word (codes "nopurge") then (do
+      first ← demand (not old.nopurge) UnknownKeyword
+      Ok (record settings { nopurge = true }))
+    else (if bytes_eq word (codes "store") then (do
+      columns ← with_items old.columns (parts (is_byte 44) value)
+      Ok (record settings { columns = columns }))
+    else Err UnknownKeyword)))))
+
+abbrev pub with_settings : Settings → List (List ℕ × List ℕ) → Result Settings Fault
+with_settings settings [] = Ok settings
+with_settings settings ((word, value) ∷ pairs) = with_setting settings word value >>= (λ next. with_settings next pairs)
+
+-- type and size have to be there
+abbrev pub complete : Settings → Result TableSpec Fault
+complete settings = do
+  kind ← found settings.kind UnknownType
+  size ← found settings.size BadSize
+  Ok (record { kind = kind; size = size; expire = settings.expire; nopurge = settings.nopurge; columns = settings.columns })
+
+-- the table that the words behind stick-table declare
+unfoldable pub table_of : List (List ℕ) → Result TableSpec Fault
+table_of words = with_settings no_settings (pairs_of words) >>= complete

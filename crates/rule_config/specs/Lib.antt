@@ -1,0 +1,4 @@
+pub mod Actions
+pub mod Statements
+pub mod Lines
+pub mod Config

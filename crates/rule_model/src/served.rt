@@ -1,0 +1,149 @@
+//! What is served of a configuration.
+
+ghost use Rattle.std.specs.Prelude.{◌≡◌, ◌≤◌, IfOk};
+ghost use Rattle.std.specs.Option.{option_map, option_and_then};
+ghost use Rattle.rule_model.specs.declared.sections.Section.{Section};
+ghost use Rattle.rule_model.specs.Served as spec;
+ghost use Rattle.rule_model.specs.Served.{AreTables, AreTableSpecs, backend_named, proxy_of, server_of, setup_of, spec_of, tables_of};
+
+use crate::{Config, Name, NamedSpec, Rule, Section, SectionKind, Setup, TableSpec};
+use address_text::Endpoint;
+use sequence::{NoMemory, Sequence};
+use std::alloc::Global;
+use table_model::Spec;
+
+/// The greatest number of outstanding references of a table's shard.
+pub const MAX_REFS: u32 = 65_536;
+
+/// The life of a table's shard: what its events and its outstanding references come to at most.
+pub const LIFE: u64 = 1 << 62;
+
+impl SectionKind {
+    /// Whether the section listens for clients: `frontend` and `listen`.
+    pub fn has_frontend(self) -> bool
+        ensures { result ≡ spec.has_frontend self }
+    {
+        matches!(self, SectionKind::Frontend | SectionKind::Listen)
+    }
+
+    /// Whether the section has a server: `backend` and `listen`.
+    pub fn has_backend(self) -> bool
+        ensures { result ≡ spec.has_backend self }
+    {
+        matches!(self, SectionKind::Backend | SectionKind::Listen)
+    }
+}
+
+impl TableSpec {
+    /// How the table is made, but for its name.
+    fn spec(&self) -> Result<Spec, NoMemory>
+        ensures { IfOk result (λ spec. spec ≡ spec_of self.now) }
+    {
+        Ok(Spec {
+            kind: self.kind,
+            size: self.size,
+            expire: self.expire,
+            nopurge: self.nopurge,
+            columns: self.columns.copy()?,
+            max_refs: MAX_REFS,
+            life: LIFE,
+            seed: 0,
+        })
+    }
+}
+
+/// The tables of sections, in order of declaration.
+fn named_specs(alloc: Global, sections: &[Section]) -> Result<Sequence<NamedSpec>, NoMemory>
+    ensures { IfOk result (λ tables. tables ≡ tables_of sections.now) }
+{
+    let mut tables = Sequence::new(alloc);
+    for section in sections {
+        let Some(table) = &section.table else {
+            continue;
+        };
+        let spec = table.spec()?;
+        let name = section.name.copy()?;
+        tables.push(NamedSpec { name, spec })?;
+    }
+    Ok(tables)
+}
+
+/// The first section that listens for clients.
+fn first_proxy(sections: &[Section]) -> Option<&Section>
+    ensures { option_map (λ section. section.now) result ≡ proxy_of sections.now }
+{
+    for section in sections {
+        if section.kind.has_frontend() {
+            return Some(section);
+        }
+    }
+    None
+}
+
+/// The server of the backend of this name.
+fn backend_server(sections: &[Section], name: &[u8]) -> Option<Endpoint>
+    ensures { result ≡ option_and_then (λ (section : Section). section.server) (backend_named sections.now name.now) }
+{
+    for section in sections {
+        if section.kind.has_backend() && section.name.as_slice() == name {
+            return section.server;
+        }
+    }
+    None
+}
+
+/// A section's own server, or that of its default backend.
+fn find_server(sections: &[Section], proxy: &Section) -> Option<Endpoint>
+    ensures { result ≡ server_of sections.now proxy.now }
+{
+    if let Some(endpoint) = proxy.server {
+        return Some(endpoint);
+    }
+    match &proxy.default_backend {
+        Some(name) => backend_server(sections, name.as_slice()),
+        None => None,
+    }
+}
+
+fn copy_rules(alloc: Global, rules: &[Rule]) -> Result<Sequence<Rule>, NoMemory>
+    ensures { IfOk result (λ copied. copied ≡ rules.now) }
+{
+    let mut copied = Sequence::new(alloc);
+    for rule in rules {
+        copied.push(rule.copy(alloc)?)?;
+    }
+    Ok(copied)
+}
+
+impl Config {
+    /// What is served: the tables of all sections, and the first section that listens for clients, each table in so
+    /// many shards.
+    #[tactic(auto, unfolding(crate::specs::Served::setup_of))]
+    pub fn proxy(&self, alloc: Global, shards: u32) -> Result<Setup, NoMemory>
+        requires some { 1 ≤ shards }
+        requires few { shards ≤ 64 }
+        ensures setup { IfOk result (λ setup. setup ≡ setup_of self.now shards) }
+        // Tables that are within their limits can be opened.
+        ensures limits { AreTables self.now.sections → IfOk result (λ setup. AreTableSpecs setup.tables) }
+    {
+        let sections = self.sections.as_slice();
+        let tables = named_specs(alloc, sections)?;
+        let Some(proxy) = first_proxy(sections) else {
+            return Ok(Setup {
+                tables,
+                rules: Sequence::new(alloc),
+                bind: None,
+                server: None,
+                shards,
+            });
+        };
+        let rules = copy_rules(alloc, proxy.rules.as_slice())?;
+        Ok(Setup {
+            tables,
+            rules,
+            bind: proxy.bind,
+            server: find_server(sections, proxy),
+            shards,
+        })
+    }
+}

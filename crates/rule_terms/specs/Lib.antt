@@ -1,0 +1,5 @@
+pub mod Names
+pub mod Values
+pub mod Conditions
+pub mod Drafts
+pub mod Sentences
