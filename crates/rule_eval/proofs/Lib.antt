@@ -1,0 +1,6 @@
+pub mod Standing
+pub mod Walk
+pub mod EndsLemmas
+pub mod Quiet
+pub mod LimitLaws
+pub mod ShownLemmas

@@ -1,0 +1,10 @@
+pub mod Slots
+pub mod Tables
+pub mod Readings
+pub mod Verdict
+pub mod Course
+pub mod Left
+pub mod Memory
+pub mod Eval
+pub mod Ends
+pub mod Limit

@@ -1,0 +1,36 @@
+//! What follows from the definition of a verdict. Each law is the contract of a function that does nothing.
+//!
+//! Those on limits are of rules that begin with `track-sc0 src` and `reject if { sc0_conn_cur gt L }`, both without any
+//! further condition, on a table that stores `conn_cur`, where no other rule tracks by sc0.
+ghost use Rattle.rule_eval.specs.Ends.{EndsLaw};
+ghost use Rattle.rule_eval.specs.Limit.{FirstLaw, NeverLaw, OnceLaw, SecondLaw, ShownLaw, WithinLaw};
+
+/// Every evaluation comes to its verdict: after as many answers as the rules have criteria and actions, at the latest.
+pub fn ends()
+    ensures { EndsLaw }
+{}
+
+/// Behind such rules a connection whose source can be a key of the table is accepted only where its answers begin with a
+/// reference and a row that shows at most L current connections, or where the table gave it no reference.
+pub fn limit()
+    ensures { WithinLaw }
+{}
+
+/// Behind such rules the first want is a reference to the source's entry, and the second, where it was given, a look at it.
+pub fn limit_asks()
+    ensures first { FirstLaw }
+    ensures second { SecondLaw }
+{}
+
+/// Behind such rules no reference is asked for by sc0 after the first answer, and none at all for a source that can't be
+/// a key of the table.
+pub fn limit_asks_once()
+    ensures once { OnceLaw }
+    ensures never { NeverLaw }
+{}
+
+/// The current connections that a row shows are the references of its entry, where the table stores `conn_cur` and keeps
+/// no value of it.
+pub fn shown()
+    ensures { ShownLaw }
+{}
