@@ -1,0 +1,9 @@
+pub mod FindLemmas
+pub mod LawLemmas
+pub mod Lent
+pub mod Made
+pub mod Memory
+pub mod Opened
+pub mod SlotLemmas
+pub mod SoundLemmas
+pub mod Steps
