@@ -5,12 +5,12 @@ use Rattle.std.specs.Str.{bytes_eq}
 use Rattle.std.proofs.lemmas.List.{get_or-map, length-map, map-set}
 use Rattle.table_model.specs.State.{State}
 use Rattle.table_cli.specs.Answers.{AsksOf, Does, place_of}
-use Rattle.table_cli.specs.Form.{Form}
-use Rattle.table_cli.specs.Request.{Asks}
+use Rattle.command_text.specs.Form.{Form}
+use Rattle.command_text.specs.Request.{Asks}
 use Rattle.table_cli.specs.Tables.{NamedState, states_of}
-use Rattle.table_cli.specs.Texts.{message_text}
-use Rattle.table_cli.specs.declared.message.Message.{Message}
-use Rattle.table_cli.specs.declared.message.Message.TheVariants.{NoSuchTable}
+use Rattle.command_text.specs.Texts.{message_text}
+use Rattle.command_text.specs.declared.message.Message.{Message}
+use Rattle.command_text.specs.declared.message.Message.TheVariants.{NoSuchTable}
 use Rattle.table_cli.specs.declared.named.Named.{Named}
 use Rattle.table_model.specs.declared.events.Event.{Event}
 

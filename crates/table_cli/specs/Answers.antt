@@ -10,13 +10,13 @@ use Rattle.table_model.specs.Refusals.{IsRefused}
 use Rattle.table_model.specs.declared.events.Event.{Event}
 use Rattle.table_model.specs.declared.replies.Reply.{Reply}
 use Rattle.table_model.specs.declared.replies.Refusal.{Refusal}
-use Rattle.table_cli.specs.Form.{Form, Nothing, Unknown, Show, Clear, Set, form_of}
-use Rattle.table_cli.specs.Request.{Asks}
-use Rattle.table_cli.specs.Seen.{words_of}
+use Rattle.command_text.specs.Form.{Form, Nothing, Unknown, Show, Clear, Set, form_of}
+use Rattle.command_text.specs.Request.{Asks}
+use Rattle.command_text.specs.Seen.{words_of}
 use Rattle.table_cli.specs.Tables.{NamedState}
-use Rattle.table_cli.specs.Texts.{message_text, refusal_message, reply_text}
-use Rattle.table_cli.specs.declared.message.Message.{Message}
-use Rattle.table_cli.specs.declared.message.Message.TheVariants.{UnknownCommand, NoSuchTable, OutOfMemory}
+use Rattle.command_text.specs.Texts.{message_text, refusal_message, reply_text}
+use Rattle.command_text.specs.declared.message.Message.{Message}
+use Rattle.command_text.specs.declared.message.Message.TheVariants.{UnknownCommand, NoSuchTable, OutOfMemory}
 
 -- the place of the first table of a name
 abbrev pub place_of : List ℕ → List NamedState → Option ℕ

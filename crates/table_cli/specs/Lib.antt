@@ -1,7 +1,2 @@
-pub mod Form
-pub mod Texts
-pub mod Request
-pub mod Seen
-pub mod Bytes
 pub mod Tables
 pub mod Answers

@@ -1,14 +1,9 @@
-//! The commands on stick tables (HAProxy Management Guide 2.8, `show table`, `set table`, `clear table`): what a
-//! line asks of which table, and what it is answered.
+//! The commands on stick tables (HAProxy Management Guide 2.8, `show table`, `set table`, `clear table`), served: what a
+//! line does to the tables that it names, and what it is answered. `command_text` reads and prints them.
 #![tactic(auto)]
 
-mod answer_text;
-mod form;
-mod message;
 mod named;
-mod request;
 mod serve;
 
-pub use message::Message;
 pub use named::Named;
 pub use serve::answer;

@@ -1,6 +1,6 @@
 use Rattle.std.proofs.Common.{◌∙◌, ap, inl}
 use Rattle.table_model.specs.declared.specification.Spec.{Spec}
-use Rattle.table_cli.specs.Texts.{reply_text}
+use Rattle.command_text.specs.Texts.{reply_text}
 use Rattle.table_cli.proofs.serve.serve_event.Goals as goal
 
 pub returns-in-Ok-to_reply : goal.returns-in-Ok-to_reply

@@ -1,0 +1,83 @@
+-- What a form asks of a table, once its key, its data and its numbers are read.
+use Rattle.std.specs.Prelude.{◌≡◌, ◌⊎◌, ℕ, nat_le, Option, Some, None, Result, Ok, Err, List, [], ◌∷◌, unwrap_or, if◌then◌else◌}
+use Rattle.std.specs.List.{find}
+use Rattle.std.specs.Str.{bytes_eq}
+use Rattle.line_text.specs.Number.{number_of}
+use Rattle.stick_key.specs.KeyText.{Reads, IsMalformed, IsOutOfRange, TakesMemory}
+use Rattle.stick_key.specs.declared.kind.KeyType.{KeyType}
+use Rattle.stored_data.specs.Data.{name, greatest}
+use Rattle.stored_data.specs.declared.datum.Datum.{Datum}
+use Rattle.stored_data.specs.declared.datum.Datum.TheVariants.{Gpt0, Gpc0, Gpc0Rate, ConnCnt, ConnRate, ConnCur, SessCnt, SessRate, BytesInCnt, BytesInRate, BytesOutCnt, BytesOutRate, Gpc1, Gpc1Rate}
+use Rattle.table_model.specs.Key.{Key}
+use Rattle.table_model.specs.declared.rows.Cell.{Cell}
+use Rattle.table_model.specs.declared.filters.Op.{Op}
+use Rattle.table_model.specs.declared.filters.Filter.{Filter}
+use Rattle.table_model.specs.declared.filters.Filter.TheVariants as filters
+use Rattle.table_model.specs.declared.events.Event.{Event}
+use Rattle.table_model.specs.declared.events.Event.TheVariants.{Put, ClearWhere, List as ListRows}
+use Rattle.table_model.specs.declared.events.Event.TheVariants as events
+use Rattle.command_text.specs.Form.{Form, Choice, Everything, OneKey, Compare, Nothing, Unknown, Show, Clear, Set, datum_name}
+use Rattle.command_text.specs.declared.message.Message.{Message}
+use Rattle.command_text.specs.declared.message.Message.TheVariants.{UnknownCommand, InvalidKey, NotStored, InvalidValue, OutOfMemory}
+
+-- ---- what reading a part comes to: a value, or the message of what is wrong
+
+-- a key's text
+abbrev pub ReadsKey : KeyType → List ℕ → Result Key Message → Type 0
+ReadsKey kind text (Ok key) = Reads kind text key
+ReadsKey kind text (Err InvalidKey) = IsMalformed kind text ⊎ IsOutOfRange kind text
+ReadsKey kind text (Err OutOfMemory) = TakesMemory kind text
+ReadsKey kind text (Err _) = ⊥
+
+abbrev pub all_data : List Datum
+all_data = Gpt0 ∷ Gpc0 ∷ Gpc0Rate ∷ ConnCnt ∷ ConnRate ∷ ConnCur ∷ SessCnt ∷ SessRate ∷ BytesInCnt ∷ BytesInRate ∷ BytesOutCnt ∷ BytesOutRate ∷ Gpc1 ∷ Gpc1Rate ∷ []
+
+-- the datum of a name
+abbrev pub datum_of : List ℕ → Option Datum
+datum_of text = find (λ datum. bytes_eq (name datum) text) all_data
+
+-- data.X OP V: first the name, then the number
+abbrev pub compared : Option Datum → Op → Option ℕ → Result Filter Message
+compared None op value = Err NotStored
+compared (Some datum) op None = Err InvalidValue
+compared (Some datum) op (Some bound) = Ok (filters.Compare datum op bound)
+
+abbrev pub ReadsFilter : KeyType → Choice → Result Filter Message → Type 0
+ReadsFilter kind Everything read = read ≡ Ok filters.Everything
+ReadsFilter kind (OneKey text) (Ok filter) = (key : Key) × ReadsKey kind text (Ok key) × (filter ≡ filters.Key key)
+ReadsFilter kind (OneKey text) (Err message) = ReadsKey kind text (Err message)
+ReadsFilter kind (Compare name op value) read = read ≡ compared (datum_of name) op (number_of value)
+
+-- a pair's datum and value, the value at most the greatest of the datum
+abbrev pub cell_of : Option Datum → Option ℕ → Result Cell Message
+cell_of None value = Err NotStored
+cell_of (Some datum) None = Err InvalidValue
+cell_of (Some datum) (Some value) = if nat_le value (greatest datum) then Ok (record { datum = datum; value = value }) else Err InvalidValue
+
+abbrev pub with_cell : Result Cell Message → Result (List Cell) Message → Result (List Cell) Message
+with_cell (Ok cell) (Ok cells) = Ok (cell ∷ cells)
+with_cell (Ok cell) (Err message) = Err message
+with_cell (Err message) rest = Err message
+
+-- pair by pair, up to the first that is wrong
+abbrev pub cells_of : List (List ℕ) → Result (List Cell) Message
+cells_of [] = Ok []
+cells_of (word ∷ []) = Ok []
+cells_of (word ∷ value ∷ rest) = with_cell (cell_of (datum_of (unwrap_or (datum_name word) [])) (number_of value)) (cells_of rest)
+
+-- T key K and pairs: the key first, then pair by pair
+abbrev pub ReadsPut : KeyType → ℕ → List ℕ → List (List ℕ) → Result Event Message → Type 0
+ReadsPut kind moment text pairs (Ok event) = (key : Key) × (cells : List Cell) × ReadsKey kind text (Ok key) × (cells_of pairs ≡ Ok cells) × (event ≡ Put moment key cells)
+ReadsPut kind moment text pairs (Err message) = ReadsKey kind text (Err message) ⊎ ((key : Key) × ReadsKey kind text (Ok key) × ((cells_of pairs ≡ Err message) ⊎ (message ≡ OutOfMemory)))
+
+-- the event that a form makes of a table of this kind of key, at a moment in ms
+abbrev pub Asks : KeyType → ℕ → Form → Result Event Message → Type 0
+Asks kind moment Nothing asked = ⊥
+Asks kind moment Unknown asked = asked ≡ Err UnknownCommand
+Asks kind moment (Show table choice) (Ok event) = (filter : Filter) × ReadsFilter kind choice (Ok filter) × (event ≡ ListRows moment filter)
+Asks kind moment (Show table choice) (Err message) = ReadsFilter kind choice (Err message)
+Asks kind moment (Clear table (OneKey text)) (Ok event) = (key : Key) × ReadsKey kind text (Ok key) × (event ≡ events.Clear moment key)
+Asks kind moment (Clear table (OneKey text)) (Err message) = ReadsKey kind text (Err message)
+Asks kind moment (Clear table choice) (Ok event) = (filter : Filter) × ReadsFilter kind choice (Ok filter) × (event ≡ ClearWhere moment filter)
+Asks kind moment (Clear table choice) (Err message) = ReadsFilter kind choice (Err message)
+Asks kind moment (Set table text pairs) asked = ReadsPut kind moment text pairs asked

@@ -1,0 +1,13 @@
+//! The texts of commands on stick tables and of their answers (HAProxy Management Guide 2.8, `show table`, `set table`,
+//! `clear table`): what form a line's words have, what event that asks, and what a reply is printed as.
+#![tactic(auto)]
+
+mod answer_text;
+mod form;
+mod message;
+mod request;
+
+pub use answer_text::Answer;
+pub use form::{Choice, Form, read_form};
+pub use message::Message;
+pub use request::read_event;

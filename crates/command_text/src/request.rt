@@ -1,0 +1,176 @@
+//! What a form asks of a table.
+
+ghost use Rattle.std.specs.Prelude.{◌≡◌, ◌≢◌, ◌⊎◌, ◌<◌, ◌≤◌, ◌^◌, ℕ, List, [], All, IfOk, MatchResult, unwrap_or};
+ghost use Rattle.stored_data.specs.Data.{greatest};
+ghost use Rattle.table_model.specs.declared.rows.Cell.{Cell};
+ghost use Rattle.table_model.specs.Limits.{IsTableEvent};
+ghost use Rattle.command_text.specs.Form as spec;
+ghost use Rattle.command_text.specs.Form.{datum_name as specified_name};
+ghost use Rattle.command_text.specs.Request.{Asks, ReadsFilter, ReadsKey, ReadsPut, cell_of, cells_of, compared as specified_compared, datum_of};
+ghost use Rattle.command_text.specs.Seen.{seen, seen_choice, words_of};
+ghost use Rattle.line_text.specs.Number.{number_of};
+
+use crate::Message;
+use crate::form::{Choice, Form, datum_name};
+use line_text::{Blanks, Words, read_number};
+use std::alloc::Global;
+use stick_key::{KeyFault, KeyType, StickKey, read_key};
+use stored_data::{Datum, in_range, read_datum};
+use table_model::{Cell, Cells, Event, Filter, Op};
+
+/// Reads a key's text.
+fn read_key_text(alloc: Global, kind: KeyType, text: &[u8]) -> Result<StickKey, Message>
+    ensures { ReadsKey kind text.now result }
+{
+    match read_key(alloc, kind, text) {
+        Ok(key) => Ok(key),
+        Err(KeyFault::Malformed) => Err(Message::InvalidKey),
+        Err(KeyFault::OutOfRange) => Err(Message::InvalidKey),
+        Err(KeyFault::Memory) => Err(Message::OutOfMemory),
+    }
+}
+
+/// The datum of a name.
+fn datum_named(text: &[u8]) -> Option<Datum>
+    ensures { result ≡ datum_of text.now }
+{
+    read_datum(text)
+}
+
+fn compared(name: &[u8], op: Op, value: &[u8]) -> Result<Filter, Message>
+    ensures { result ≡ specified_compared (datum_of name.now) op (number_of value.now) }
+{
+    let Some(datum) = datum_named(name) else {
+        return Err(Message::NotStored);
+    };
+    let Some(bound) = read_number(value) else {
+        return Err(Message::InvalidValue);
+    };
+    Ok(Filter::Compare(datum, op, bound))
+}
+
+/// Reads which entries are meant.
+fn read_filter(alloc: Global, kind: KeyType, choice: Choice<'_>) -> Result<Filter, Message>
+    ensures { ReadsFilter kind (seen_choice choice.entry) result }
+{
+    match choice {
+        Choice::Everything => Ok(Filter::Everything),
+        Choice::Key(text) => match read_key_text(alloc, kind, text) {
+            Ok(key) => Ok(Filter::Key(key)),
+            Err(message) => Err(message),
+        },
+        Choice::Compare(name, op, value) => compared(name, op, value),
+    }
+}
+
+/// Reads the datum and the value of a pair.
+fn read_cell(word: &[u8], value: &[u8]) -> Result<Cell, Message>
+    ensures cell { result ≡ cell_of (datum_of (unwrap_or (specified_name word.now) [])) (number_of value.now) }
+    ensures in_range { IfOk result (λ cell. cell.value ≤ greatest cell.datum) }
+{
+    let name = match datum_name(word) {
+        Some(name) => name,
+        None => b"".as_slice(),
+    };
+    let Some(datum) = datum_named(name) else {
+        return Err(Message::NotStored);
+    };
+    let Some(value) = read_number(value) else {
+        return Err(Message::InvalidValue);
+    };
+    if !in_range(datum, value) {
+        return Err(Message::InvalidValue);
+    }
+    Ok(Cell { datum, value })
+}
+
+/// Reads pairs, up to the first that is wrong.
+fn read_cells(alloc: Global, text: &[u8]) -> Result<Cells, Message>
+    ensures cells { MatchResult result (λ cells. cells_of (words_of text.now) ≡ Ok cells)
+        (λ message. (cells_of (words_of text.now) ≡ Err message) ⊎ (message ≡ Message.OutOfMemory)) }
+    ensures in_range { IfOk result (λ cells. All (λ (cell : Cell). cell.value ≤ greatest cell.datum) cells) }
+{
+    let mut words = Words::new(text, Blanks::SpacesAndTabs);
+    let mut cells = Cells::new(alloc);
+    while let Some(word) = words.next() {
+        let Some(value) = words.next() else {
+            return Ok(cells);
+        };
+        let cell = match read_cell(word, value) {
+            Ok(cell) => cell,
+            Err(message) => return Err(message),
+        };
+        match cells.push(cell) {
+            Ok(()) => {}
+            Err(_) => return Err(Message::OutOfMemory),
+        }
+    }
+    Ok(cells)
+}
+
+fn read_put(
+    alloc: Global,
+    kind: KeyType,
+    moment: u64,
+    key: &[u8],
+    pairs: &[u8],
+) -> Result<Event, Message>
+    requires { moment < 2 ^ 62 }
+    ensures put { ReadsPut kind moment key.now (words_of pairs.now) result }
+    ensures event { IfOk result IsTableEvent }
+{
+    let key = match read_key_text(alloc, kind, key) {
+        Ok(key) => key,
+        Err(message) => return Err(message),
+    };
+    match read_cells(alloc, pairs) {
+        Ok(cells) => Ok(Event::Put(moment, key, cells)),
+        Err(message) => Err(message),
+    }
+}
+
+fn read_clear(
+    alloc: Global,
+    kind: KeyType,
+    moment: u64,
+    choice: Choice<'_>,
+) -> Result<Event, Message>
+    requires { moment < 2 ^ 62 }
+    ensures clear { (table : List ℕ) → Asks kind moment (spec.Clear table (seen_choice choice.entry)) result }
+    ensures event { IfOk result IsTableEvent }
+{
+    if let Choice::Key(text) = choice {
+        return match read_key_text(alloc, kind, text) {
+            Ok(key) => Ok(Event::Clear(moment, key)),
+            Err(message) => Err(message),
+        };
+    }
+    match read_filter(alloc, kind, choice) {
+        Ok(filter) => Ok(Event::ClearWhere(moment, filter)),
+        Err(message) => Err(message),
+    }
+}
+
+/// The event that a form makes of a table.
+pub fn read_event(
+    alloc: Global,
+    kind: KeyType,
+    moment: u64,
+    form: Form<'_>,
+) -> Result<Event, Message>
+    requires words { seen form ≢ spec.Nothing }
+    requires moment { moment < 2 ^ 62 }
+    ensures asks { Asks kind moment (seen form.entry) result }
+    ensures event { IfOk result IsTableEvent }
+{
+    match form {
+        Form::Nothing => unreachable!(),
+        Form::Unknown => Err(Message::UnknownCommand),
+        Form::Show(_, choice) => match read_filter(alloc, kind, choice) {
+            Ok(filter) => Ok(Event::List(moment, filter)),
+            Err(message) => Err(message),
+        },
+        Form::Clear(_, choice) => read_clear(alloc, kind, moment, choice),
+        Form::Set(_, key, pairs) => read_put(alloc, kind, moment, key, pairs),
+    }
+}

@@ -1,0 +1,2 @@
+pub mod ShardLemmas
+pub mod TableLemmas

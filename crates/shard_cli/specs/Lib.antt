@@ -1,0 +1,4 @@
+pub mod Shards
+pub mod Counted
+pub mod Tables
+pub mod Answers

@@ -1,0 +1,10 @@
+//! A table with its name.
+
+use sequence::Sequence;
+
+/// A table in shards, wherever they are kept, and the name that commands give it.
+#[derive(Drop)]
+pub struct Named<K> {
+    pub name: Sequence<u8>,
+    pub keeper: K,
+}

@@ -1,0 +1,152 @@
+//! Serving commands.
+
+ghost use Rattle.std.specs.Prelude.{◌≡◌, ◌≢◌, ◌<◌, ◌^◌, ℕ, List, Result, MatchResult, OnOk, OnErr, IfSome, length, position};
+ghost use Rattle.std.specs.Str.{bytes_eq};
+ghost use Rattle.byte_ports.specs.Bytes.{Grows, GrowsInPart, IsOneMore};
+ghost use Rattle.table_model.specs.Limits.{IsTableEvent};
+ghost use Rattle.table_model.specs.declared.events.Event.{Event};
+ghost use Rattle.shard_cli.specs.Answers.{Answers, AnswersLine, AsksOf, commands_of, Does, Serves, place_of as specified_place};
+ghost use Rattle.line_text.specs.Chain.{StopsIn};
+ghost use Rattle.shard_cli.specs.Counted.{IsCommand};
+ghost use Rattle.command_text.specs.Form as spec;
+ghost use Rattle.shard_cli.specs.Tables.{state_of, states_of};
+ghost use Rattle.command_text.specs.declared.message.Message.{Message};
+ghost use Rattle.command_text.specs.Request.{Asks};
+ghost use Rattle.command_text.specs.Bytes.{bytes_of};
+ghost use Rattle.command_text.specs.Seen.{seen};
+
+use crate::Named;
+use crate::shards::ask;
+use byte_ports::{Failed, Sink, write_all};
+use command_text::{Answer, Form, Message, read_event, read_form};
+use line_text::{Parts, without_cr};
+use shard_book::Keeper;
+use std::alloc::Global;
+use table_model::Event;
+
+/// The place of the first table of a name.
+fn place_of<K: Keeper>(tables: &[Named<K>], name: &[u8]) -> Option<usize>
+    ensures place { result ≡ position (λ table. bytes_eq table.name name.now) tables.now }
+    ensures within { IfSome result (λ place. place < length tables.now) }
+{
+    tables
+        .iter()
+        .position(|table| table.name.as_slice() == name)
+}
+
+/// Has a table's shards answer an event, and prints what that comes to.
+fn serve_event<K: Keeper>(alloc: Global, name: &[u8], keeper: &mut K, event: Event) -> Answer
+    requires event { IsTableEvent event }
+    requires asked { IsCommand event }
+    ensures serves { Serves K.answers K.refuses (record { name = name.now; spec = K.table keeper.old; shards = K.parts keeper.old; state = K.state keeper.old }) event (bytes_of result) (K.state keeper.new) }
+    ensures table { K.table keeper.new ≡ K.table keeper.old }
+    ensures parts { K.parts keeper.new ≡ K.parts keeper.old }
+{
+    match ask(keeper, event) {
+        Ok(reply) => match Answer::to_reply(alloc, name, keeper.spec(), &reply) {
+            Ok(answer) => answer,
+            Err(_) => Answer::Message(Message::OutOfMemory),
+        },
+        Err(message) => Answer::Message(message),
+    }
+}
+
+/// Does what a form asks of a table.
+fn ask_table<K: Keeper>(alloc: Global, named: &mut Named<K>, moment: u64, form: Form<'_>) -> Answer
+    requires words { seen form ≢ spec.Nothing }
+    requires moment { moment < 2 ^ 62 }
+    ensures name { named.new.name ≡ named.old.name }
+    ensures table { K.table named.new.keeper ≡ K.table named.old.keeper }
+    ensures parts { K.parts named.new.keeper ≡ K.parts named.old.keeper }
+    ensures does { (asked : Result Event Message) × Asks (K.table named.old.keeper).kind moment (seen form.entry) asked
+        × Does K.answers K.refuses (state_of K.table K.parts K.state named.old) asked (bytes_of result) (K.state named.new.keeper) }
+{
+    let kind = named.keeper.spec().kind;
+    match read_event(alloc, kind, moment, form) {
+        Ok(event) => serve_event(alloc, named.name.as_slice(), &mut named.keeper, event),
+        Err(message) => Answer::Message(message),
+    }
+}
+
+/// Does what a form asks of the table of a name.
+fn ask_named<K: Keeper>(
+    alloc: Global,
+    tables: &mut [Named<K>],
+    moment: u64,
+    form: Form<'_>,
+    name: &[u8],
+) -> Answer
+    requires words { seen form ≢ spec.Nothing }
+    requires moment { moment < 2 ^ 62 }
+    ensures { AsksOf K.answers K.refuses moment (seen form.entry) (specified_place name.now (states_of K.table K.parts K.state tables.old)) (states_of K.table K.parts K.state tables.old) (bytes_of result) (states_of K.table K.parts K.state tables.new) }
+{
+    match place_of(tables, name) {
+        Some(place) => ask_table(alloc, &mut tables[place], moment, form),
+        None => Answer::Message(Message::NoSuchTable),
+    }
+}
+
+/// Does what a command asks, all but the writing.
+fn perform<K: Keeper>(alloc: Global, tables: &mut [Named<K>], moment: u64, command: &[u8]) -> Answer
+    requires { moment < 2 ^ 62 }
+    ensures { Answers K.answers K.refuses moment (states_of K.table K.parts K.state tables.old) command.now (bytes_of result) (states_of K.table K.parts K.state tables.new) }
+{
+    let form = read_form(command);
+    match form {
+        Form::Nothing => Answer::Nothing,
+        Form::Unknown => Answer::Message(Message::UnknownCommand),
+        Form::Show(name, _) => ask_named(alloc, tables, moment, form, name),
+        Form::Clear(name, _) => ask_named(alloc, tables, moment, form, name),
+        Form::Set(name, _, _) => ask_named(alloc, tables, moment, form, name),
+    }
+}
+
+/// Serves one command. All that it changes is changed before the first byte of its answer.
+fn answer_command<K: Keeper, W: Sink>(
+    alloc: Global,
+    tables: &mut [Named<K>],
+    moment: u64,
+    command: &[u8],
+    writer: &mut W,
+) -> Result<(), Failed>
+    requires { moment < 2 ^ 62 }
+    ensures answer { (text : List ℕ) × Answers K.answers K.refuses moment (states_of K.table K.parts K.state tables.old) command.now text (states_of K.table K.parts K.state tables.new)
+        × MatchResult result (λ _. Grows W.tells (W.written writer.old) (W.written writer.new) text)
+        (λ _. GrowsInPart W.tells (W.written writer.old) (W.written writer.new) text) }
+    ensures ok { OnOk result (W.failures writer.new ≡ W.failures writer.old) }
+    ensures err { OnErr result (IsOneMore (W.failures writer.old) (W.failures writer.new)) }
+{
+    let answer = perform(alloc, tables, moment, command);
+    match write_all(writer, answer.bytes()) {
+        Ok(()) => Ok(()),
+        Err(_) => Err(Failed),
+    }
+}
+
+/// Serves the commands of a line at a moment in ms, and writes their answers. Where the writer fails, the events of
+/// the command in hand stand, and what was written is a front of what the line could have been answered.
+pub fn answer<K: Keeper, W: Sink>(
+    alloc: Global,
+    tables: &mut [Named<K>],
+    moment: u64,
+    line: &[u8],
+    writer: &mut W,
+) -> Result<(), Failed>
+    requires { moment < 2 ^ 62 }
+    ensures answer { OnOk result ((text : List ℕ) × AnswersLine K.answers K.refuses moment (states_of K.table K.parts K.state tables.old) line.now text (states_of K.table K.parts K.state tables.new)
+        × Grows W.tells (W.written writer.old) (W.written writer.new) text) }
+    // The answers to so many commands, and a front of what the next could have been answered.
+    ensures part { OnErr result ((text : List ℕ) × (count : ℕ) × StopsIn (Answers K.answers K.refuses moment) (states_of K.table K.parts K.state tables.old) (commands_of line.now) count text
+        × Grows W.tells (W.written writer.old) (W.written writer.new) text) }
+    ensures ok { OnOk result (W.failures writer.new ≡ W.failures writer.old) }
+    ensures err { OnErr result (IsOneMore (W.failures writer.old) (W.failures writer.new)) }
+{
+    let mut commands = Parts::new(without_cr(line), b';');
+    while let Some(command) = commands.next() {
+        match answer_command(alloc, tables, moment, command, writer) {
+            Ok(()) => {}
+            Err(error) => return Err(error),
+        }
+    }
+    Ok(())
+}
