@@ -16,11 +16,13 @@ pub fn feed<L: LineServer, W: Sink>(
     piece: &[u8],
     writer: &mut W,
 ) -> Result<u64, u64>
+    requires { L.holds (L.state server.old) }
     // From where a text stood, after the piece it stands further on.
     ensures served { (old : L.State) (whole output : List ℕ) (count : ℕ) → Progress L.says old whole [] line.old count output (L.state server.old) →
         (more : List ℕ) × Grows W.tells (W.written writer.old) (W.written writer.new) more
         × MatchResult result (λ lines. Progress L.says old (whole ++ piece.now) [] line.new (count + lines) (output ++ more) (L.state server.new))
         (λ lines. StopsAfter L.says L.stops old (whole ++ piece.now) (count + lines) (output ++ more)) }
+    ensures holds { OnOk result (L.holds (L.state server.new)) }
     ensures bound { MatchResult result (λ lines. lines ≤ length piece.now) (λ lines. lines ≤ length piece.now) }
     ensures ok { OnOk result (W.failures writer.new ≡ W.failures writer.old) }
     ensures err { OnErr result (IsOneMore (W.failures writer.old) (W.failures writer.new)) }

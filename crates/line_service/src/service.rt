@@ -52,10 +52,12 @@ pub fn serve_lines<L: LineServer, R: Source, W: Sink>(
     reader: &mut R,
     writer: &mut W,
 ) -> Result<(), LineFault>
+    requires { L.holds (L.state server.old) }
     // All of the input was read, and what was written is what its lines say, and nothing else.
     ensures whole { OnOk result ((whole output : List ℕ) × Takes R.tells (R.left reader.old) (R.left reader.new) whole
         × Grows W.tells (W.written writer.old) (W.written writer.new) output
         × ServesAll L.says (L.state server.old) whole output (L.state server.new)) }
+    ensures holds { OnOk result (L.holds (L.state server.new)) }
     ensures end { OnOk result (IsAtEnd R.tells (R.left reader.new)) }
     ensures fault { IfErr result (λ fault. (whole output : List ℕ) × Takes R.tells (R.left reader.old) (R.left reader.new) whole
         × Grows W.tells (W.written writer.old) (W.written writer.new) output

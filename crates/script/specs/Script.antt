@@ -1,5 +1,5 @@
 -- What the lines of a script write.
-use Rattle.std.specs.Prelude.{◌≡◌, ℕ, nat_lt, ◌^◌, Option, Some, None, List, [], ◌∷◌, codes, if◌then◌else◌}
+use Rattle.std.specs.Prelude.{◌≡◌, ◌⊎◌, ℕ, nat_lt, ◌^◌, Option, Some, None, List, [], ◌∷◌, ◌++◌, codes, decimal, if◌then◌else◌}
 use Rattle.std.specs.Option.{option_map_or}
 use Rattle.std.specs.Str.{bytes_eq}
 use Rattle.byte_ports.specs.Bytes.{IsPrefix}
@@ -7,24 +7,80 @@ use Rattle.line_text.specs.Chain.{StopsIn}
 use Rattle.line_text.specs.Number.{number_of}
 use Rattle.line_text.specs.Words.{LineRest, after_word, words_left}
 use Rattle.line_text.specs.declared.words.Blanks.TheVariants.{Spaces}
+use Rattle.stick_key.specs.KeyText.{Reads}
+use Rattle.stick_key.specs.declared.kind.KeyType.TheVariants.{Ip, Ipv6}
+use Rattle.stick_key.specs.declared.sample.Sample.{Sample}
+use Rattle.stick_key.specs.declared.sample.Sample.TheVariants.{V4, V6}
 use Rattle.table_cli.specs.Answers.{Answers, AnswersLine, commands_of}
-use Rattle.table_cli.specs.Tables.{NamedState}
+use Rattle.script.specs.Connections.{ScriptState, connection_of, without}
+use Rattle.script.specs.Visit.{ArrivesFirst, LeavesFirst}
+use Rattle.script.specs.declared.connections.Connection.{Connection}
+use Rattle.script.specs.declared.visit.Verdict.{Verdict}
+use Rattle.script.specs.declared.visit.Verdict.TheVariants.{Accepted, Rejected}
 
+-- commands at a moment; a connection of an ID opens from an address's text; it closes after so many bytes in and out
 pub data Line : Type 0 where
   Empty : Line
   Bad : Line
   Commands : ℕ → List ℕ → Line
+  Open : ℕ → ℕ → List ℕ → Line
+  Close : ℕ → ℕ → ℕ → ℕ → Line
 
--- a moment in ms, at most 2^62 - 1
+-- ---- reading a line
+
+-- the number that a word writes, where it is below the limit
+abbrev pub number_below : ℕ → List ℕ → Option ℕ
+number_below limit word = option_map_or (λ number. if nat_lt number limit then Some number else None) (number_of word) None
+
+-- a moment in ms
 abbrev pub moment_of : List ℕ → Option ℕ
-moment_of word = option_map_or (λ moment. if nat_lt moment (2 ^ 62) then Some moment else None) (number_of word) None
+moment_of word = number_below (2 ^ 62) word
 
--- MS cmd, and the commands behind that word
+abbrev pub id_of : List ℕ → Option ℕ
+id_of word = number_below (2 ^ 32) word
+
+abbrev pub port_of : List ℕ → Option ℕ
+port_of word = number_below (2 ^ 16) word
+
+-- ID ADDRESS PORT
+abbrev pub opening : ℕ → Option ℕ → List ℕ → Option ℕ → Line
+opening moment (Some id) address (Some port) = Open moment id address
+opening moment (Some id) address None = Bad
+opening moment None address port = Bad
+
+abbrev pub open_of : ℕ → List (List ℕ) → Line
+open_of moment (id ∷ address ∷ port ∷ []) = opening moment (id_of id) address (port_of port)
+open_of moment (id ∷ address ∷ port ∷ more ∷ rest) = Bad
+open_of moment (id ∷ address ∷ []) = Bad
+open_of moment (id ∷ []) = Bad
+open_of moment [] = Bad
+
+-- ID IN OUT
+abbrev pub closing : ℕ → Option ℕ → Option ℕ → Option ℕ → Line
+closing moment (Some id) (Some bytes_in) (Some bytes_out) = Close moment id bytes_in bytes_out
+closing moment (Some id) (Some bytes_in) None = Bad
+closing moment (Some id) None bytes_out = Bad
+closing moment None bytes_in bytes_out = Bad
+
+abbrev pub close_of : ℕ → List (List ℕ) → Line
+close_of moment (id ∷ bytes_in ∷ bytes_out ∷ []) = closing moment (id_of id) (number_of bytes_in) (number_of bytes_out)
+close_of moment (id ∷ bytes_in ∷ bytes_out ∷ more ∷ rest) = Bad
+close_of moment (id ∷ bytes_in ∷ []) = Bad
+close_of moment (id ∷ []) = Bad
+close_of moment [] = Bad
+
+-- what is done at a moment: cmd, and the commands behind that word; or open, or close, and their words
+abbrev pub by_verb : ℕ → List ℕ → List (List ℕ) → List ℕ → Line
+by_verb moment verb more commands =
+    if bytes_eq verb (codes "cmd") then Commands moment commands
+    else (if bytes_eq verb (codes "open") then open_of moment more
+    else (if bytes_eq verb (codes "close") then close_of moment more
+    else Bad))
+
 abbrev pub by_words : List (List ℕ) → List ℕ → Line
 by_words [] commands = Bad
 by_words (moment ∷ []) commands = Bad
-by_words (moment ∷ verb ∷ more) commands =
-    if bytes_eq verb (codes "cmd") then option_map_or (λ now. Commands now commands) (moment_of moment) Bad else Bad
+by_words (moment ∷ verb ∷ more) commands = option_map_or (λ now. by_verb now verb more commands) (moment_of moment) Bad
 
 -- words are parted by spaces alone
 abbrev pub text_of : List ℕ → LineRest
@@ -36,20 +92,74 @@ line_of None = Bad
 line_of (Some []) = Empty
 line_of (Some (byte ∷ bytes)) = by_words (words_left (text_of (byte ∷ bytes))) (after_word (after_word (text_of (byte ∷ bytes)))).text
 
-abbrev pub LineSays : Line → List NamedState → List ℕ → List NamedState → Type 0
-LineSays Empty old text new = (text ≡ []) × (new ≡ old)
-LineSays Bad old text new = (text ≡ codes "bad line\n") × (new ≡ old)
-LineSays (Commands moment commands) old text new = AnswersLine moment old commands text new
+-- the text is that of an IPv4 or of an IPv6 address
+abbrev pub IsAddress : List ℕ → Sample → Type 0
+IsAddress text (V4 address) = Reads Ip text address
+IsAddress text (V6 address) = Reads Ipv6 text address
+IsAddress text _ = ⊥
 
-abbrev pub LineStops : Line → List NamedState → List ℕ → Type 0
+abbrev pub IsNoAddress : List ℕ → Type 0
+IsNoAddress text = (source : Sample) → ¬ (IsAddress text source)
+
+-- ---- what a line writes and does
+
+abbrev pub bad_line : List ℕ
+bad_line = codes "bad line\n"
+
+-- open ID accept, or open ID reject
+abbrev pub open_text : ℕ → Verdict → List ℕ
+open_text id (Accepted reference) = codes "open " ++ decimal id ++ codes " accept\n"
+open_text id Rejected = codes "open " ++ decimal id ++ codes " reject\n"
+
+abbrev pub close_text : ℕ → List ℕ
+close_text id = codes "close " ++ decimal id ++ codes "\n"
+
+-- the open connections and, where it is accepted, one more
+abbrev pub with_accepted : List Connection → ℕ → Verdict → List Connection
+with_accepted connections id (Accepted reference) = connections ++ record { id = id; reference = reference } ∷ []
+with_accepted connections id Rejected = connections
+
+-- an ID that isn't open opens: the first table judges the connection; or its place is refused, it is rejected and nothing changes
+abbrev pub OpensAt : Option Connection → ℕ → ℕ → Sample → ScriptState → List ℕ → ScriptState → Type 0
+OpensAt (Some connection) moment id source old text new = (text ≡ codes "connection already open\n") × (new ≡ old)
+OpensAt None moment id source old text new =
+    ((verdict : Verdict) × ArrivesFirst old.tables moment source verdict new.tables × (new.connections ≡ with_accepted old.connections id verdict) × (text ≡ open_text id verdict))
+    ⊎ ((text ≡ open_text id Rejected) × (new ≡ old))
+
+-- a text that is no address makes a bad line, before the ID is looked for
+abbrev pub Opens : ℕ → ℕ → List ℕ → ScriptState → List ℕ → ScriptState → Type 0
+Opens moment id address old text new =
+    (IsNoAddress address × (text ≡ bad_line) × (new ≡ old))
+    ⊎ ((source : Sample) × IsAddress address source × OpensAt (connection_of id old.connections) moment id source old text new)
+
+-- an ID that is open closes: its connection goes, and is open no more
+abbrev pub ClosesAt : Option Connection → ℕ → ℕ → ℕ → ℕ → ScriptState → List ℕ → ScriptState → Type 0
+ClosesAt None moment id bytes_in bytes_out old text new = (text ≡ codes "no such connection\n") × (new ≡ old)
+ClosesAt (Some connection) moment id bytes_in bytes_out old text new =
+    LeavesFirst old.tables moment connection.reference bytes_in bytes_out new.tables × (new.connections ≡ without id old.connections) × (text ≡ close_text id)
+
+abbrev pub Closes : ℕ → ℕ → ℕ → ℕ → ScriptState → List ℕ → ScriptState → Type 0
+Closes moment id bytes_in bytes_out old text new = ClosesAt (connection_of id old.connections) moment id bytes_in bytes_out old text new
+
+abbrev pub LineSays : Line → ScriptState → List ℕ → ScriptState → Type 0
+LineSays Empty old text new = (text ≡ []) × (new ≡ old)
+LineSays Bad old text new = (text ≡ bad_line) × (new ≡ old)
+LineSays (Commands moment commands) old text new = AnswersLine moment old.tables commands text new.tables × (new.connections ≡ old.connections)
+LineSays (Open moment id address) old text new = Opens moment id address old text new
+LineSays (Close moment id bytes_in bytes_out) old text new = Closes moment id bytes_in bytes_out old text new
+
+-- what a line writes stops behind a front of what it could have written
+abbrev pub LineStops : Line → ScriptState → List ℕ → Type 0
 LineStops Empty old text = ⊥
-LineStops Bad old text = IsPrefix text (codes "bad line\n")
-LineStops (Commands moment commands) old text = (count : ℕ) × StopsIn (Answers moment) old (commands_of commands) count text
+LineStops Bad old text = IsPrefix text bad_line
+LineStops (Commands moment commands) old text = (count : ℕ) × StopsIn (Answers moment) old.tables (commands_of commands) count text
+LineStops (Open moment id address) old text = (whole : List ℕ) × (new : ScriptState) × Opens moment id address old whole new × IsPrefix text whole
+LineStops (Close moment id bytes_in bytes_out) old text = (whole : List ℕ) × (new : ScriptState) × Closes moment id bytes_in bytes_out old whole new × IsPrefix text whole
 
 -- from `old`, a line may write this text and leave `new`
-abbrev pub Says : List NamedState → Option (List ℕ) → List ℕ → List NamedState → Type 0
+abbrev pub Says : ScriptState → Option (List ℕ) → List ℕ → ScriptState → Type 0
 Says old line text new = LineSays (line_of line) old text new
 
 -- from `old`, what a line writes may stop behind this text
-abbrev pub Stops : List NamedState → Option (List ℕ) → List ℕ → Type 0
+abbrev pub Stops : ScriptState → Option (List ℕ) → List ℕ → Type 0
 Stops old line text = LineStops (line_of line) old text

@@ -2,10 +2,14 @@
 #![tactic(auto)]
 
 mod built_in;
+mod connections;
+pub mod laws;
 mod line;
 mod replay;
 mod server;
 mod setup;
+mod short_text;
+mod visit;
 
 pub use built_in::{LIFE, MAX_REFS, built_in as built_in_setup};
 pub use replay::{FaultKind, ReplayFault, replay_script};

@@ -1,10 +1,13 @@
 //! Reading a line of a script.
 
-ghost use Rattle.std.specs.Prelude.{◌≡◌, ◌<◌, ◌^◌, option_map, IfSome};
-ghost use Rattle.script.specs.Script.{line_of, moment_of};
+ghost use Rattle.std.specs.Prelude.{◌≡◌, ◌<◌, ◌^◌, option_map, IfSome, MatchOption};
+ghost use Rattle.line_text.specs.Words.{words_left};
+ghost use Rattle.script.specs.Script.{IsAddress, IsNoAddress, close_of, id_of, line_of, moment_of, number_below, open_of, port_of};
 ghost use Rattle.script.specs.Seen.{IsTimely, seen};
 
 use line_text::{Blanks, Words, read_number};
+use std::alloc::Global;
+use stick_key::{KeyType, Sample, read_dotted, read_key};
 
 /// The greatest moment in ms.
 pub const MAX_MOMENT: u64 = (1 << 62) - 1;
@@ -16,6 +19,19 @@ pub enum Line<'a> {
     Bad,
     /// Commands at a moment in ms.
     Commands(u64, &'a [u8]),
+    /// A connection opens, from an address.
+    Open {
+        moment: u64,
+        id: u32,
+        address: &'a [u8],
+    },
+    /// A connection closes, after so many bytes from its client and to it.
+    Close {
+        moment: u64,
+        id: u32,
+        bytes_in: u64,
+        bytes_out: u64,
+    },
 }
 
 fn read_moment(word: &[u8]) -> Option<u64>
@@ -27,6 +43,63 @@ fn read_moment(word: &[u8]) -> Option<u64>
         return None;
     }
     Some(moment)
+}
+
+fn read_id(word: &[u8]) -> Option<u32>
+    ensures { result ≡ id_of word.now }
+{
+    u32::try_from(read_number(word)?).ok()
+}
+
+fn read_port(word: &[u8]) -> Option<u16>
+    ensures { result ≡ port_of word.now }
+{
+    u16::try_from(read_number(word)?).ok()
+}
+
+/// Reads ID ADDRESS PORT, all but the address.
+fn read_open(moment: u64, mut rest: Words<'_>) -> Line<'_>
+    requires { moment < 2 ^ 62 }
+    ensures line { seen result ≡ open_of moment (words_left rest.entry) }
+    ensures timely { IsTimely result }
+{
+    let (Some(id), Some(address), Some(port)) = (rest.next(), rest.next(), rest.next()) else {
+        return Line::Bad;
+    };
+    if rest.next().is_some() {
+        return Line::Bad;
+    }
+    match (read_id(id), read_port(port)) {
+        (Some(id), Some(_)) => Line::Open {
+            moment,
+            id,
+            address,
+        },
+        _ => Line::Bad,
+    }
+}
+
+/// Reads ID IN OUT.
+fn read_close(moment: u64, mut rest: Words<'_>) -> Line<'_>
+    requires { moment < 2 ^ 62 }
+    ensures line { seen result ≡ close_of moment (words_left rest.entry) }
+    ensures timely { IsTimely result }
+{
+    let (Some(id), Some(bytes_in), Some(bytes_out)) = (rest.next(), rest.next(), rest.next()) else {
+        return Line::Bad;
+    };
+    if rest.next().is_some() {
+        return Line::Bad;
+    }
+    match (read_id(id), read_number(bytes_in), read_number(bytes_out)) {
+        (Some(id), Some(bytes_in), Some(bytes_out)) => Line::Close {
+            moment,
+            id,
+            bytes_in,
+            bytes_out,
+        },
+        _ => Line::Bad,
+    }
 }
 
 /// Reads a line. One that is too long is a bad one.
@@ -47,11 +120,33 @@ pub fn read_line(line: Option<&[u8]>) -> Line<'_>
     let Some(verb) = rest.next() else {
         return Line::Bad;
     };
-    if verb != b"cmd".as_slice() {
+    let Some(moment) = read_moment(moment) else {
         return Line::Bad;
+    };
+    if verb == b"cmd".as_slice() {
+        return Line::Commands(moment, rest.rest());
     }
-    match read_moment(moment) {
-        Some(moment) => Line::Commands(moment, rest.rest()),
-        None => Line::Bad,
+    if verb == b"open".as_slice() {
+        return read_open(moment, rest);
+    }
+    if verb == b"close".as_slice() {
+        return read_close(moment, rest);
+    }
+    Line::Bad
+}
+
+/// Reads an address, of IPv4 or of IPv6.
+pub fn read_address(alloc: Global, text: &[u8]) -> Option<Sample>
+    ensures { MatchOption result (IsNoAddress text.now) (IsAddress text.now) }
+{
+    if let Ok(address) = read_dotted(text) {
+        return Some(Sample::V4(address));
+    }
+    let Ok(key) = read_key(alloc, KeyType::Ipv6, text) else {
+        return None;
+    };
+    match key.bytes().as_array() {
+        Some(address) => Some(Sample::V6(*address)),
+        None => None,
     }
 }

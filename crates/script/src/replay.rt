@@ -4,9 +4,9 @@ ghost use Rattle.std.specs.Prelude.{◌≡◌, ◌≤◌, ◌⊎◌, ℕ, List, 
 ghost use Rattle.byte_ports.specs.Bytes.{Grows, IsAtEnd, IsOneMore, Takes};
 ghost use Rattle.line_service.specs.Service.{ServesAll, StopsAfter};
 ghost use Rattle.line_service.specs.declared.service.TheConstants.{MAX_TURNS};
+ghost use Rattle.script.specs.Connections.{ScriptState};
 ghost use Rattle.script.specs.Script.{Says, Stops};
 ghost use Rattle.script.specs.Start.{AreTableSpecs, start};
-ghost use Rattle.table_cli.specs.Tables.{NamedState};
 
 use crate::Setup;
 use crate::server::ScriptServer;
@@ -43,7 +43,7 @@ pub fn replay_script<R: Source, W: Sink>(
     writer: &mut W,
 ) -> Result<(), ReplayFault>
     requires { AreTableSpecs setup.now.tables }
-    ensures whole { OnOk result ((script output : List ℕ) × (new : List NamedState) × Takes R.tells (R.left reader.old) (R.left reader.new) script
+    ensures whole { OnOk result ((script output : List ℕ) × (new : ScriptState) × Takes R.tells (R.left reader.old) (R.left reader.new) script
         × Grows W.tells (W.written writer.old) (W.written writer.new) output
         × ServesAll Says (start setup.now.tables) script output new) }
     ensures end { OnOk result (IsAtEnd R.tells (R.left reader.new)) }
@@ -66,7 +66,11 @@ pub fn replay_script<R: Source, W: Sink>(
             });
         }
     };
-    let mut server = ScriptServer { alloc, tables };
+    let mut server = ScriptServer {
+        alloc,
+        tables,
+        connections: Vec::new(alloc),
+    };
     match serve_lines(&mut server, reader, writer) {
         Ok(()) => Ok(()),
         Err(fault) => {

@@ -2,7 +2,7 @@
 
 ghost use Rattle.std.specs.Prelude.{◌≡◌, [], ◌∷◌, IfOk};
 ghost use Rattle.table_model.specs.Limits.{IsTableSpec};
-ghost use Rattle.script.specs.Start.{start, AreTableSpecs};
+ghost use Rattle.script.specs.Start.{empty_tables, AreTableSpecs};
 ghost use Rattle.table_cli.specs.Tables.{states_of};
 
 use sequence::{NoMemory, Sequence};
@@ -39,7 +39,7 @@ impl Setup {
     /// The tables, empty.
     pub(crate) fn open_tables<T: Table>(&self, alloc: Global) -> Result<Vec<Named<T>>, NoMemory>
         requires { AreTableSpecs self.now.tables }
-        ensures { IfOk result (λ tables. states_of T.state tables.items ≡ start self.now.tables) }
+        ensures { IfOk result (λ tables. states_of T.state tables.items ≡ empty_tables self.now.tables) }
     {
         let mut tables = Vec::new(alloc);
         for named in self.tables.as_slice() {

@@ -23,13 +23,15 @@ fn main(rt: HostRuntime) -> io::Result<ExitCode> {
 /// What the program can be asked.
 fn read_command_line<'a>(alloc: Global, words: &'a [String]) -> Result<ArgMatches<'a>, Error> {
     let replay = Command::new(alloc, "replay")
-        .about("Replay a timed script of commands on standard input")
+        .about("Replay a timed script of connections and commands on standard input")
         .after_help(
             "Each line is a moment in ms and what is done at it:\n  \
-             0 cmd set table t key 10.0.0.1 data.gpc0 5\n  \
-             0 cmd show table t\n\
-             The answers are written to standard output. The table t has keys of type ip,\n\
-             100 entries at most, and stores gpc0.",
+             0 open 1 10.0.0.1 40001     connection 1 opens, from an address and port\n  \
+             5 cmd show table t          commands; also set table and clear table\n  \
+             9 close 1 420 1337          it closes, after so many bytes in and out\n\
+             The answers are written to standard output. A connection is tracked by its\n\
+             client's address in the table t, which has keys of type ip, 100 entries at\n\
+             most, and stores gpc0; it is accepted, also where it can't be tracked.",
         );
     let command = Command::new(alloc, "stickd")
         .about("Stick tables in HAProxy's language, with answers that are proved")

@@ -2,8 +2,12 @@
 #![tactic(auto)]
 
 #[cfg(test)]
+mod connections;
+#[cfg(test)]
 mod kinds;
 #[cfg(test)]
 mod replays;
 #[cfg(test)]
 mod tables;
+#[cfg(test)]
+mod tracking;

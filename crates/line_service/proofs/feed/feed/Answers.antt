@@ -14,6 +14,7 @@ loop-part-init g c =
         progress_along g.L.LineServer.says old _ _ _ _ count _ output _ (search rules) (sym (append-nil output))
             (progress_piece g.L.LineServer.says old _ whole _ _ _ _ _ count output (sym c.new-parts.ensures.parts ∙ first) c.extend.ensures.stands p),
       );
+      holds = c.requires;
       bound = omega (arith, ap length first, c.new-parts.ensures.few);
       failures = refl;
     }
@@ -34,6 +35,7 @@ loop-part-preserved g c =
                 (subst (λ (ls : List (List ℕ)). Progress {S = L.State} L.says old (whole ++ c.args.piece.now) ls c.loop-part.line (count + c.loop-part.served) (output ++ at.0) (L.state c.loop-part.server)) next at.2)
                 said (c.extend-in-Some-next.ensures.stands [] c.clear.ensures)),
           );
+      holds = c.in-Ok.ensures.holds;
       bound = omega (arith, ap length next);
       failures = search rules;
     }

@@ -12,6 +12,7 @@ invariant-loop-part g l =
       going : (old : L.State) (whole output : List ℕ) (count : ℕ) → Progress L.says old whole [] l.fn.line count output (L.state l.fn.server) →
           (more : List ℕ) × Grows W.tells (W.written l.fn.writer) (W.written l.writer) more
           × Progress L.says old (whole ++ l.piece) l.parts l.line (count + l.served) (output ++ more) (L.state l.server);
+      holds : L.holds (L.state l.server);
       bound : l.served + length l.parts ≤ length l.piece;
       failures : W.failures l.writer ≡ W.failures l.fn.writer;
     }

@@ -8,6 +8,7 @@ use Rattle.line_service.proofs.service.serve_lines.Goals as goal
 pub loop-turn-init : goal.loop-turn-init
 loop-turn-init g c = record {
   stands = ([], [], λ shown. refl, λ shown. sym (append-nil _), progress_none g.L.LineServer.says _ _ c.new-line.ensures, omega arith);
+  holds = c.requires;
   small = omega arith;
   reader = refl;
   writer = refl;
@@ -78,6 +79,7 @@ loop-turn-preserved g c =
         here.2,
         omega (arith, so_far.5, size, length-append so_far.0 piece),
       );
+      holds = c.in-Ok-feed.ensures.holds;
       small = omega (arith, size, c.in-Ok.ensures.bound, c.in-Ok-feed.ensures.bound);
       reader = search rules;
       writer = search rules;

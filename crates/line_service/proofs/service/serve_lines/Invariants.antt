@@ -12,6 +12,7 @@ invariant-loop-turn g l =
     record {
       stands : (whole output : List ℕ) × Takes R.tells (R.left l.fn.reader) (R.left l.reader) whole × Grows W.tells (W.written l.fn.writer) (W.written l.writer) output
           × Progress L.says (L.state l.fn.server) whole [] l.line l.done output (L.state l.server) × (l._turn ≤ length whole);
+      holds : L.holds (L.state l.server);
       small : l.done ≤ 4096 * l._turn;
       reader : R.failures l.reader ≡ R.failures l.fn.reader;
       writer : W.failures l.writer ≡ W.failures l.fn.writer;

@@ -1,0 +1,5 @@
+use Rattle.script.proofs.HeldLemmas.{references_law}
+use Rattle.script.proofs.laws.references.Goals as goal
+
+pub returns : goal.returns
+returns c = references_law
