@@ -10,7 +10,7 @@ use stored_data::{Datum, StoredSet};
 use table_model::{Filter, Op, Record, Reply, Ticket};
 
 /// Whether a filter means an entry, by the values that its row shows at this moment in ms.
-pub fn passes(
+pub(crate) fn passes(
     tickets: &[(Ticket, StickKey)],
     clock: u64,
     choice: &Filter,
@@ -48,7 +48,7 @@ fn compares(op: Op, a: u64, b: u64) -> bool
 }
 
 /// The datum that a filter compares and the table doesn't store.
-pub fn not_stored(columns: &StoredSet, choice: &Filter) -> Option<Datum>
+pub(crate) fn not_stored(columns: &StoredSet, choice: &Filter) -> Option<Datum>
     ensures { result ≡ not_stored_in columns.now choice.now }
 {
     match choice {
@@ -114,7 +114,7 @@ fn remove_matching(
 }
 
 /// Removes the untracked records that match, and tells how many went and how many stayed.
-pub fn clear_matching(
+pub(crate) fn clear_matching(
     records: &mut Vec<(StickKey, Record)>,
     tickets: &[(Ticket, StickKey)],
     clock: u64,

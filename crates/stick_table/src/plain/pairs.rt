@@ -6,7 +6,7 @@ use stored_data::{StoredSet, Values, settable};
 use table_model::{Cell, Reply};
 
 /// What the first pair that can't be put is answered.
-pub fn put_fault(columns: &StoredSet, pairs: &[Cell]) -> Option<Reply>
+pub(crate) fn put_fault(columns: &StoredSet, pairs: &[Cell]) -> Option<Reply>
     ensures { result ≡ put_fault_of columns.now pairs.now }
 {
     for pair in pairs {
@@ -21,7 +21,7 @@ pub fn put_fault(columns: &StoredSet, pairs: &[Cell]) -> Option<Reply>
 }
 
 /// Puts pairs, the first to the last.
-pub fn put_pairs(values: &mut Values, pairs: &[Cell])
+pub(crate) fn put_pairs(values: &mut Values, pairs: &[Cell])
     ensures { values.new ≡ put_pairs_of pairs.now values.old }
 {
     for pair in pairs {

@@ -18,7 +18,7 @@ use stored_data::{Act, StoredSet, Values};
 use table_model::{Record, Ticket};
 
 /// Whether two keys have the same bytes.
-pub fn is_same(a: &StickKey, b: &StickKey) -> bool
+pub(crate) fn is_same(a: &StickKey, b: &StickKey) -> bool
     ensures { result ≡ same_key a.now b.now }
 {
     a.cmp(b) == Ordering::Equal
@@ -34,14 +34,22 @@ fn outlives(found: &Record, clock: u64) -> bool
 }
 
 /// Whether an entry is there when the clock has come to this moment.
-pub fn is_live(tickets: &[(Ticket, StickKey)], clock: u64, entry: &(StickKey, Record)) -> bool
+pub(crate) fn is_live(
+    tickets: &[(Ticket, StickKey)],
+    clock: u64,
+    entry: &(StickKey, Record),
+) -> bool
     ensures { result ≡ stays clock tickets.now entry.now }
 {
     is_tracked(tickets, &entry.0) || outlives(&entry.1, clock)
 }
 
 /// Drops the untracked records whose date the clock has reached.
-pub fn drop_dead(records: &mut Vec<(StickKey, Record)>, tickets: &[(Ticket, StickKey)], clock: u64)
+pub(crate) fn drop_dead(
+    records: &mut Vec<(StickKey, Record)>,
+    tickets: &[(Ticket, StickKey)],
+    clock: u64,
+)
     ensures items { records.new.items ≡ filter (stays clock tickets.now) records.old.items }
     ensures capacity { vec_capacity records.new ≡ vec_capacity records.old }
     ensures shorter { vec_len records.new ≤ vec_len records.old }
@@ -50,7 +58,7 @@ pub fn drop_dead(records: &mut Vec<(StickKey, Record)>, tickets: &[(Ticket, Stic
 }
 
 /// The record of the key.
-pub fn find<'a>(records: &'a [(StickKey, Record)], key: &StickKey) -> Option<&'a Record>
+pub(crate) fn find<'a>(records: &'a [(StickKey, Record)], key: &StickKey) -> Option<&'a Record>
     ensures { option_copied result ≡ record_at key.now records.now }
 {
     for entry in records {
@@ -62,7 +70,7 @@ pub fn find<'a>(records: &'a [(StickKey, Record)], key: &StickKey) -> Option<&'a
 }
 
 /// The record of the key, if it is there when the clock has come to this moment.
-pub fn find_live<'a>(
+pub(crate) fn find_live<'a>(
     records: &'a [(StickKey, Record)],
     tickets: &[(Ticket, StickKey)],
     clock: u64,
@@ -79,7 +87,7 @@ pub fn find_live<'a>(
 }
 
 /// The data of a record that is there when the clock has come to this moment, or of a new one.
-pub fn live_values(
+pub(crate) fn live_values(
     alloc: Global,
     columns: &StoredSet,
     records: &[(StickKey, Record)],
@@ -97,7 +105,7 @@ pub fn live_values(
 }
 
 /// How many records are there when the clock has come to this moment.
-pub fn count_live(
+pub(crate) fn count_live(
     records: &[(StickKey, Record)],
     tickets: &[(Ticket, StickKey)],
     clock: u64,
@@ -126,7 +134,7 @@ fn place_of(records: &[(StickKey, Record)], key: &StickKey) -> usize
 }
 
 /// Sets the record of a key.
-pub fn put_record(records: &mut Vec<(StickKey, Record)>, key: StickKey, found: Record)
+pub(crate) fn put_record(records: &mut Vec<(StickKey, Record)>, key: StickKey, found: Record)
     requires { vec_len records.old < vec_capacity records.old }
     ensures { records.new.items ≡ insert_entry key_cmp records.old.items key found }
 {
@@ -140,7 +148,7 @@ pub fn put_record(records: &mut Vec<(StickKey, Record)>, key: StickKey, found: R
 }
 
 /// Removes the record of a key.
-pub fn remove_record(records: &mut Vec<(StickKey, Record)>, key: &StickKey)
+pub(crate) fn remove_record(records: &mut Vec<(StickKey, Record)>, key: &StickKey)
     ensures { records.new.items ≡ filter (λ entry. not (same_key key.now entry.0)) records.old.items }
 {
     records.retain(|entry| !is_same(key, &entry.0));
@@ -163,7 +171,12 @@ fn position_of(records: &[(StickKey, Record)], key: &StickKey) -> usize
 }
 
 /// Refreshes the record of a key.
-pub fn touch(records: &mut [(StickKey, Record)], key: &StickKey, stamp: u64, date: Option<u64>)
+pub(crate) fn touch(
+    records: &mut [(StickKey, Record)],
+    key: &StickKey,
+    stamp: u64,
+    date: Option<u64>,
+)
     ensures { (z : _) → records.new ≡ set_value (same_key key.now) records.old
         (record (unwrap_or (record_at key.now records.old) z) { stamp = stamp; date = date }) }
 {
@@ -176,7 +189,7 @@ pub fn touch(records: &mut [(StickKey, Record)], key: &StickKey, stamp: u64, dat
 }
 
 /// Does an act on the data of a key's record.
-pub fn act_at(
+pub(crate) fn act_at(
     records: &mut [(StickKey, Record)],
     key: &StickKey,
     clock: u64,
@@ -197,7 +210,7 @@ pub fn act_at(
 }
 
 /// Equal records with equal keys.
-pub fn copy_records(
+pub(crate) fn copy_records(
     alloc: Global,
     records: &[(StickKey, Record)],
 ) -> Result<Vec<(StickKey, Record)>, NoMemory>

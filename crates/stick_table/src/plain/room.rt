@@ -109,7 +109,7 @@ fn make_room(
 }
 
 /// Stores a record, if there is room for it.
-pub fn store(
+pub(crate) fn store(
     records: &mut Vec<(StickKey, Record)>,
     tickets: &[(Ticket, StickKey)],
     spec: &Spec,

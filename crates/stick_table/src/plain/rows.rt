@@ -13,7 +13,7 @@ use stored_data::StoredSet;
 use table_model::{Cell, Filter, Record, Row, Rows, Ticket};
 
 /// What a row shows of a record.
-pub fn make_row(
+pub(crate) fn make_row(
     alloc: Global,
     columns: &StoredSet,
     clock: u64,
@@ -45,7 +45,7 @@ pub fn make_row(
 }
 
 /// The rows of the records that match, once the clock has come to this moment.
-pub fn list_rows(
+pub(crate) fn list_rows(
     alloc: Global,
     columns: &StoredSet,
     records: &[(StickKey, Record)],

@@ -10,7 +10,7 @@ use stick_key::StickKey;
 use table_model::Ticket;
 
 /// How many tickets of the key are out.
-pub fn count_refs(tickets: &[(Ticket, StickKey)], key: &StickKey) -> usize
+pub(crate) fn count_refs(tickets: &[(Ticket, StickKey)], key: &StickKey) -> usize
     ensures count { result ≡ refs_of key.now tickets.now }
     ensures within { result ≤ length tickets.now }
 {
@@ -24,14 +24,17 @@ pub fn count_refs(tickets: &[(Ticket, StickKey)], key: &StickKey) -> usize
 }
 
 /// Whether a ticket of the key is out.
-pub fn is_tracked(tickets: &[(Ticket, StickKey)], key: &StickKey) -> bool
+pub(crate) fn is_tracked(tickets: &[(Ticket, StickKey)], key: &StickKey) -> bool
     ensures { result ≡ is_key_tracked key.now tickets.now }
 {
     count_refs(tickets, key) > 0
 }
 
 /// The key of a ticket that is out.
-pub fn find_key<'a>(tickets: &'a [(Ticket, StickKey)], ticket: Ticket) -> Option<&'a StickKey>
+pub(crate) fn find_key<'a>(
+    tickets: &'a [(Ticket, StickKey)],
+    ticket: Ticket,
+) -> Option<&'a StickKey>
     ensures { option_copied result ≡ key_of ticket tickets.now }
 {
     for held in tickets {
@@ -49,7 +52,7 @@ fn is_same_ticket(a: Ticket, b: Ticket) -> bool
 }
 
 /// Gives a ticket back.
-pub fn remove_ticket(tickets: &mut Vec<(Ticket, StickKey)>, ticket: Ticket)
+pub(crate) fn remove_ticket(tickets: &mut Vec<(Ticket, StickKey)>, ticket: Ticket)
     ensures items { tickets.new.items ≡ filter (λ held. not (same_ticket ticket held.0)) tickets.old.items }
     ensures fewer { key_of ticket tickets.old.items ≢ None → vec_len tickets.new + 1 ≤ vec_len tickets.old }
 {
@@ -68,7 +71,7 @@ fn is_free(tickets: &[(Ticket, StickKey)], slot: u32) -> bool
 }
 
 /// A slot that no ticket has.
-pub fn free_slot(tickets: &[(Ticket, StickKey)], max_refs: u32) -> Option<u32>
+pub(crate) fn free_slot(tickets: &[(Ticket, StickKey)], max_refs: u32) -> Option<u32>
     ensures { MatchOption result (max_refs ≤ length tickets.now)
         (λ slot. (length tickets.now < max_refs) × (slot < max_refs) × (is_slot_free slot tickets.now ≡ true)) }
 {
@@ -84,7 +87,7 @@ pub fn free_slot(tickets: &[(Ticket, StickKey)], max_refs: u32) -> Option<u32>
 }
 
 /// Adds a ticket, for which there is room.
-pub fn push_ticket(tickets: &mut Vec<(Ticket, StickKey)>, ticket: Ticket, key: StickKey)
+pub(crate) fn push_ticket(tickets: &mut Vec<(Ticket, StickKey)>, ticket: Ticket, key: StickKey)
     requires { vec_len tickets.old < vec_capacity tickets.old }
     ensures items { tickets.new.items ≡ tickets.old.items ++ (ticket, key) ∷ [] }
     ensures len { vec_len tickets.new ≡ vec_len tickets.old + 1 }
@@ -93,7 +96,7 @@ pub fn push_ticket(tickets: &mut Vec<(Ticket, StickKey)>, ticket: Ticket, key: S
 }
 
 /// Equal tickets with equal keys.
-pub fn copy_tickets(
+pub(crate) fn copy_tickets(
     alloc: Global,
     tickets: &[(Ticket, StickKey)],
 ) -> Result<Vec<(Ticket, StickKey)>, NoMemory>

@@ -1,0 +1,218 @@
+//! Random events on many tables.
+ghost use Rattle.std.specs.Prelude.{◌≤◌, ◌<◌, ◌^◌, IfSome};
+ghost use Rattle.stored_data.specs.Data.{is_rate};
+ghost use Rattle.stored_data.specs.Stored.{IsPeriod};
+
+use crate::draws;
+use crate::random::Random;
+use crate::reckoning::{Limits, Reckoning};
+use std::alloc::{AllocError, Global};
+use std::test::Fail;
+use stick_key::KeyType;
+use stick_table::{Event, PlainTable, Spec, Table};
+use stored_data::{Column, Datum, StoredSet};
+
+/// Adds a column that isn't there.
+fn add(columns: &mut StoredSet, datum: Datum, period: u32) -> Result<(), AllocError>
+    requires { IsPeriod (is_rate datum) period }
+{
+    if columns.holds(datum) {
+        return Ok(());
+    }
+    columns.add(Column { datum, period })
+}
+
+/// The data that each table stores.
+fn columns(alloc: Global, period: u32) -> Result<StoredSet, AllocError>
+    requires { (1 ≤ period) × (period < 2 ^ 31) }
+{
+    let mut columns = StoredSet::new(alloc);
+    add(&mut columns, Datum::ConnCur, 0)?;
+    add(&mut columns, Datum::ConnRate, period)?;
+    add(&mut columns, Datum::ConnCnt, 0)?;
+    add(&mut columns, Datum::Gpc0, 0)?;
+    Ok(columns)
+}
+
+/// The limits of a table: 1 to 8 entries.
+fn limits(random: &mut Random) -> Limits
+    ensures size { (1 ≤ result.size) × (result.size ≤ 8) }
+    ensures expire { IfSome result.expire (λ ms. (1 ≤ ms) × (ms ≤ 40)) }
+    ensures max_refs { (1 ≤ result.max_refs) × (result.max_refs ≤ 10) }
+    ensures life { result.life ≤ 2 ^ 62 }
+    ensures period { (1 ≤ result.period) × (result.period ≤ 20) }
+{
+    let expire = match random.below(4) {
+        0 => None,
+        _ => Some(random.below(40) + 1),
+    };
+    let life = match random.below(5) {
+        0 => u64::from(random.below(130)),
+        _ => 1 << 62,
+    };
+    Limits {
+        size: random.below(8) + 1,
+        expire,
+        nopurge: random.below(3) == 0,
+        max_refs: random.below(10) + 1,
+        life,
+        period: random.below(20) + 1,
+    }
+}
+
+fn open(alloc: Global, limits: Limits) -> Result<PlainTable, AllocError>
+    requires size { (1 ≤ limits.size) × (limits.size ≤ 8) }
+    requires expire { IfSome limits.expire (λ ms. (1 ≤ ms) × (ms ≤ 40)) }
+    requires max_refs { (1 ≤ limits.max_refs) × (limits.max_refs ≤ 10) }
+    requires life { limits.life ≤ 2 ^ 62 }
+    requires period { (1 ≤ limits.period) × (limits.period ≤ 20) }
+{
+    let columns = columns(alloc, limits.period)?;
+    PlainTable::open(
+        alloc,
+        Spec {
+            kind: KeyType::Integer,
+            size: limits.size,
+            expire: limits.expire,
+            nopurge: limits.nopurge,
+            columns,
+            max_refs: limits.max_refs,
+            life: limits.life,
+            seed: 0,
+        },
+    )
+}
+
+/// A table, what it is reckoned to be, and the events drawn for it.
+#[derive(Drop)]
+struct Trial {
+    alloc: Global,
+    random: Random,
+    table: PlainTable,
+    plain: Reckoning,
+}
+
+impl Trial {
+    fn new(alloc: Global, seed: u64) -> Result<Trial, AllocError> {
+        let mut random = Random::new(seed);
+        let limits = limits(&mut random);
+        Ok(Trial {
+            alloc,
+            random,
+            table: open(alloc, limits)?,
+            plain: Reckoning::new(alloc, limits),
+        })
+    }
+
+    fn get(&mut self) -> Result<bool, AllocError> {
+        let now = draws::moment(&mut self.random, &self.plain);
+        let number = draws::key(&mut self.random, self.plain.limits);
+        let key = draws::key_of(self.alloc, number)?;
+        let answer = self.table.step(&Event::Get(now, key));
+        Ok(self.plain.is_get(now, number, &answer))
+    }
+
+    fn track(&mut self) -> Result<bool, AllocError> {
+        let now = draws::moment(&mut self.random, &self.plain);
+        let number = draws::key(&mut self.random, self.plain.limits);
+        let key = draws::key_of(self.alloc, number)?;
+        let answer = self.table.step(&Event::Track(now, key));
+        self.plain.is_track(now, number, &answer)
+    }
+
+    fn look(&mut self) -> bool {
+        let now = draws::moment(&mut self.random, &self.plain);
+        let ticket = draws::ticket(&mut self.random, &self.plain);
+        let answer = self.table.step(&Event::Look(now, ticket));
+        self.plain.is_look(now, ticket, &answer)
+    }
+
+    fn count(&mut self) -> Result<bool, AllocError> {
+        let now = draws::moment(&mut self.random, &self.plain);
+        let ticket = draws::ticket(&mut self.random, &self.plain);
+        let act = draws::act(&mut self.random);
+        let answer = self.table.step(&Event::Count(now, ticket, act));
+        self.plain.is_count(now, ticket, act, &answer)
+    }
+
+    fn release(&mut self) -> Result<bool, AllocError> {
+        let now = draws::moment(&mut self.random, &self.plain);
+        let ticket = draws::ticket(&mut self.random, &self.plain);
+        let answer = self.table.step(&Event::Release(now, ticket));
+        self.plain.is_release(now, ticket, &answer)
+    }
+
+    fn put(&mut self) -> Result<bool, AllocError> {
+        let now = draws::moment(&mut self.random, &self.plain);
+        let number = draws::key(&mut self.random, self.plain.limits);
+        let key = draws::key_of(self.alloc, number)?;
+        let pairs = draws::pairs(self.alloc, &mut self.random)?;
+        let again = pairs.copy()?;
+        let answer = self.table.step(&Event::Put(now, key, pairs));
+        self.plain.is_put(now, number, again.as_slice(), &answer)
+    }
+
+    fn clear(&mut self) -> Result<bool, AllocError> {
+        let now = draws::moment(&mut self.random, &self.plain);
+        let number = draws::key(&mut self.random, self.plain.limits);
+        let key = draws::key_of(self.alloc, number)?;
+        let answer = self.table.step(&Event::Clear(now, key));
+        Ok(self.plain.is_clear(now, number, &answer))
+    }
+
+    fn clear_where(&mut self) -> Result<bool, AllocError> {
+        let now = draws::moment(&mut self.random, &self.plain);
+        let filter = draws::filter(self.alloc, &mut self.random, self.plain.limits)?;
+        let again = filter.copy()?;
+        let answer = self.table.step(&Event::ClearWhere(now, filter));
+        Ok(self.plain.is_clear_where(now, &again, &answer))
+    }
+
+    fn list(&mut self) -> Result<bool, AllocError> {
+        let now = draws::moment(&mut self.random, &self.plain);
+        let filter = draws::filter(self.alloc, &mut self.random, self.plain.limits)?;
+        let again = filter.copy()?;
+        let answer = self.table.step(&Event::List(now, filter));
+        Ok(self.plain.is_list(now, &again, &answer))
+    }
+
+    fn expire(&mut self) -> bool {
+        let now = draws::moment(&mut self.random, &self.plain);
+        let answer = self.table.step(&Event::Expire(now));
+        self.plain.is_expire(now, &answer)
+    }
+
+    /// Whether the table has counted as many events and has as many references out as reckoned.
+    fn has_counted(&self) -> bool {
+        self.table.events() == self.plain.events
+            && self.table.tickets().len() == self.plain.held.len()
+    }
+
+    /// One event; answers whether the table answers as reckoned.
+    fn event(&mut self) -> Result<bool, AllocError> {
+        match self.random.below(20) {
+            0 => self.get(),
+            1..=5 => self.track(),
+            6..=7 => Ok(self.look()),
+            8..=10 => self.count(),
+            11..=12 => self.release(),
+            13..=15 => self.put(),
+            16 => self.clear(),
+            17 => self.clear_where(),
+            18 => self.list(),
+            _ => Ok(self.expire()),
+        }
+    }
+}
+
+#[test]
+fn a_plain_table_answers_as_reckoned(rt: HostRuntime) -> Result<(), Fail> {
+    for seed in 0..2_000u64 {
+        let mut trial = Trial::new(rt.alloc(), seed)?;
+        for event in 0..100usize {
+            assert!(rt; trial.event()?, "table {seed}, event {event}");
+            assert!(rt; trial.has_counted(), "table {seed}, event {event}");
+        }
+    }
+    Ok(())
+}
