@@ -7,9 +7,6 @@ ghost use Rattle.std.specs.List.{Contains};
 ghost use Rattle.expiry_order.specs.Queue.{IsQueue, queue, slot_after, without};
 ghost use Rattle.expiry_order.specs.Links.{with_next, with_previous, slot_or_none};
 
-#[cfg(test)]
-mod tests;
-
 use sequence::NoMemory;
 use std::alloc::Global;
 use std::marker::Model;

@@ -7,9 +7,6 @@ ghost use Rattle.std.specs.Prelude.{◌⊎◌, List, eqb, vec_len, get_or};
 ghost use Rattle.std.specs.List.{IsDistinct};
 ghost use Rattle.key_index.specs.Chains.{hash_of, bucket_of, IsAmong, IsChain, NamesNext, heads_with_next, nodes_with_next};
 
-#[cfg(test)]
-mod tests;
-
 use core::hash::keyed_hasher;
 use sequence::NoMemory;
 pub use slot_handle::Handle;
@@ -191,6 +188,7 @@ impl Index {
         requires { IsSome (entry_at self.old slot) }
         ensures key { HasKey self.old slot result }
         ensures removed { self.new ≡ without_slot self.old slot }
+        ensures absent { IsAbsent self.new result }
     {
         let (bucket, next) = match &self.nodes[slot as usize] {
             Some(node) => (bucket(self.seed, self.heads.len(), &node.key), node.next),

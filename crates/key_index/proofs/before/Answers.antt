@@ -1,6 +1,7 @@
 use Rattle.std.proofs.Common.{◌<◌, inl, inr, refl, ap, subst, ◌∙◌, length, arith}
 use Rattle.key_index.specs.Chains.{steps_left}
-use Rattle.key_index.proofs.ChainLemmas.{Approaches, stands, node_within, read_node, same_node}
+use Rattle.key_index.proofs.SearchLemmas.{Approaches, stands}
+use Rattle.key_index.proofs.NodeLemmas.{node_within, read_node, same_node}
 use Rattle.key_index.proofs.before.Goals as goal
 
 pub loop-at-init : goal.loop-at-init

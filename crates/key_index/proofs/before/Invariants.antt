@@ -1,7 +1,7 @@
 use Rattle.std.proofs.Common.{◌≡◌, ◌⊎◌, length}
 use Rattle.key_index.specs.Chains.{NamesNext, steps_left}
 use Rattle.key_index.specs.declared.TheConstants.{NONE}
-use Rattle.key_index.proofs.ChainLemmas.{Approaches}
+use Rattle.key_index.proofs.SearchLemmas.{Approaches}
 use Rattle.key_index.proofs.before.Given as goal
 
 abbrev pub invariant-loop-at : goal.invariant-loop-at

@@ -3,7 +3,8 @@ use Rattle.std.proofs.Math.ListN.{get_or-map}
 use Rattle.key_index.specs.Keys.{Entry, entry}
 use Rattle.key_index.specs.Chains.{entry_in}
 use Rattle.key_index.specs.declared.Node.{Node}
-use Rattle.key_index.proofs.ChainLemmas.{Seeks, seeks_end, seeks_node, seeks_on, node_within, read_node, same_node, has_entry, distinct_keys}
+use Rattle.key_index.proofs.SearchLemmas.{Seeks, seeks_end, seeks_node, seeks_on}
+use Rattle.key_index.proofs.NodeLemmas.{node_within, read_node, same_node, has_entry, distinct_keys}
 use Rattle.key_index.proofs.Index.get.Goals as goal
 
 pub index-requires : goal.index-requires

@@ -1,6 +1,6 @@
 use Rattle.std.proofs.Common.{length}
 use Rattle.key_index.specs.Chains.{steps_left}
-use Rattle.key_index.proofs.ChainLemmas.{Seeks}
+use Rattle.key_index.proofs.SearchLemmas.{Seeks}
 use Rattle.key_index.proofs.Index.get.Given as goal
 
 abbrev pub invariant-loop-slot : goal.invariant-loop-slot

@@ -5,7 +5,8 @@ use Rattle.key_index.specs.Keys.{entry, keys}
 use Rattle.key_index.specs.Chains.{entry_in, bucket_of}
 use Rattle.key_index.specs.declared.TheConstants.{NONE}
 use Rattle.key_index.specs.declared.Node.{Node}
-use Rattle.key_index.proofs.ChainLemmas.{sound-with, no_entry, head_read}
+use Rattle.key_index.proofs.SoundLemmas.{sound-with}
+use Rattle.key_index.proofs.NodeLemmas.{no_entry, head_read}
 use Rattle.key_index.proofs.Index.insert.Goals as goal
 
 pub invariant_of-self : goal.invariant_of-self

@@ -1,5 +1,6 @@
 use Rattle.std.proofs.Common.{◌≡◌, refl, arith}
-use Rattle.key_index.proofs.ChainLemmas.{sound-new, no_entries}
+use Rattle.key_index.proofs.SoundLemmas.{sound-new}
+use Rattle.key_index.proofs.NodeLemmas.{no_entries}
 use Rattle.key_index.proofs.Index.new.Goals as goal
 
 pub invariant_of-result : goal.invariant_of-result

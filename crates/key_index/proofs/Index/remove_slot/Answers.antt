@@ -1,11 +1,12 @@
-use Rattle.std.proofs.Common.{◌≡◌, ◌<◌, ◌⊎◌, length, set, Some, None, get_or, map, sym, ap, ◌∙◌, arith}
+use Rattle.std.proofs.Common.{subst, ◌≡◌, ◌<◌, ◌⊎◌, length, set, Some, None, get_or, map, sym, ap, ◌∙◌, arith}
 use Rattle.std.proofs.Math.ListN.{get_or-map}
 use Rattle.std.proofs.lemmas.List.{map-set, length-map}
-use Rattle.key_index.specs.Keys.{entry, keys}
+use Rattle.key_index.specs.Keys.{entry, keys, HasDistinctKeys, IsAbsent}
 use Rattle.key_index.specs.Chains.{entry_in, bucket_of, HasNode, NamesNext, nodes_with_next}
 use Rattle.key_index.specs.declared.TheConstants.{NONE}
 use Rattle.key_index.specs.declared.Node.{Node}
-use Rattle.key_index.proofs.ChainLemmas.{some_within, read_node, node_within, head_read, unlinked}
+use Rattle.key_index.proofs.NodeLemmas.{some_within, read_node, node_within, head_read, distinct_keys, absent_without}
+use Rattle.key_index.proofs.UnlinkLemmas.{unlinked}
 use Rattle.key_index.proofs.Index.remove_slot.Goals as goal
 
 pub before-before-requires-clause-chained : goal.before-before-requires-clause-chained
@@ -97,3 +98,10 @@ returns-clause-removed c =
     let u = unlinked nodes heads i.seed slot bucket c.before-before.result node c.self.invariant has inside home way in
     rw (← c.self.view_is, c.replace.ensures.after, c.set_next.ensures.nodes)
     (ap keys (map-set entry_in (nodes_with_next nodes c.before-before.result node.next) slot None ∙ ap (λ l. set l slot None) u.shows))
+
+pub returns-clause-absent : goal.returns-clause-absent
+returns-clause-absent c =
+    let i = c.self.inside in
+    let distinct = subst HasDistinctKeys c.self.view_is (distinct_keys i.nodes.items i.heads.items i.seed c.self.invariant) in
+    let absent = absent_without c.args.self.now c.args.slot c.in-Some-replace.field-0.key distinct (returns-clause-key c) in
+    subst (λ k. IsAbsent k c.in-Some-replace.field-0.key) (sym (returns-clause-removed c)) absent
