@@ -11,13 +11,18 @@ pub data Choice : Type 0 where
   OneKey : List ℕ → Choice
   Compare : List ℕ → Op → List ℕ → Choice
 
--- show table T .., clear table T .., set table T key K and pairs of words; no words; or no form of these
+-- what is asked of a table: its entries, that entries go, or that a key's entry gets these pairs of words
+pub data Request : Type 0 where
+  Show : Choice → Request
+  Clear : Choice → Request
+  Set : List ℕ → List (List ℕ) → Request
+
+-- no words; none of the forms; show table; or one that asks something of the table of a name
 pub data Form : Type 0 where
   Nothing : Form
   Unknown : Form
-  Show : List ℕ → Choice → Form
-  Clear : List ℕ → Choice → Form
-  Set : List ℕ → List ℕ → List (List ℕ) → Form
+  Tables : Form
+  Of : List ℕ → Request → Form
 
 -- the name behind data.
 abbrev pub datum_name : List ℕ → Option (List ℕ)
@@ -53,18 +58,19 @@ are_pairs [] = true
 are_pairs (word ∷ []) = false
 are_pairs (word ∷ value ∷ rest) = is_some (datum_name word) && are_pairs rest
 
--- T, and which of its entries
+-- nothing, or T, and which of its entries
 abbrev pub show_of : List (List ℕ) → Form
-show_of [] = Unknown
-show_of (name ∷ rest) = option_map_or (Show name) (choice_of rest) Unknown
+show_of [] = Tables
+show_of (name ∷ rest) = option_map_or (λ choice. Of name (Show choice)) (choice_of rest) Unknown
 
+-- T, and which of its entries
 abbrev pub clear_of : List (List ℕ) → Form
 clear_of [] = Unknown
-clear_of (name ∷ rest) = option_map_or (Clear name) (choice_of rest) Unknown
+clear_of (name ∷ rest) = option_map_or (λ choice. Of name (Clear choice)) (choice_of rest) Unknown
 
 -- T key K, and pairs
 abbrev pub set_of : List (List ℕ) → Form
-set_of (name ∷ word ∷ key ∷ rest) = if bytes_eq word (codes "key") && are_pairs rest then Set name key rest else Unknown
+set_of (name ∷ word ∷ key ∷ rest) = if bytes_eq word (codes "key") && are_pairs rest then Of name (Set key rest) else Unknown
 set_of (name ∷ word ∷ []) = Unknown
 set_of (name ∷ []) = Unknown
 set_of [] = Unknown

@@ -1,13 +1,11 @@
 -- What a form asks of a table, once its key, its data and its numbers are read.
 use Rattle.std.specs.Prelude.{◌≡◌, ◌⊎◌, ℕ, nat_le, Option, Some, None, Result, Ok, Err, List, [], ◌∷◌, unwrap_or, if◌then◌else◌}
-use Rattle.std.specs.List.{find}
-use Rattle.std.specs.Str.{bytes_eq}
 use Rattle.line_text.specs.Number.{number_of}
 use Rattle.stick_key.specs.KeyText.{Reads, IsMalformed, IsOutOfRange, TakesMemory}
 use Rattle.stick_key.specs.declared.kind.KeyType.{KeyType}
-use Rattle.stored_data.specs.Data.{name, greatest}
+use Rattle.stored_data.specs.Data.{greatest}
+use Rattle.stored_data.specs.Names.{datum_of}
 use Rattle.stored_data.specs.declared.datum.Datum.{Datum}
-use Rattle.stored_data.specs.declared.datum.Datum.TheVariants.{Gpt0, Gpc0, Gpc0Rate, ConnCnt, ConnRate, ConnCur, SessCnt, SessRate, BytesInCnt, BytesInRate, BytesOutCnt, BytesOutRate, Gpc1, Gpc1Rate}
 use Rattle.table_model.specs.Key.{Key}
 use Rattle.table_model.specs.declared.rows.Cell.{Cell}
 use Rattle.table_model.specs.declared.filters.Op.{Op}
@@ -16,9 +14,9 @@ use Rattle.table_model.specs.declared.filters.Filter.TheVariants as filters
 use Rattle.table_model.specs.declared.events.Event.{Event}
 use Rattle.table_model.specs.declared.events.Event.TheVariants.{Put, ClearWhere, List as ListRows}
 use Rattle.table_model.specs.declared.events.Event.TheVariants as events
-use Rattle.command_text.specs.Form.{Form, Choice, Everything, OneKey, Compare, Nothing, Unknown, Show, Clear, Set, datum_name}
+use Rattle.command_text.specs.Form.{Choice, Everything, OneKey, Compare, Request, Show, Clear, Set, datum_name}
 use Rattle.command_text.specs.declared.message.Message.{Message}
-use Rattle.command_text.specs.declared.message.Message.TheVariants.{UnknownCommand, InvalidKey, NotStored, InvalidValue, OutOfMemory}
+use Rattle.command_text.specs.declared.message.Message.TheVariants.{InvalidKey, NotStored, InvalidValue, OutOfMemory}
 
 -- ---- what reading a part comes to: a value, or the message of what is wrong
 
@@ -28,13 +26,6 @@ ReadsKey kind text (Ok key) = Reads kind text key
 ReadsKey kind text (Err InvalidKey) = IsMalformed kind text ⊎ IsOutOfRange kind text
 ReadsKey kind text (Err OutOfMemory) = TakesMemory kind text
 ReadsKey kind text (Err _) = ⊥
-
-abbrev pub all_data : List Datum
-all_data = Gpt0 ∷ Gpc0 ∷ Gpc0Rate ∷ ConnCnt ∷ ConnRate ∷ ConnCur ∷ SessCnt ∷ SessRate ∷ BytesInCnt ∷ BytesInRate ∷ BytesOutCnt ∷ BytesOutRate ∷ Gpc1 ∷ Gpc1Rate ∷ []
-
--- the datum of a name
-abbrev pub datum_of : List ℕ → Option Datum
-datum_of text = find (λ datum. bytes_eq (name datum) text) all_data
 
 -- data.X OP V: first the name, then the number
 abbrev pub compared : Option Datum → Op → Option ℕ → Result Filter Message
@@ -65,19 +56,17 @@ cells_of [] = Ok []
 cells_of (word ∷ []) = Ok []
 cells_of (word ∷ value ∷ rest) = with_cell (cell_of (datum_of (unwrap_or (datum_name word) [])) (number_of value)) (cells_of rest)
 
--- T key K and pairs: the key first, then pair by pair
+-- key K and pairs: the key first, then pair by pair
 abbrev pub ReadsPut : KeyType → ℕ → List ℕ → List (List ℕ) → Result Event Message → Type 0
 ReadsPut kind moment text pairs (Ok event) = (key : Key) × (cells : List Cell) × ReadsKey kind text (Ok key) × (cells_of pairs ≡ Ok cells) × (event ≡ Put moment key cells)
 ReadsPut kind moment text pairs (Err message) = ReadsKey kind text (Err message) ⊎ ((key : Key) × ReadsKey kind text (Ok key) × ((cells_of pairs ≡ Err message) ⊎ (message ≡ OutOfMemory)))
 
--- the event that a form makes of a table of this kind of key, at a moment in ms
-abbrev pub Asks : KeyType → ℕ → Form → Result Event Message → Type 0
-Asks kind moment Nothing asked = ⊥
-Asks kind moment Unknown asked = asked ≡ Err UnknownCommand
-Asks kind moment (Show table choice) (Ok event) = (filter : Filter) × ReadsFilter kind choice (Ok filter) × (event ≡ ListRows moment filter)
-Asks kind moment (Show table choice) (Err message) = ReadsFilter kind choice (Err message)
-Asks kind moment (Clear table (OneKey text)) (Ok event) = (key : Key) × ReadsKey kind text (Ok key) × (event ≡ events.Clear moment key)
-Asks kind moment (Clear table (OneKey text)) (Err message) = ReadsKey kind text (Err message)
-Asks kind moment (Clear table choice) (Ok event) = (filter : Filter) × ReadsFilter kind choice (Ok filter) × (event ≡ ClearWhere moment filter)
-Asks kind moment (Clear table choice) (Err message) = ReadsFilter kind choice (Err message)
-Asks kind moment (Set table text pairs) asked = ReadsPut kind moment text pairs asked
+-- the event that a request makes of a table of this kind of key, at a moment in ms
+abbrev pub Asks : KeyType → ℕ → Request → Result Event Message → Type 0
+Asks kind moment (Show choice) (Ok event) = (filter : Filter) × ReadsFilter kind choice (Ok filter) × (event ≡ ListRows moment filter)
+Asks kind moment (Show choice) (Err message) = ReadsFilter kind choice (Err message)
+Asks kind moment (Clear (OneKey text)) (Ok event) = (key : Key) × ReadsKey kind text (Ok key) × (event ≡ events.Clear moment key)
+Asks kind moment (Clear (OneKey text)) (Err message) = ReadsKey kind text (Err message)
+Asks kind moment (Clear choice) (Ok event) = (filter : Filter) × ReadsFilter kind choice (Ok filter) × (event ≡ ClearWhere moment filter)
+Asks kind moment (Clear choice) (Err message) = ReadsFilter kind choice (Err message)
+Asks kind moment (Set text pairs) asked = ReadsPut kind moment text pairs asked

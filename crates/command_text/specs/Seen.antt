@@ -6,7 +6,9 @@ use Rattle.command_text.specs.Form as spec
 use Rattle.command_text.specs.declared.form.Choice.{Choice}
 use Rattle.command_text.specs.declared.form.Choice.TheVariants.{Everything, Key, Compare}
 use Rattle.command_text.specs.declared.form.Form.{Form}
-use Rattle.command_text.specs.declared.form.Form.TheVariants.{Nothing, Unknown, Show, Clear, Set}
+use Rattle.command_text.specs.declared.form.Form.TheVariants.{Nothing, Unknown, Tables, Of}
+use Rattle.command_text.specs.declared.form.Request.{Request}
+use Rattle.command_text.specs.declared.form.Request.TheVariants.{Show, Clear, Set}
 
 -- a command's words
 abbrev pub words_of : List ℕ → List (List ℕ)
@@ -17,9 +19,13 @@ seen_choice Everything = spec.Everything
 seen_choice (Key text) = spec.OneKey text.now
 seen_choice (Compare name op value) = spec.Compare name.now op value.now
 
+abbrev pub seen_request : Request → spec.Request
+seen_request (Show choice) = spec.Show (seen_choice choice)
+seen_request (Clear choice) = spec.Clear (seen_choice choice)
+seen_request (Set key pairs) = spec.Set key.now (words_of pairs.now)
+
 abbrev pub seen : Form → spec.Form
 seen Nothing = spec.Nothing
 seen Unknown = spec.Unknown
-seen (Show name choice) = spec.Show name.now (seen_choice choice)
-seen (Clear name choice) = spec.Clear name.now (seen_choice choice)
-seen (Set name key pairs) = spec.Set name.now key.now (words_of pairs.now)
+seen Tables = spec.Tables
+seen (Of name request) = spec.Of name.now (seen_request request)

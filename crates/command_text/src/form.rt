@@ -18,17 +18,26 @@ pub enum Choice<'a> {
     Compare(&'a [u8], Op, &'a [u8]),
 }
 
-/// What a command asks, in the words that it was given.
+/// What a command asks of a table, in the words that it was given.
+#[derive(Clone, Copy)]
+pub enum Request<'a> {
+    Show(Choice<'a>),
+    Clear(Choice<'a>),
+    /// A key, and the pairs of a datum and a value.
+    Set(&'a [u8], &'a [u8]),
+}
+
+/// What form a command has.
 #[derive(Clone, Copy)]
 pub enum Form<'a> {
     /// It has no words.
     Nothing,
     /// It has no form of a command.
     Unknown,
-    Show(&'a [u8], Choice<'a>),
-    Clear(&'a [u8], Choice<'a>),
-    /// A table, a key, and the pairs of a datum and a value.
-    Set(&'a [u8], &'a [u8], &'a [u8]),
+    /// It asks for the headers of all tables.
+    Tables,
+    /// It asks something of the table of a name.
+    Of(&'a [u8], Request<'a>),
 }
 
 /// The name behind `data.`
@@ -108,10 +117,10 @@ fn read_show(mut rest: Words<'_>) -> Form<'_>
     ensures { seen result ≡ show_of (words_left rest.entry) }
 {
     let Some(name) = rest.next() else {
-        return Form::Unknown;
+        return Form::Tables;
     };
     match read_choice(rest) {
-        Some(choice) => Form::Show(name, choice),
+        Some(choice) => Form::Of(name, Request::Show(choice)),
         None => Form::Unknown,
     }
 }
@@ -123,7 +132,7 @@ fn read_clear(mut rest: Words<'_>) -> Form<'_>
         return Form::Unknown;
     };
     match read_choice(rest) {
-        Some(choice) => Form::Clear(name, choice),
+        Some(choice) => Form::Of(name, Request::Clear(choice)),
         None => Form::Unknown,
     }
 }
@@ -156,7 +165,7 @@ fn read_set(mut rest: Words<'_>) -> Form<'_>
     };
     let pairs = rest.rest();
     if word == b"key".as_slice() && are_pairs(pairs) {
-        return Form::Set(name, key, pairs);
+        return Form::Of(name, Request::Set(key, pairs));
     }
     Form::Unknown
 }

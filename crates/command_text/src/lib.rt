@@ -8,6 +8,6 @@ mod message;
 mod request;
 
 pub use answer_text::Answer;
-pub use form::{Choice, Form, read_form};
+pub use form::{Choice, Form, Request, read_form};
 pub use message::Message;
 pub use request::read_event;

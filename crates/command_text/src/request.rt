@@ -1,21 +1,22 @@
 //! What a form asks of a table.
 
-ghost use Rattle.std.specs.Prelude.{◌≡◌, ◌≢◌, ◌⊎◌, ◌<◌, ◌≤◌, ◌^◌, ℕ, List, [], All, IfOk, MatchResult, unwrap_or};
+ghost use Rattle.std.specs.Prelude.{◌≡◌, ◌⊎◌, ◌<◌, ◌≤◌, ◌^◌, ℕ, List, [], All, IfOk, MatchResult, unwrap_or};
 ghost use Rattle.stored_data.specs.Data.{greatest};
+ghost use Rattle.stored_data.specs.Names.{datum_of};
 ghost use Rattle.table_model.specs.declared.rows.Cell.{Cell};
 ghost use Rattle.table_model.specs.Limits.{IsTableEvent};
 ghost use Rattle.command_text.specs.Form as spec;
 ghost use Rattle.command_text.specs.Form.{datum_name as specified_name};
-ghost use Rattle.command_text.specs.Request.{Asks, ReadsFilter, ReadsKey, ReadsPut, cell_of, cells_of, compared as specified_compared, datum_of};
-ghost use Rattle.command_text.specs.Seen.{seen, seen_choice, words_of};
+ghost use Rattle.command_text.specs.Request.{Asks, ReadsFilter, ReadsKey, ReadsPut, cell_of, cells_of, compared as specified_compared};
+ghost use Rattle.command_text.specs.Seen.{seen_choice, seen_request, words_of};
 ghost use Rattle.line_text.specs.Number.{number_of};
 
 use crate::Message;
-use crate::form::{Choice, Form, datum_name};
+use crate::form::{Choice, Request, datum_name};
 use line_text::{Blanks, Words, read_number};
 use std::alloc::Global;
 use stick_key::{KeyFault, KeyType, StickKey, read_key};
-use stored_data::{Datum, in_range, read_datum};
+use stored_data::{in_range, read_datum};
 use table_model::{Cell, Cells, Event, Filter, Op};
 
 /// Reads a key's text.
@@ -30,17 +31,10 @@ fn read_key_text(alloc: Global, kind: KeyType, text: &[u8]) -> Result<StickKey, 
     }
 }
 
-/// The datum of a name.
-fn datum_named(text: &[u8]) -> Option<Datum>
-    ensures { result ≡ datum_of text.now }
-{
-    read_datum(text)
-}
-
 fn compared(name: &[u8], op: Op, value: &[u8]) -> Result<Filter, Message>
     ensures { result ≡ specified_compared (datum_of name.now) op (number_of value.now) }
 {
-    let Some(datum) = datum_named(name) else {
+    let Some(datum) = read_datum(name) else {
         return Err(Message::NotStored);
     };
     let Some(bound) = read_number(value) else {
@@ -72,7 +66,7 @@ fn read_cell(word: &[u8], value: &[u8]) -> Result<Cell, Message>
         Some(name) => name,
         None => b"".as_slice(),
     };
-    let Some(datum) = datum_named(name) else {
+    let Some(datum) = read_datum(name) else {
         return Err(Message::NotStored);
     };
     let Some(value) = read_number(value) else {
@@ -136,7 +130,7 @@ fn read_clear(
     choice: Choice<'_>,
 ) -> Result<Event, Message>
     requires { moment < 2 ^ 62 }
-    ensures clear { (table : List ℕ) → Asks kind moment (spec.Clear table (seen_choice choice.entry)) result }
+    ensures clear { Asks kind moment (spec.Clear (seen_choice choice.entry)) result }
     ensures event { IfOk result IsTableEvent }
 {
     if let Choice::Key(text) = choice {
@@ -151,26 +145,23 @@ fn read_clear(
     }
 }
 
-/// The event that a form makes of a table.
+/// The event that a request makes of a table.
 pub fn read_event(
     alloc: Global,
     kind: KeyType,
     moment: u64,
-    form: Form<'_>,
+    request: Request<'_>,
 ) -> Result<Event, Message>
-    requires words { seen form ≢ spec.Nothing }
-    requires moment { moment < 2 ^ 62 }
-    ensures asks { Asks kind moment (seen form.entry) result }
+    requires { moment < 2 ^ 62 }
+    ensures asks { Asks kind moment (seen_request request.entry) result }
     ensures event { IfOk result IsTableEvent }
 {
-    match form {
-        Form::Nothing => unreachable!(),
-        Form::Unknown => Err(Message::UnknownCommand),
-        Form::Show(_, choice) => match read_filter(alloc, kind, choice) {
+    match request {
+        Request::Show(choice) => match read_filter(alloc, kind, choice) {
             Ok(filter) => Ok(Event::List(moment, filter)),
             Err(message) => Err(message),
         },
-        Form::Clear(_, choice) => read_clear(alloc, kind, moment, choice),
-        Form::Set(_, key, pairs) => read_put(alloc, kind, moment, key, pairs),
+        Request::Clear(choice) => read_clear(alloc, kind, moment, choice),
+        Request::Set(key, pairs) => read_put(alloc, kind, moment, key, pairs),
     }
 }

@@ -39,9 +39,9 @@ module _ {S : Type 0} (says : S → Option (List ℕ) → List ℕ → S → Typ
   }
 
   -- the answer to the line that is held stops
-  pub stops_within : (stops : S → Option (List ℕ) → List ℕ → Type 0) (old now : S) (whole : List ℕ) (later : List (List ℕ)) (line : Option (List ℕ)) (count : ℕ) (output front : List ℕ)
-      → Progress says old whole later line count output now → stops now line front → StopsAfter says stops old whole count (output ++ front)
-  stops_within stops old now whole later line count output front p here = record {
+  pub stops_within : (stops : S → Option (List ℕ) → List ℕ → S → Type 0) (old now new : S) (whole : List ℕ) (later : List (List ℕ)) (line : Option (List ℕ)) (count : ℕ) (output front : List ℕ)
+      → Progress says old whole later line count output now → stops now line front new → StopsAfter says stops old whole count (output ++ front) new
+  stops_within stops old now new whole later line count output front p here = record {
     done = p.done;
     next = p.next;
     later = later;
@@ -51,13 +51,13 @@ module _ {S : Type 0} (says : S → Option (List ℕ) → List ℕ → S → Typ
     between = now;
     served = p.served;
     front = front;
-    stopped = inr (subst (λ l. stops now l front) p.held_is here);
+    stopped = inr (subst (λ l. stops now l front new) p.held_is here);
     output_is = refl;
   }
 
   -- nothing of it was written
-  pub stops_before : (stops : S → Option (List ℕ) → List ℕ → Type 0) (old now : S) (whole : List ℕ) (later : List (List ℕ)) (line : Option (List ℕ)) (count : ℕ) (output : List ℕ)
-      → Progress says old whole later line count output now → StopsAfter says stops old whole count output
+  pub stops_before : (stops : S → Option (List ℕ) → List ℕ → S → Type 0) (old now : S) (whole : List ℕ) (later : List (List ℕ)) (line : Option (List ℕ)) (count : ℕ) (output : List ℕ)
+      → Progress says old whole later line count output now → StopsAfter says stops old whole count output now
   stops_before stops old now whole later line count output p = record {
     done = p.done;
     next = p.next;
@@ -68,7 +68,7 @@ module _ {S : Type 0} (says : S → Option (List ℕ) → List ℕ → S → Typ
     between = now;
     served = p.served;
     front = [];
-    stopped = inl refl;
+    stopped = inl (refl, refl);
     output_is = sym (append-nil output);
   }
 
@@ -95,7 +95,7 @@ module _ {S : Type 0} (says : S → Option (List ℕ) → List ℕ → S → Typ
       → Progress says old whole later line count output now → Progress says old whole [] line count output now
   progress_last old now whole later line count output none p = subst (λ ls. Progress says old whole ls line count output now) none p
 
-  pub stops_along : (stops : S → Option (List ℕ) → List ℕ → Type 0) (old : S) (whole : List ℕ) (count count' : ℕ) (output output' : List ℕ) → count ≡ count' → output ≡ output'
-      → StopsAfter says stops old whole count output → StopsAfter says stops old whole count' output'
-  stops_along stops old whole count count' output output' c o stop =
-      subst (λ t. StopsAfter says stops old whole count' t) o (subst (λ n. StopsAfter says stops old whole n output) c stop)
+  pub stops_along : (stops : S → Option (List ℕ) → List ℕ → S → Type 0) (old now : S) (whole : List ℕ) (count count' : ℕ) (output output' : List ℕ) → count ≡ count' → output ≡ output'
+      → StopsAfter says stops old whole count output now → StopsAfter says stops old whole count' output' now
+  stops_along stops old now whole count count' output output' c o stop =
+      subst (λ t. StopsAfter says stops old whole count' t now) o (subst (λ n. StopsAfter says stops old whole n output now) c stop)

@@ -21,8 +21,8 @@ pub record Progress {S : Type 0} (says : S → Option (List ℕ) → List ℕ �
   pub held_is : line ≡ held next
   pub served : Chain (Serves says) old done output now
 
--- so many of the text's lines were served; the output is theirs, and nothing of the next line's answer or that where it stopped
-pub record StopsAfter {S : Type 0} (says : S → Option (List ℕ) → List ℕ → S → Type 0) (stops : S → Option (List ℕ) → List ℕ → Type 0) (old : S) (whole : List ℕ) (count : ℕ) (output : List ℕ) : Type 0 where
+-- so many of the text's lines were served, and the output is theirs; nothing of the next line's answer, or that where it stopped and left `now`
+pub record StopsAfter {S : Type 0} (says : S → Option (List ℕ) → List ℕ → S → Type 0) (stops : S → Option (List ℕ) → List ℕ → S → Type 0) (old : S) (whole : List ℕ) (count : ℕ) (output : List ℕ) (now : S) : Type 0 where
   pub done : List (List ℕ)
   pub next : List ℕ
   pub later : List (List ℕ)
@@ -32,5 +32,5 @@ pub record StopsAfter {S : Type 0} (says : S → Option (List ℕ) → List ℕ 
   pub between : S
   pub served : Chain (Serves says) old done done_output between
   pub front : List ℕ
-  pub stopped : (front ≡ []) ⊎ stops between (held next) front
+  pub stopped : ((front ≡ []) × (now ≡ between)) ⊎ stops between (held next) front now
   pub output_is : output ≡ done_output ++ front

@@ -21,7 +21,7 @@ pub fn feed<L: LineServer, W: Sink>(
     ensures served { (old : L.State) (whole output : List ℕ) (count : ℕ) → Progress L.says old whole [] line.old count output (L.state server.old) →
         (more : List ℕ) × Grows W.tells (W.written writer.old) (W.written writer.new) more
         × MatchResult result (λ lines. Progress L.says old (whole ++ piece.now) [] line.new (count + lines) (output ++ more) (L.state server.new))
-        (λ lines. StopsAfter L.says L.stops old (whole ++ piece.now) (count + lines) (output ++ more)) }
+        (λ lines. StopsAfter L.says L.stops old (whole ++ piece.now) (count + lines) (output ++ more) (L.state server.new)) }
     ensures holds { OnOk result (L.holds (L.state server.new)) }
     ensures bound { MatchResult result (λ lines. lines ≤ length piece.now) (λ lines. lines ≤ length piece.now) }
     ensures ok { OnOk result (W.failures writer.new ≡ W.failures writer.old) }

@@ -18,8 +18,8 @@ pub trait LineServer {
     // From a state, a line (none, where it is too long) may write this text and leave this state.
     ghost says: { State → Option (List ℕ) → List ℕ → State → Type 0 };
 
-    // From a state, the answer to a line may stop behind this text.
-    ghost stops: { State → Option (List ℕ) → List ℕ → Type 0 };
+    // From a state, the answer to a line may stop behind this text and leave this state.
+    ghost stops: { State → Option (List ℕ) → List ℕ → State → Type 0 };
 
     /// Serves a line: none, where it is too long.
     fn serve<W: Sink>(&mut self, line: Option<&[u8]>, writer: &mut W) -> Result<(), Failed>
@@ -27,7 +27,7 @@ pub trait LineServer {
         ensures answer { OnOk result ((text : List ℕ) × says (state self.old) (option_map (λ bytes. bytes.now) line.entry) text (state self.new)
             × Grows W.tells (W.written writer.old) (W.written writer.new) text) }
         ensures holds { OnOk result (holds (state self.new)) }
-        ensures part { OnErr result ((text : List ℕ) × stops (state self.old) (option_map (λ bytes. bytes.now) line.entry) text
+        ensures part { OnErr result ((text : List ℕ) × stops (state self.old) (option_map (λ bytes. bytes.now) line.entry) text (state self.new)
             × Grows W.tells (W.written writer.old) (W.written writer.new) text) }
         ensures ok { OnOk result (W.failures writer.new ≡ W.failures writer.old) }
         ensures err { OnErr result (IsOneMore (W.failures writer.old) (W.failures writer.new)) };

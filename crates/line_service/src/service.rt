@@ -61,7 +61,7 @@ pub fn serve_lines<L: LineServer, R: Source, W: Sink>(
     ensures end { OnOk result (IsAtEnd R.tells (R.left reader.new)) }
     ensures fault { IfErr result (λ fault. (whole output : List ℕ) × Takes R.tells (R.left reader.old) (R.left reader.new) whole
         × Grows W.tells (W.written writer.old) (W.written writer.new) output
-        × StopsAfter L.says L.stops (L.state server.old) whole fault.done output) }
+        × StopsAfter L.says L.stops (L.state server.old) whole fault.done output (L.state server.new)) }
     // A fault comes only where a device failed, or there were too many reads.
     ensures read { IfErr result (λ fault. fault.kind ≡ LineFaultKind.Read → (IsOneMore (R.failures reader.old) (R.failures reader.new)
         ⊎ ((whole : List ℕ) × Takes R.tells (R.left reader.old) (R.left reader.new) whole × (MAX_TURNS ≤ length whole)))) }

@@ -19,17 +19,9 @@ Chain-one step old new x text here = (text, new, [], here, (refl, refl), sym (ap
 pub Chain-more : {S X : Type 0} (step : S → X → List ℕ → S → Type 0) (old mid new : S) (xs : List X) (x : X) (text more : List ℕ) → Chain step old xs text mid → step mid x more new → Chain step old (xs ++ x ∷ []) (text ++ more) new
 Chain-more step old mid new xs x text more chain here = Chain-append step old mid new xs (x ∷ []) text more chain (Chain-one step mid new x more here)
 
--- something can be written for all items, where something can be for each
-pub Chain-some : {S X : Type 0} (step : S → X → List ℕ → S → Type 0) → ((s : S) (x : X) → (text : List ℕ) × (new : S) × step s x text new) → (old : S) (xs : List X) → (text : List ℕ) × (new : S) × Chain step old xs text new
-Chain-some step some old [] = ([], old, (refl, refl))
-Chain-some step some old (x ∷ xs) =
-    let first = some old x in
-    let rest = Chain-some step some first.1 xs in
-    (first.0 ++ rest.0, rest.1, (first.0, first.1, rest.0, first.2, rest.2, refl))
-
 -- a stop in the item behind a chain
 pub stops_in : {S X : Type 0} (step : S → X → List ℕ → S → Type 0) (old mid new : S) (items done later : List X) (next : X) (text front unwritten : List ℕ) → items ≡ done ++ next ∷ later
-    → Chain step old done text mid → step mid next (front ++ unwritten) new → StopsIn step old items (length done) (text ++ front)
+    → Chain step old done text mid → step mid next (front ++ unwritten) new → StopsIn step old items (length done) (text ++ front) new
 stops_in step old mid new items done later next text front unwritten are chain could = record {
   done = done;
   next = next;
@@ -41,53 +33,8 @@ stops_in step old mid new items done later next text front unwritten are chain c
   chain = chain;
   front = front;
   unwritten = unwritten;
-  new = new;
   could = could;
   text_is = refl;
-}
-
--- a stop behind a chain, before the next item's text
-pub stops_before : {S X : Type 0} (step : S → X → List ℕ → S → Type 0) (old mid new : S) (items done later : List X) (next : X) (text could : List ℕ) → items ≡ done ++ next ∷ later
-    → Chain step old done text mid → step mid next could new → StopsIn step old items (length done) text
-stops_before {S} {X} step old mid new items done later next text could are chain here =
-    let P : List ℕ → Type 0 = λ t. StopsIn step old items (length done) t in
-    subst P (append-nil text) (stops_in step old mid new items done later next text [] could are chain here)
-
--- a chain, and then a stop
-pub Chain-stops : {S X : Type 0} (step : S → X → List ℕ → S → Type 0) (old mid : S) (xs ys : List X) (text more : List ℕ) (count : ℕ) → Chain step old xs text mid → StopsIn step mid ys count more
-    → StopsIn step old (xs ++ ys) (length xs + count) (text ++ more)
-Chain-stops step old mid xs ys text more count chain stop = record {
-  done = xs ++ stop.done;
-  next = stop.next;
-  later = stop.later;
-  items_are = ap (λ l. xs ++ l) stop.items_are ∙ sym (append_assoc xs stop.done (stop.next ∷ stop.later));
-  counted = length-append xs stop.done ∙ ap (λ n. length xs + n) stop.counted;
-  done_text = text ++ stop.done_text;
-  between = stop.between;
-  chain = Chain-append step old mid stop.between xs stop.done text stop.done_text chain stop.chain;
-  front = stop.front;
-  unwritten = stop.unwritten;
-  new = stop.new;
-  could = stop.could;
-  text_is = ap (λ l. text ++ l) stop.text_is ∙ sym (append_assoc text stop.done_text stop.front);
-}
-
--- a stop stays one where more items stand behind
-pub stops_of_more : {S X : Type 0} (step : S → X → List ℕ → S → Type 0) (old : S) (items more : List X) (count : ℕ) (text : List ℕ) → StopsIn step old items count text → StopsIn step old (items ++ more) count text
-stops_of_more step old items more count text stop = record {
-  done = stop.done;
-  next = stop.next;
-  later = stop.later ++ more;
-  items_are = ap (λ l. l ++ more) stop.items_are ∙ append_assoc stop.done (stop.next ∷ stop.later) more;
-  counted = stop.counted;
-  done_text = stop.done_text;
-  between = stop.between;
-  chain = stop.chain;
-  front = stop.front;
-  unwritten = stop.unwritten;
-  new = stop.new;
-  could = stop.could;
-  text_is = stop.text_is;
 }
 
 -- at the start all items are left
@@ -110,15 +57,10 @@ does_all {S} {X} step old now items left count text none done_so_far =
     let P : List X → Type 0 = λ l. Chain step old l text now in
     subst P (sym (done_so_far.items_are ∙ ap (λ l. done_so_far.done ++ l) none ∙ append-nil done_so_far.done)) done_so_far.chain
 
--- and were so many
-pub count_of_all : {S X : Type 0} (step : S → X → List ℕ → S → Type 0) (old now : S) (items left : List X) (count : ℕ) (text : List ℕ) → left ≡ [] → DoesUpTo step old items left count text now → length items ≡ count
-count_of_all {S} {X} step old now items left count text none done_so_far =
-    ap length (done_so_far.items_are ∙ ap (λ l. done_so_far.done ++ l) none ∙ append-nil done_so_far.done) ∙ done_so_far.counted
-
 -- the next item's text stops within
 pub does_stop : {S X : Type 0} (step : S → X → List ℕ → S → Type 0) (old now new : S) (items left later : List X) (next : X) (count : ℕ) (text front unwritten : List ℕ) → left ≡ next ∷ later
-    → DoesUpTo step old items left count text now → step now next (front ++ unwritten) new → StopsIn step old items count (text ++ front)
+    → DoesUpTo step old items left count text now → step now next (front ++ unwritten) new → StopsIn step old items count (text ++ front) new
 does_stop step old now new items left later next count text front unwritten here done_so_far could =
-    let P : ℕ → Type 0 = λ n. StopsIn step old items n (text ++ front) in
+    let P : ℕ → Type 0 = λ n. StopsIn step old items n (text ++ front) new in
     subst P done_so_far.counted
     (stops_in step old now new items done_so_far.done later next text front unwritten (done_so_far.items_are ∙ ap (λ l. done_so_far.done ++ l) here) done_so_far.chain could)

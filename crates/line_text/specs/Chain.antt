@@ -13,8 +13,8 @@ pub record DoesUpTo {S X : Type 0} (step : S → X → List ℕ → S → Type 0
   pub counted : length done ≡ count
   pub chain : Chain step old done text now
 
--- so many of the items are done, and the text is theirs and a front of what the next one could have written
-pub record StopsIn {S X : Type 0} (step : S → X → List ℕ → S → Type 0) (old : S) (items : List X) (count : ℕ) (text : List ℕ) : Type 0 where
+-- so many of the items are done, and the text is theirs and a front of what the next one could have written as it led to `new`
+pub record StopsIn {S X : Type 0} (step : S → X → List ℕ → S → Type 0) (old : S) (items : List X) (count : ℕ) (text : List ℕ) (new : S) : Type 0 where
   pub done : List X
   pub next : X
   pub later : List X
@@ -25,6 +25,5 @@ pub record StopsIn {S X : Type 0} (step : S → X → List ℕ → S → Type 0)
   pub chain : Chain step old done done_text between
   pub front : List ℕ
   pub unwritten : List ℕ
-  pub new : S
   pub could : step between next (front ++ unwritten) new
   pub text_is : text ≡ done_text ++ front

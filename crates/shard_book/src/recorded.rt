@@ -1,7 +1,7 @@
 //! A call as it is recorded, and the places that the record has.
 
 ghost use Rattle.std.specs.Prelude.{◌≡◌, ◌+◌, ◌≤◌, ◌<◌, ◌^◌, true, IfOk, IfErr, OnOk, OnErr, vec_len, vec_capacity};
-ghost use Rattle.table_model.specs.Step.{Step, slot_of};
+ghost use Rattle.table_model.specs.Step.{Step};
 ghost use Rattle.table_model.specs.Limits.{IsTableEvent};
 ghost use Rattle.table_model.specs.Refusals.{has_life, life_taken};
 ghost use Rattle.table_model.specs.declared.replies.Reply.TheVariants.{Released};
@@ -17,21 +17,11 @@ pub struct Recorded {
     pub stored: Stored,
 }
 
-/// The slot that a reply tells.
-fn slot_told(reply: &Reply) -> Option<u32>
-    ensures { result ≡ slot_of reply.now }
-{
-    match reply {
-        Reply::Tracked { ticket, .. } => Some(ticket.slot),
-        _ => None,
-    }
-}
-
 /// How a call is recorded.
 pub(crate) fn record_of(seat: u32, event: Event, reply: &Reply) -> Recorded
     ensures { result ≡ specified_record seat event reply.now }
 {
-    let slot = slot_told(reply);
+    let slot = reply.slot();
     Recorded {
         seat,
         stored: Stored { event, slot },

@@ -1,9 +1,9 @@
 -- On the replies of shards.
-use Rattle.std.proofs.Common.{◌≡◌, ◌∙◌, ◌<◌, ◌≤◌, ◌+◌, ◌-◌, ◌*◌, ◌^◌, ℕ, suc, true, false, Option, Some, None, Ok, IfSome, List, [], ◌∷◌, ◌++◌, append_assoc, length, count_by, fold, refl, sym, ap, subst, inl, rules, arith}
+use Rattle.std.proofs.Common.{◌≡◌, ◌∙◌, ◌<◌, ◌≤◌, ◌+◌, ◌-◌, ◌*◌, ◌^◌, ℕ, suc, true, false, Option, Some, None, Ok, IfSome, List, [], ◌∷◌, ◌++◌, append_assoc, length, fold, refl, sym, ap, subst, inl, rules, arith}
 use Rattle.std.specs.Option.{option_map_or}
 use Rattle.std.specs.List.{range_with_len}
 use Rattle.std.proofs.lemmas.List.Sums.{count_by-le-length, fold-append}
-use Rattle.table_model.specs.State.{State, stays, advance}
+use Rattle.table_model.specs.State.{State, stays}
 use Rattle.table_model.specs.Step.{Outcome, begun, listed, cleared}
 use Rattle.table_model.specs.Filters.{not_stored, is_matched}
 use Rattle.stored_data.specs.declared.datum.Datum.{Datum}
@@ -11,9 +11,9 @@ use Rattle.table_model.specs.declared.filters.Filter.{Filter}
 use Rattle.table_model.specs.declared.events.Event.{Event}
 use Rattle.table_model.specs.declared.events.Event.TheVariants.{Get, Track, Look, Count, Release, Put, Clear, ClearWhere, List as ListRows, Expire}
 use Rattle.table_model.specs.declared.replies.Reply.{Reply}
-use Rattle.table_model.specs.declared.replies.Reply.TheVariants.{Absent, NotStored, Rows, Cleared}
+use Rattle.table_model.specs.declared.replies.Reply.TheVariants.{Absent, NotStored}
 use Rattle.stick_key.specs.declared.kind.KeyType.{KeyType}
-use Rattle.command_text.specs.Form.{Form, Everything, OneKey, Compare, Nothing, Unknown, Show, Clear as ClearForm, Set}
+use Rattle.command_text.specs.Form.{Request, Everything, OneKey, Compare, Show, Clear as Clearing, Set}
 use Rattle.command_text.specs.Request.{Asks}
 use Rattle.table_model.proofs.EntryLemmas.{length-filter-le}
 use Rattle.shard_book.specs.Keeping.{IsAnswer}
@@ -53,15 +53,13 @@ counted (Put now key pairs) reply asked answer = absurd asked
 counted (Clear now key) reply asked answer = absurd asked
 counted (Expire now) reply asked answer = absurd asked
 
--- what a form asks is an event of a command
-pub is_command : (kind : KeyType) (moment : ℕ) (form : Form) (event : Event) → Asks kind moment form (Ok event) → IsCommand event
-is_command kind moment Nothing event asks = absurd asks
-is_command kind moment Unknown event asks = cc asks
-is_command kind moment (Show table choice) event asks = subst IsCommand (sym asks.2) tt
-is_command kind moment (ClearForm table (OneKey text)) event asks = subst IsCommand (sym asks.2) tt
-is_command kind moment (ClearForm table Everything) event asks = subst IsCommand (sym asks.2) tt
-is_command kind moment (ClearForm table (Compare name op value)) event asks = subst IsCommand (sym asks.2) tt
-is_command kind moment (Set table text pairs) event asks = subst IsCommand (sym asks.4) tt
+-- what is asked is an event of a command
+pub is_command : (kind : KeyType) (moment : ℕ) (request : Request) (event : Event) → Asks kind moment request (Ok event) → IsCommand event
+is_command kind moment (Show choice) event asks = subst IsCommand (sym asks.2) tt
+is_command kind moment (Clearing (OneKey text)) event asks = subst IsCommand (sym asks.2) tt
+is_command kind moment (Clearing Everything) event asks = subst IsCommand (sym asks.2) tt
+is_command kind moment (Clearing (Compare name op value)) event asks = subst IsCommand (sym asks.2) tt
+is_command kind moment (Set text pairs) event asks = subst IsCommand (sym asks.4) tt
 
 -- ---- adding up
 

@@ -2,3 +2,4 @@ pub mod Shards
 pub mod Counted
 pub mod Tables
 pub mod Answers
+pub mod Service

@@ -10,7 +10,7 @@ use Rattle.table_model.specs.Refusals.{IsRefused}
 use Rattle.table_model.specs.declared.events.Event.{Event}
 use Rattle.table_model.specs.declared.replies.Reply.{Reply}
 use Rattle.table_model.specs.declared.replies.Refusal.{Refusal}
-use Rattle.command_text.specs.Form.{Form, Nothing, Unknown, Show, Clear, Set, form_of}
+use Rattle.command_text.specs.Form.{Form, Request, Nothing, Unknown, Tables, Of, form_of}
 use Rattle.command_text.specs.Request.{Asks}
 use Rattle.command_text.specs.Seen.{words_of}
 use Rattle.table_cli.specs.Tables.{NamedState}
@@ -33,20 +33,19 @@ abbrev pub Does : NamedState → Result Event Message → List ℕ → State →
 Does table (Ok event) text state = Serves table event text state
 Does table (Err message) text state = (text ≡ message_text message) × (state ≡ table.state)
 
--- what a form does at the table of a name, if there is one; the others stay
-abbrev pub AsksOf : ℕ → Form → Option ℕ → List NamedState → List ℕ → List NamedState → Type 0
-AsksOf moment form None old text new = (text ≡ message_text NoSuchTable) × (new ≡ old)
-AsksOf moment form (Some place) old text new =
+-- what a request does at the table of a name, if there is one; the others stay
+abbrev pub AsksOf : ℕ → Request → Option ℕ → List NamedState → List ℕ → List NamedState → Type 0
+AsksOf moment request None old text new = (text ≡ message_text NoSuchTable) × (new ≡ old)
+AsksOf moment request (Some place) old text new =
     (table : NamedState) × (state : State) × (asked : Result Event Message) × (table ≡ slice_index_or old place table)
-    × Asks table.state.spec.kind moment form asked × Does table asked text state
+    × Asks table.state.spec.kind moment request asked × Does table asked text state
     × (new ≡ slice_set old place (record { name = table.name; state = state }))
 
 abbrev pub Says : ℕ → Form → List NamedState → List ℕ → List NamedState → Type 0
 Says moment Nothing old text new = (text ≡ []) × (new ≡ old)
 Says moment Unknown old text new = (text ≡ message_text UnknownCommand) × (new ≡ old)
-Says moment (Show name choice) old text new = AsksOf moment (Show name choice) (place_of name old) old text new
-Says moment (Clear name choice) old text new = AsksOf moment (Clear name choice) (place_of name old) old text new
-Says moment (Set name key pairs) old text new = AsksOf moment (Set name key pairs) (place_of name old) old text new
+Says moment Tables old text new = (text ≡ message_text UnknownCommand) × (new ≡ old)
+Says moment (Of name request) old text new = AsksOf moment request (place_of name old) old text new
 
 -- at a moment in ms, from `old`, a command may be answered this text and leave `new`
 abbrev pub Answers : ℕ → List NamedState → List ℕ → List ℕ → List NamedState → Type 0

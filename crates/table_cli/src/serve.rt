@@ -1,22 +1,21 @@
 //! Serving commands.
 
-ghost use Rattle.std.specs.Prelude.{◌≡◌, ◌≢◌, ◌<◌, ◌^◌, ℕ, List, Result, MatchResult, OnOk, OnErr, IfSome, length, position};
+ghost use Rattle.std.specs.Prelude.{◌≡◌, ◌<◌, ◌^◌, ℕ, List, Result, MatchResult, OnOk, OnErr, IfSome, length, position};
 ghost use Rattle.std.specs.Str.{bytes_eq};
 ghost use Rattle.byte_ports.specs.Bytes.{Grows, GrowsInPart, IsOneMore};
 ghost use Rattle.table_model.specs.Limits.{IsTableEvent};
 ghost use Rattle.table_model.specs.declared.events.Event.{Event};
 ghost use Rattle.table_cli.specs.Answers.{Answers, AnswersLine, AsksOf, commands_of, Does, Serves, place_of as specified_place};
 ghost use Rattle.line_text.specs.Chain.{StopsIn};
-ghost use Rattle.command_text.specs.Form as spec;
 ghost use Rattle.table_cli.specs.Tables.{NamedState, states_of};
 ghost use Rattle.command_text.specs.declared.message.Message.{Message};
 ghost use Rattle.command_text.specs.Request.{Asks};
 ghost use Rattle.command_text.specs.Bytes.{bytes_of};
-ghost use Rattle.command_text.specs.Seen.{seen};
+ghost use Rattle.command_text.specs.Seen.{seen_request};
 
 use crate::Named;
 use byte_ports::{Failed, Sink, write_all};
-use command_text::{Answer, Form, Message, read_event, read_form};
+use command_text::{Answer, Form, Message, Request, read_event, read_form};
 use line_text::{Parts, without_cr};
 use std::alloc::Global;
 use stick_table::Table;
@@ -46,35 +45,38 @@ fn serve_event<T: Table>(alloc: Global, name: &[u8], table: &mut T, event: &Even
     }
 }
 
-/// Does what a form asks of a table.
-fn ask_table<T: Table>(alloc: Global, named: &mut Named<T>, moment: u64, form: Form<'_>) -> Answer
-    requires words { seen form ≢ spec.Nothing }
-    requires moment { moment < 2 ^ 62 }
+/// Does what is asked of a table.
+fn ask_table<T: Table>(
+    alloc: Global,
+    named: &mut Named<T>,
+    moment: u64,
+    request: Request<'_>,
+) -> Answer
+    requires { moment < 2 ^ 62 }
     ensures name { named.new.name ≡ named.old.name }
-    ensures does { (asked : Result Event Message) × Asks (T.state named.old.table).spec.kind moment (seen form.entry) asked
+    ensures does { (asked : Result Event Message) × Asks (T.state named.old.table).spec.kind moment (seen_request request.entry) asked
         × Does (record { name = named.old.name; state = T.state named.old.table }) asked (bytes_of result) (T.state named.new.table) }
 {
     let kind = named.table.spec().kind;
-    match read_event(alloc, kind, moment, form) {
+    match read_event(alloc, kind, moment, request) {
         Ok(event) => serve_event(alloc, named.name.as_slice(), &mut named.table, &event),
         Err(message) => Answer::Message(message),
     }
 }
 
-/// Does what a form asks of the table of a name.
+/// Does what is asked of the table of a name.
 fn ask_named<T: Table>(
     alloc: Global,
     tables: &mut [Named<T>],
     moment: u64,
-    form: Form<'_>,
     name: &[u8],
+    request: Request<'_>,
 ) -> Answer
-    requires words { seen form ≢ spec.Nothing }
-    requires moment { moment < 2 ^ 62 }
-    ensures { AsksOf moment (seen form.entry) (specified_place name.now (states_of T.state tables.old)) (states_of T.state tables.old) (bytes_of result) (states_of T.state tables.new) }
+    requires { moment < 2 ^ 62 }
+    ensures { AsksOf moment (seen_request request.entry) (specified_place name.now (states_of T.state tables.old)) (states_of T.state tables.old) (bytes_of result) (states_of T.state tables.new) }
 {
     match place_of(tables, name) {
-        Some(place) => ask_table(alloc, &mut tables[place], moment, form),
+        Some(place) => ask_table(alloc, &mut tables[place], moment, request),
         None => Answer::Message(Message::NoSuchTable),
     }
 }
@@ -84,13 +86,11 @@ fn perform<T: Table>(alloc: Global, tables: &mut [Named<T>], moment: u64, comman
     requires { moment < 2 ^ 62 }
     ensures { Answers moment (states_of T.state tables.old) command.now (bytes_of result) (states_of T.state tables.new) }
 {
-    let form = read_form(command);
-    match form {
+    match read_form(command) {
         Form::Nothing => Answer::Nothing,
         Form::Unknown => Answer::Message(Message::UnknownCommand),
-        Form::Show(name, _) => ask_named(alloc, tables, moment, form, name),
-        Form::Clear(name, _) => ask_named(alloc, tables, moment, form, name),
-        Form::Set(name, _, _) => ask_named(alloc, tables, moment, form, name),
+        Form::Tables => Answer::Message(Message::UnknownCommand),
+        Form::Of(name, request) => ask_named(alloc, tables, moment, name, request),
     }
 }
 
@@ -128,8 +128,8 @@ pub fn answer<T: Table, W: Sink>(
     requires { moment < 2 ^ 62 }
     ensures answer { OnOk result ((text : List ℕ) × AnswersLine moment (states_of T.state tables.old) line.now text (states_of T.state tables.new)
         × Grows W.tells (W.written writer.old) (W.written writer.new) text) }
-    // The answers to so many commands, and a front of what the next could have been answered.
-    ensures part { OnErr result ((text : List ℕ) × (count : ℕ) × StopsIn (Answers moment) (states_of T.state tables.old) (commands_of line.now) count text
+    // The answers to so many commands, and a front of what the next could have been answered, whose events stand.
+    ensures part { OnErr result ((text : List ℕ) × (count : ℕ) × StopsIn (Answers moment) (states_of T.state tables.old) (commands_of line.now) count text (states_of T.state tables.new)
         × Grows W.tells (W.written writer.old) (W.written writer.new) text) }
     ensures ok { OnOk result (W.failures writer.new ≡ W.failures writer.old) }
     ensures err { OnErr result (IsOneMore (W.failures writer.old) (W.failures writer.new)) }

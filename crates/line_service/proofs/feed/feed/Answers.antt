@@ -45,11 +45,11 @@ returns-in-Err-clause-served g c = λ old whole output count p.
     let L = g.L.LineServer in
     let at = c.loop-part.invariant.going old whole output count p in
     let here = c.in-Err.ensures.part in
-    let stopped = subst (λ (l : Option (List ℕ)). L.stops (L.state c.loop-part.server) l here.0) c.line.ensures here.1 in (
+    let stopped = subst (λ (l : Option (List ℕ)). L.stops (L.state c.loop-part.server) l here.0 (L.state c.serve.new.self)) c.line.ensures here.1 in (
       at.0 ++ here.0,
       grown_twice _ _ _ _ _ _ at.1 here.2,
-      stops_along L.says L.stops old _ _ _ _ _ refl (append_assoc output at.0 here.0)
-          (stops_within L.says L.stops old _ _ _ _ _ _ _ at.2 stopped),
+      stops_along L.says L.stops old _ _ _ _ _ _ refl (append_assoc output at.0 here.0)
+          (stops_within L.says L.stops old _ _ _ _ _ _ _ _ at.2 stopped),
     )
 
 pub returns-clause-served : goal.returns-clause-served

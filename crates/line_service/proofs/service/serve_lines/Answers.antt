@@ -22,7 +22,7 @@ returns-in-Err-clause-fault g c =
       so_far.1,
       taken_none _ _ _ (g.R.Source.left c.read.new.self) so_far.0 so_far.2 c.in-Err.ensures.kept,
       so_far.3,
-      stops_along L.says L.stops _ _ _ _ _ _ (sym (ap (λ (f : LineFault). f.done) c.read-in-Err.ensures)) refl (stops_before L.says L.stops _ _ _ _ _ _ _ so_far.4),
+      stops_along L.says L.stops _ _ _ _ _ _ _ (sym (ap (λ (f : LineFault). f.done) c.read-in-Err.ensures)) refl (stops_before L.says L.stops _ _ _ _ _ _ _ so_far.4),
     )
 
 pub returns-in-Ok-serve-clause-whole : goal.returns-in-Ok-serve-clause-whole
@@ -43,12 +43,12 @@ returns-in-Err-serve-clause-fault g c =
     let L = g.L.LineServer in
     let so_far = c.loop-turn.invariant.stands in
     let here = c.in-Err-serve.ensures.part in
-    let stopped = subst (λ (l : Option (List ℕ)). L.stops (L.state c.loop-turn.server) l here.0) c.line.ensures here.1 in (
+    let stopped = subst (λ (l : Option (List ℕ)). L.stops (L.state c.loop-turn.server) l here.0 (L.state c.serve.new.self)) c.line.ensures here.1 in (
       so_far.0,
       so_far.1 ++ here.0,
       taken_zero _ _ _ (g.R.Source.left c.read.new.self) so_far.0 _ _ c.if-count-eq0.true so_far.2 c.in-Ok.ensures.bytes,
       grown_twice _ _ _ _ _ _ so_far.3 here.2,
-      stops_along L.says L.stops _ _ _ _ _ _ (sym (ap (λ (f : LineFault). f.done) c.write.ensures)) refl (stops_within L.says L.stops _ _ _ _ _ _ _ _ so_far.4 stopped),
+      stops_along L.says L.stops _ _ _ _ _ _ _ (sym (ap (λ (f : LineFault). f.done) c.write.ensures)) refl (stops_within L.says L.stops _ _ _ _ _ _ _ _ _ so_far.4 stopped),
     )
 
 pub returns-in-Err-feed-clause-fault : goal.returns-in-Err-feed-clause-fault
@@ -60,7 +60,7 @@ returns-in-Err-feed-clause-fault g c =
       so_far.1 ++ here.0,
       taken_twice _ _ _ _ _ _ so_far.2 c.in-Ok.ensures.bytes,
       grown_twice _ _ _ _ _ _ so_far.3 here.1,
-      stops_along L.says L.stops _ _ _ _ _ _ (sym (ap (λ (f : LineFault). f.done) c.write-in-Err-feed.ensures)) refl here.2,
+      stops_along L.says L.stops _ _ _ _ _ _ _ (sym (ap (λ (f : LineFault). f.done) c.write-in-Err-feed.ensures)) refl here.2,
     )
 
 pub loop-turn-preserved : goal.loop-turn-preserved
@@ -89,4 +89,4 @@ pub returns-clause-fault : goal.returns-clause-fault
 returns-clause-fault g c =
     let L = g.L.LineServer in
     let so_far = c.loop-turn.invariant.stands in
-    (so_far.0, so_far.1, so_far.2, so_far.3, stops_along L.says L.stops _ _ _ _ _ _ (sym (ap (λ (f : LineFault). f.done) c.read-2.ensures)) refl (stops_before L.says L.stops _ _ _ _ _ _ _ so_far.4))
+    (so_far.0, so_far.1, so_far.2, so_far.3, stops_along L.says L.stops _ _ _ _ _ _ _ (sym (ap (λ (f : LineFault). f.done) c.read-2.ensures)) refl (stops_before L.says L.stops _ _ _ _ _ _ _ so_far.4))

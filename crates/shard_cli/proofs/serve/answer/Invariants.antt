@@ -1,18 +1,22 @@
-use Rattle.std.proofs.Common.{◌≡◌, ℕ, List, length}
+use Rattle.std.proofs.Common.{◌≡◌, ◌≤◌, ◌+◌, ℕ, List, filter, length}
 use Rattle.byte_ports.specs.Bytes.{Grows}
 use Rattle.line_text.specs.Chain.{DoesUpTo}
-use Rattle.shard_cli.specs.Answers.{Answers, commands_of}
-use Rattle.shard_cli.specs.Tables.{states_of}
+use Rattle.shard_cli.specs.Answers.{Answers, commands_of, has_words}
+use Rattle.shard_cli.specs.Tables.{CommandState, states_of}
 use Rattle.shard_cli.proofs.serve.answer.Given as goal
 
--- so many commands of the line are answered, and these are left
+-- so many commands of the line are answered, and these parts are left
 abbrev pub invariant-loop-command : goal.invariant-loop-command
 invariant-loop-command g l =
     let K = g.K.Keeper in
+    let C = g.C.Clock in
     let W = g.W.Sink in
+    let before : CommandState K.State C.State = record { tables = states_of K.table K.parts K.state l.fn.tables; clock = C.state l.fn.clock } in
+    let now : CommandState K.State C.State = record { tables = states_of K.table K.parts K.state l.tables; clock = C.state l.clock } in
     record {
-      done : (text : List ℕ) × (count : ℕ) × DoesUpTo (Answers K.answers K.refuses l.moment) (states_of K.table K.parts K.state l.fn.tables) (commands_of l.line) l.commands count text (states_of K.table K.parts K.state l.tables)
+      answered : (text : List ℕ) × DoesUpTo (Answers K.answers K.refuses C.shows) before (commands_of l.line) (filter has_words l.commands) l.done text now
           × Grows W.tells (W.written l.fn.writer) (W.written l.writer) text;
+      bound : l.done + length l.commands ≤ length l.line + 1;
       failures : W.failures l.writer ≡ W.failures l.fn.writer;
     }
 

@@ -1,10 +1,7 @@
-use Rattle.std.proofs.Common.{◌≡◌, ◌<◌, ◌-◌, ◌*◌, ◌+◌, ◌^◌, ◌++◌, ℕ, List, [], ◌∷◌, Some, None, append-nil, refl, sym, ◌∙◌, ap, subst, rules, arith}
-use Rattle.std.specs.List.{range_with_len}
+use Rattle.std.proofs.Common.{◌<◌, ◌^◌, ◌++◌, [], ◌∷◌, Some, None, append-nil, refl, sym, ◌∙◌, ap, subst, rules, arith}
 use Rattle.table_model.specs.declared.events.Event.{Event}
-use Rattle.table_model.specs.declared.replies.Reply.{Reply}
 use Rattle.shard_book.specs.Keeping.{IsAnswer}
-use Rattle.shard_cli.specs.Shards.{AsksInTurn, Ends}
-use Rattle.shard_cli.specs.Counted.{IsCounted}
+use Rattle.shard_cli.specs.Shards.{Ends}
 use Rattle.command_text.specs.declared.message.Message.TheVariants.{OutOfMemory}
 use Rattle.shard_cli.proofs.ShardLemmas.{counted, counted-more, later, ends_all, ends_here, ends_in_memory, goes_more, range-more, range-none, so_far_of, so_far-more, so_far-none, so_far-total}
 use Rattle.shard_cli.proofs.shards.ask_all.Goals as goal

@@ -1,5 +1,5 @@
 use Rattle.std.proofs.Common.{ℕ, List, [], ◌∷◌, Some, None, refl, sym, subst}
-use Rattle.shard_cli.specs.Shards.{AsksInTurn, total}
+use Rattle.shard_cli.specs.Shards.{AsksInTurn}
 use Rattle.shard_cli.proofs.ShardLemmas.{ends_here, one_shard}
 use Rattle.shard_cli.proofs.shards.ask_shards.Goals as goal
 
