@@ -1,5 +1,5 @@
 -- A line `stick-table`.
-use Rattle.std.specs.Prelude.{ℕ, ◌^◌, Bool, true, false, not, ◌==◌, List, [], ◌∷◌, codes, is_some, Option, Some, None, Result, Ok, Err, if◌then◌else◌}
+use Rattle.std.specs.Prelude.{ℕ, Bool, true, false, not, List, [], ◌∷◌, codes, is_some, Option, Some, None, Result, Ok, Err, if◌then◌else◌}
 use Rattle.std.specs.Str.{bytes_eq}
 use Rattle.line_text.specs.Parts.{parts, is_byte}
 use Rattle.line_text.specs.Words.{is_some_text}

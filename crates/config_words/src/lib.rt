@@ -12,9 +12,9 @@ ghost use Rattle.rule_model.specs.Reading.{Gives, demand as demanded};
 
 pub use lines::{Lines, before_comment, is_plain, is_text, next_or_empty};
 pub use names::is_name;
-pub use numbers::{before_parenthesis, inside, read_bounded, read_size, read_time};
+pub use numbers::{before_parenthesis, inside, read_bounded};
 use rule_model::{Fault, ReadError};
-pub use table::{Settings, read_table};
+pub use table::read_table;
 
 /// A fault where a test fails.
 pub fn demand(test: bool, fault: Fault) -> Result<(), ReadError>

@@ -3,6 +3,7 @@
 ghost use Rattle.std.specs.Prelude.{◌≡◌, ◌≤◌, ◌+◌, length, ◌∷◌, [], MatchOption};
 ghost use Rattle.std.specs.List.{list_any};
 ghost use Rattle.std.specs.Str.{is_utf8};
+ghost use Rattle.line_text.specs.Parts.{first_part, is_byte};
 ghost use Rattle.line_text.specs.Words.{words_left};
 ghost use Rattle.config_words.specs.Lines as spec;
 ghost use Rattle.config_words.specs.Lines.{lines_of, first_word, other_words};
@@ -60,15 +61,23 @@ pub fn is_text(line: &[u8]) -> bool
     }
 }
 
+/// What stands before the first such byte: all of a text that has none.
+pub(crate) fn before(text: &[u8], separator: u8) -> &[u8]
+    ensures first { result.now ≡ first_part (is_byte separator) text.now }
+    ensures within { length result.now ≤ length text.now }
+{
+    let mut parts = Parts::new(text, separator);
+    match parts.next() {
+        Some(part) => part,
+        None => text,
+    }
+}
+
 /// What stands before a line's comment.
 pub fn before_comment(line: &[u8]) -> &[u8]
     ensures { result.now ≡ spec.before_comment line.now }
 {
-    let mut parts = Parts::new(line, b'#');
-    match parts.next() {
-        Some(part) => part,
-        None => line,
-    }
+    before(line, b'#')
 }
 
 fn has_quoting(text: &[u8]) -> bool

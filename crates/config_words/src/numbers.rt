@@ -6,7 +6,8 @@ ghost use Rattle.std.specs.List.{prefix_len};
 ghost use Rattle.config_words.specs.Numbers as spec;
 ghost use Rattle.config_words.specs.Numbers.{bounded_number, digits_of, size_of, suffix_of, time_of};
 
-use line_text::{Parts, read_number};
+use crate::lines::before;
+use line_text::read_number;
 use rule_model::Fault;
 
 /// The greatest size of a table.
@@ -55,7 +56,7 @@ fn size_unit(suffix: &[u8]) -> Option<u64>
 
 /// Reads a size: decimal, with an optional suffix k, m or g for 2^10, 2^20 and 2^30, from 1 to 2^30.
 #[tactic(auto, unfolding(crate::specs::Numbers::size_of))]
-pub fn read_size(text: &[u8]) -> Result<u32, Fault>
+pub(crate) fn read_size(text: &[u8]) -> Result<u32, Fault>
     ensures { result ≡ size_of text.now }
 {
     let (digits, suffix) = text.split_at(digits_len(text));
@@ -96,7 +97,7 @@ fn time_unit(suffix: &[u8]) -> Option<u64>
 /// Reads a time in ms: decimal, with an optional unit us, ms, s, m, h or d, from 1 to 2^31 - 1 ms. Microseconds are
 /// rounded up to whole ms.
 #[tactic(auto, unfolding(crate::specs::Numbers::time_of))]
-pub fn read_time(text: &[u8]) -> Result<u32, Fault>
+pub(crate) fn read_time(text: &[u8]) -> Result<u32, Fault>
     ensures { result ≡ time_of text.now }
 {
     let (digits, suffix) = text.split_at(digits_len(text));
@@ -110,24 +111,12 @@ pub fn read_time(text: &[u8]) -> Result<u32, Fault>
     Ok(time as u32)
 }
 
-/// What stands before the first parenthesis.
-fn front(text: &[u8]) -> &[u8]
-    ensures front { result.now ≡ spec.before_parenthesis text.now }
-    ensures within { length result.now ≤ length text.now }
-{
-    let mut parts = Parts::new(text, b'(');
-    match parts.next() {
-        Some(part) => part,
-        None => text,
-    }
-}
-
 /// What stands before the first parenthesis, and the rest.
 pub fn before_parenthesis(text: &[u8]) -> (&[u8], &[u8])
     ensures front { result.0.now ≡ spec.before_parenthesis text.now }
     ensures rest { result.1.now ≡ spec.from_parenthesis text.now }
 {
-    let front = front(text);
+    let front = before(text, b'(');
     let (_, rest) = text.split_at(front.len());
     (front, rest)
 }

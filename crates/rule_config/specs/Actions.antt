@@ -5,7 +5,6 @@ use Rattle.std.specs.Borrow.{Bor}
 use Rattle.std.specs.Str.{bytes_eq}
 use Rattle.line_text.specs.Parts.{is_byte}
 use Rattle.line_text.specs.Words.{is_some_text}
-use Rattle.stored_data.specs.declared.act.Act.{Act}
 use Rattle.stored_data.specs.declared.act.Act.TheVariants.{IncGpc0, IncGpc1, SetGpt0}
 use Rattle.rule_model.specs.Reading.{◌>>=◌, demand, Fails}
 use Rattle.rule_model.specs.declared.actions.Slot.{Slot}

@@ -1,5 +1,5 @@
 -- A configuration: what all its lines say.
-use Rattle.std.specs.Prelude.{◌≡◌, ◌≤◌, ◌<◌, ◌+◌, ◌-◌, ℕ, Bool, not, ◌&&◌, is_some, Option, Some, None, Result, Ok, Err, List, [], ◌∷◌, take, length}
+use Rattle.std.specs.Prelude.{◌≡◌, ◌≤◌, ◌+◌, ◌-◌, ℕ, Bool, not, ◌&&◌, is_some, Option, Some, None, Result, Ok, Err, List, [], ◌∷◌, take, length}
 use Rattle.std.specs.List.{list_any, find}
 use Rattle.std.specs.Str.{bytes_eq}
 use Rattle.rule_model.specs.Reading.{◌>>=◌}
@@ -65,9 +65,19 @@ abbrev pub IsReached : List (List ℕ) → ℕ → Type 0
 IsReached lines number = (1 ≤ number) × (number ≤ length lines) × ((read : Reading) × (read_of (take (number - 1) lines) ≡ Ok read))
 
 -- the first fault with its line; or a growth was refused, with the line in hand
-abbrev pub FailsAt : List (List ℕ) → ℕ → ReadError → Result Config (ℕ × Fault) → Type 0
+abbrev pub FailsAt : {X : Type 0} → List (List ℕ) → ℕ → ReadError → Result X (ℕ × Fault) → Type 0
 FailsAt lines number OutOfMemory given = IsReached lines number
 FailsAt lines number (Wrong fault) given = given ≡ Err (number, fault)
+
+-- the fault behind all lines; or a growth was refused, with the last line
+abbrev pub FaultBy : ℕ → ℕ → ReadError → Result Config (ℕ × Fault) → Type 0
+FaultBy last number OutOfMemory given = number ≡ last
+FaultBy last number (Wrong fault) given = given ≡ Err (number, fault)
+
+-- what is answered behind all lines
+abbrev pub EndsBy : ℕ → Result Config ConfigFault → Result Config (ℕ × Fault) → Type 0
+EndsBy last (Ok config) given = given ≡ Ok config
+EndsBy last (Err fault) given = FaultBy last fault.line fault.kind given
 
 -- what is answered is what the text gives
 abbrev pub Answers : List ℕ → Result Config ConfigFault → Type 0

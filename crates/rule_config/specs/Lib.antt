@@ -2,3 +2,4 @@ pub mod Actions
 pub mod Statements
 pub mod Lines
 pub mod Config
+pub mod Laws

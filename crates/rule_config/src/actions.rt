@@ -221,7 +221,7 @@ fn read_when(
 
 /// Reads a rule of a section of this name, whose ACLs so far are these: the words behind `tcp-request connection`.
 #[tactic(auto, unfolding(crate::specs::Actions::rule_of))]
-pub fn read_rule(
+pub(crate) fn read_rule(
     alloc: Global,
     own: &[u8],
     acls: &[Acl],

@@ -6,8 +6,9 @@
 
 mod actions;
 mod config;
+pub mod laws;
 mod needs;
 mod reading;
 mod statements;
 
-pub use config::ConfigFault;
+pub use config::{ConfigFault, read_config};

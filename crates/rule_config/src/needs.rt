@@ -126,7 +126,7 @@ fn push_action(needs: &mut Sequence<Need>, line: u64, action: &Action) -> Result
 }
 
 /// Adds what the line of this number needs.
-pub fn push_needs(
+pub(crate) fn push_needs(
     needs: &mut Sequence<Need>,
     alloc: Global,
     line: u64,
@@ -173,7 +173,7 @@ fn is_declared(sections: &[Section], what: &Needed) -> bool
 }
 
 /// The first line that needs what no section declares.
-pub fn first_unmet(sections: &[Section], needs: &[Need]) -> Option<u64>
+pub(crate) fn first_unmet(sections: &[Section], needs: &[Need]) -> Option<u64>
     ensures { result ≡ option_map (λ (need : Need). need.line) (find (λ need. not (specified sections.now need.what)) needs.now) }
 {
     for need in needs {

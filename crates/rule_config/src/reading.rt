@@ -4,10 +4,10 @@ ghost use Rattle.std.specs.Prelude.{◌≡◌, ◌++◌, OnOk, map};
 ghost use Rattle.std.specs.List.{flat_map, list_any};
 ghost use Rattle.std.specs.Str.{bytes_eq};
 ghost use Rattle.line_text.specs.Words.{words_left};
-ghost use Rattle.rule_model.specs.Reading.{Gives};
+ghost use Rattle.rule_model.specs.Reading.{Gives, Leaves};
 ghost use Rattle.rule_config.specs.Config.{nothing_read};
 ghost use Rattle.rule_config.specs.Lines as spec;
-ghost use Rattle.rule_config.specs.Lines.{declared_by, declared_in, line_says, new_section, open_section, says_in, section_says, sections_of, warnings_of, with_declared, with_statement, words_say};
+ghost use Rattle.rule_config.specs.Lines.{declared_by, declared_in, line_says, new_section, open_section, says_in, section_says, sections_of, warnings_of, with_declared, with_line, with_statement, words_say};
 
 use crate::needs::{Need, push_needs};
 use crate::statements::{
@@ -164,7 +164,7 @@ impl Statement {
 
 impl Reading {
     /// What was read before the first line.
-    pub fn new(alloc: Global) -> Self
+    pub(crate) fn new(alloc: Global) -> Self
         ensures { result ≡ nothing_read }
     {
         Reading {
@@ -225,7 +225,7 @@ impl Reading {
 
     /// Reads the next line, without its end.
     #[tactic(auto, unfolding(crate::specs::Lines::line_says))]
-    pub fn read_line(&self, alloc: Global, line: &[u8]) -> Result<Statement, ReadError>
+    pub(crate) fn read_line(&self, alloc: Global, line: &[u8]) -> Result<Statement, ReadError>
         ensures { Gives result (line_says self.now line.now) }
     {
         demand(is_text(line), Fault::NotUtf8)?;
@@ -234,7 +234,7 @@ impl Reading {
     }
 
     /// Ends the open section, if there is one.
-    pub fn end_section(&mut self) -> Result<(), NoMemory>
+    pub(crate) fn end_section(&mut self) -> Result<(), NoMemory>
         ensures { OnOk result (self.new ≡ record self.old { sections = sections_of self.old; place = Place.Outside }) }
     {
         match mem::replace(&mut self.place, Place::Outside) {
@@ -278,11 +278,30 @@ impl Reading {
 
     /// Takes what the line of this number says.
     #[tactic(auto, unfolding(crate::specs::Lines::with_statement))]
-    pub fn take(&mut self, alloc: Global, number: u64, statement: Statement) -> Result<(), NoMemory>
+    pub(crate) fn take(
+        &mut self,
+        alloc: Global,
+        number: u64,
+        statement: Statement,
+    ) -> Result<(), NoMemory>
         ensures { OnOk result (self.new ≡ with_statement number self.old statement) }
     {
         self.warn(number, &statement)?;
         push_needs(&mut self.needs, alloc, number, &statement)?;
         self.declare(alloc, statement)
+    }
+
+    /// Reads the line of this number, and takes what it says.
+    pub(crate) fn read_on(
+        &mut self,
+        alloc: Global,
+        number: u64,
+        line: &[u8],
+    ) -> Result<(), ReadError>
+        ensures { Leaves result self.new (with_line number self.old line.now) }
+    {
+        let statement = self.read_line(alloc, line)?;
+        self.take(alloc, number, statement)?;
+        Ok(())
     }
 }

@@ -49,7 +49,7 @@ pub struct OpenSection {
 }
 
 /// Nothing may follow.
-pub fn no_more(words: &mut Words<'_>) -> Result<(), ReadError>
+pub(crate) fn no_more(words: &mut Words<'_>) -> Result<(), ReadError>
     ensures { Gives result (spec.no_more (words_left words.old)) }
 {
     match words.next() {
@@ -160,7 +160,7 @@ fn read_tcp_request(
 
 /// Reads the words behind a keyword of a section.
 #[tactic(auto, unfolding(crate::specs::Statements::keyword_says))]
-pub fn read_statement(
+pub(crate) fn read_statement(
     alloc: Global,
     current: &OpenSection,
     keyword: &[u8],
@@ -194,14 +194,14 @@ pub fn read_statement(
 }
 
 /// Whether a keyword begins a section that is read past.
-pub fn is_passed_section(keyword: &[u8]) -> bool
+pub(crate) fn is_passed_section(keyword: &[u8]) -> bool
     ensures { result ≡ spec.is_passed_section keyword.now }
 {
     keyword == b"global".as_slice() || keyword == b"defaults".as_slice()
 }
 
 /// Whether a keyword begins a line that is read past.
-pub fn is_passed_line(keyword: &[u8]) -> bool
+pub(crate) fn is_passed_line(keyword: &[u8]) -> bool
     ensures { result ≡ spec.is_passed_line keyword.now }
 {
     keyword == b"option".as_slice()
@@ -213,7 +213,7 @@ pub fn is_passed_line(keyword: &[u8]) -> bool
 
 /// The section that a keyword begins.
 #[tactic(auto, unfolding(crate::specs::Statements::section_kind))]
-pub fn section_kind(keyword: &[u8]) -> Option<SectionKind>
+pub(crate) fn section_kind(keyword: &[u8]) -> Option<SectionKind>
     ensures { result ≡ spec.section_kind keyword.now }
 {
     if keyword == b"frontend".as_slice() {

@@ -1,13 +1,14 @@
 -- Tables within their limits can be opened.
-use Rattle.std.proofs.Common.{◌≡◌, ℕ, ◌<◌, ◌≤◌, ◌^◌, suc, zero, Option, Some, None, List, [], ◌∷◌, All, length, get_or, refl, sym, ap, ◌∙◌, arith, lit≤, IfSome}
-use Rattle.std.specs.List.{filter_map, cons_option}
+use Rattle.std.proofs.Common.{◌≡◌, ◌+◌, ℕ, Option, Some, None, List, [], ◌∷◌, length, cond, is_some, refl, ap, ◌∙◌, arith, lit≤, IfSome}
+use Rattle.std.specs.List.{cons_option, count_by}
 use Rattle.std.specs.Option.{option_map}
 use Rattle.std.proofs.lemmas.List.Elements.{All-cons, All-nil, All-head, All-tail}
+use Rattle.std.proofs.lemmas.List.Sums.{sum_by-cons}
 use Rattle.table_model.specs.Limits.{IsTableSpec}
 use Rattle.rule_model.specs.declared.sections.TableSpec.{TableSpec}
 use Rattle.rule_model.specs.declared.sections.Section.{Section}
 use Rattle.rule_model.specs.declared.sections.NamedSpec.{NamedSpec}
-use Rattle.rule_model.specs.Served.{IsTable, AreTables, AreTableSpecs, spec_of, table_of, tables_of}
+use Rattle.rule_model.specs.Served.{IsTable, AreTables, AreTableSpecs, spec_of, tables_of}
 
 spec_of-IsTableSpec : (table : TableSpec) → IsTable table → IsTableSpec (spec_of table)
 spec_of-IsTableSpec table h = record { kind = h.kind; size = h.size; expire = h.expire; max_refs = (lit≤ tt, lit≤ tt); life = lit≤ tt }
@@ -27,3 +28,17 @@ tables_of-AreTableSpecs (section ∷ sections) h =
 -- the same of tables that are these
 pub are_specs : (sections : List Section) (tables : List NamedSpec) → tables ≡ tables_of sections → AreTables sections → AreTableSpecs tables
 are_specs sections tables e h = rw e (tables_of-AreTableSpecs sections h)
+
+-- as many tables as sections with one
+counted_table : (section : Section) (table : Option TableSpec) (count : ℕ) (tables : List NamedSpec) → count ≡ length tables
+    → cond (is_some table) 1 0 + count ≡ length (cons_option (option_map (λ table. record { name = section.name; spec = spec_of table }) table) tables)
+counted_table section None count tables e = omega (arith, e)
+counted_table section (Some table) count tables e = omega (arith, e)
+
+length-tables_of : (sections : List Section) → count_by (λ (section : Section). is_some section.table) sections ≡ length (tables_of sections)
+length-tables_of [] = refl
+length-tables_of (section ∷ sections) =
+    sum_by-cons (λ (section : Section). cond (is_some section.table) 1 0) section sections ∙ counted_table section section.table _ (tables_of sections) (length-tables_of sections)
+
+pub counted_tables : (sections slice : List Section) (count : ℕ) → slice ≡ sections → count ≡ count_by (λ (section : Section). is_some section.table) slice → count ≡ length (tables_of sections)
+counted_tables sections slice count e counted = counted ∙ length-tables_of slice ∙ ap (λ s. length (tables_of s)) e

@@ -30,7 +30,7 @@ pub enum KeyExpression {
 
 impl KeyExpression {
     /// An equal expression.
-    pub fn copy(&self) -> Result<KeyExpression, NoMemory>
+    pub(crate) fn copy(&self) -> Result<KeyExpression, NoMemory>
         ensures { IfOk result (λ expression. expression ≡ self.now) }
     {
         match self {
@@ -63,7 +63,7 @@ pub enum Action {
 
 impl Action {
     /// An equal action.
-    pub fn copy(&self) -> Result<Action, NoMemory>
+    pub(crate) fn copy(&self) -> Result<Action, NoMemory>
         ensures { IfOk result (λ action. action ≡ self.now) }
     {
         match self {

@@ -53,7 +53,7 @@ pub enum Measure {
 
 impl Measure {
     /// An equal measure.
-    pub fn copy(&self) -> Result<Measure, NoMemory>
+    pub(crate) fn copy(&self) -> Result<Measure, NoMemory>
         ensures { IfOk result (λ measure. measure ≡ self.now) }
     {
         match self {

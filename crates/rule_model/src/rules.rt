@@ -38,7 +38,7 @@ fn copy_criteria(alloc: Global, criteria: &[Criterion]) -> Result<Sequence<Crite
 
 impl Term {
     /// An equal term.
-    pub fn copy(&self, alloc: Global) -> Result<Term, NoMemory>
+    pub(crate) fn copy(&self, alloc: Global) -> Result<Term, NoMemory>
         ensures { IfOk result (λ term. term ≡ self.now) }
     {
         Ok(Term {
@@ -82,7 +82,7 @@ fn copy_condition(
 
 impl Rule {
     /// An equal rule.
-    pub fn copy(&self, alloc: Global) -> Result<Rule, NoMemory>
+    pub(crate) fn copy(&self, alloc: Global) -> Result<Rule, NoMemory>
         ensures { IfOk result (λ rule. rule ≡ self.now) }
     {
         let action = self.action.copy()?;

@@ -1,7 +1,9 @@
 //! What is served of a configuration.
 
-ghost use Rattle.std.specs.Prelude.{◌≡◌, ◌≤◌, IfOk};
+ghost use Rattle.std.specs.Prelude.{◌≡◌, ◌≤◌, ◌-◌, ◌^◌, ◌∷◌, [], None, IfOk, is_some, length, min};
+ghost use Rattle.std.specs.List.{count_by, sum_by};
 ghost use Rattle.std.specs.Option.{option_map, option_and_then};
+ghost use Rattle.table_model.specs.Limits.{IsTableSpec};
 ghost use Rattle.rule_model.specs.declared.sections.Section.{Section};
 ghost use Rattle.rule_model.specs.Served as spec;
 ghost use Rattle.rule_model.specs.Served.{AreTables, AreTableSpecs, backend_named, proxy_of, server_of, setup_of, spec_of, tables_of};
@@ -115,7 +117,65 @@ fn copy_rules(alloc: Global, rules: &[Rule]) -> Result<Sequence<Rule>, NoMemory>
     Ok(copied)
 }
 
+/// How many sections have a table.
+fn count_tables(sections: &[Section]) -> usize
+    ensures { result ≡ count_by (λ section. is_some section.table) sections.now }
+{
+    let mut count = 0;
+    for section in sections {
+        if section.table.is_some() {
+            count += 1;
+        }
+    }
+    count
+}
+
+/// How many rules sections have, cut to 2^64 - 1.
+fn count_rules(sections: &[Section]) -> usize
+    ensures { result ≡ min (2 ^ 64 - 1) (sum_by (λ section. length section.rules) sections.now) }
+{
+    let mut count = 0usize;
+    for section in sections {
+        count = count.saturating_add(section.rules.len());
+    }
+    count
+}
+
+impl Setup {
+    /// One table, and no proxy.
+    pub fn of_table(alloc: Global, name: &[u8], spec: Spec) -> Result<Setup, NoMemory>
+        requires { IsTableSpec spec }
+        ensures setup { IfOk result (λ setup. setup ≡ record { tables = record { name = name.now; spec = spec } ∷ []; rules = []; bind = None; server = None; shards = 1 }) }
+        ensures limits { IfOk result (λ setup. AreTableSpecs setup.tables) }
+    {
+        let name = Sequence::from_slice(alloc, name)?;
+        let mut tables = Sequence::new(alloc);
+        tables.push(NamedSpec { name, spec })?;
+        Ok(Setup {
+            tables,
+            rules: Sequence::new(alloc),
+            bind: None,
+            server: None,
+            shards: 1,
+        })
+    }
+}
+
 impl Config {
+    /// How many tables are declared.
+    pub fn table_count(&self) -> usize
+        ensures { result ≡ length (tables_of self.now.sections) }
+    {
+        count_tables(self.sections.as_slice())
+    }
+
+    /// How many rules there are in all sections, cut to 2^64 - 1.
+    pub fn rule_count(&self) -> usize
+        ensures { result ≡ min (2 ^ 64 - 1) (sum_by (λ section. length section.rules) self.now.sections) }
+    {
+        count_rules(self.sections.as_slice())
+    }
+
     /// What is served: the tables of all sections, and the first section that listens for clients, each table in so
     /// many shards.
     #[tactic(auto, unfolding(crate::specs::Served::setup_of))]

@@ -1,2 +1,3 @@
 pub mod BraceLemmas
 pub mod SentenceLemmas
+pub mod ConditionLemmas

@@ -1,20 +1,17 @@
 -- The terms of a condition, one after another: what stands before the next `or`, and what stands behind it.
-use Rattle.std.proofs.Common.{◌≡◌, ◌∙◌, ℕ, ◌≤◌, Bool, true, false, cond, ◌||◌, Option, Some, None, Result, Ok, Err, List, [], ◌∷◌, ◌++◌, drop, codes, length, refl, sym, ap, arith, append_assoc, subst}
-use Rattle.std.specs.Prelude.{ok_or, option_map, option_and_then, IsErrAnd, if◌then◌else◌}
+use Rattle.std.proofs.Common.{◌≡◌, ◌∙◌, ℕ, ◌≤◌, Bool, true, false, cond, ◌||◌, Option, Some, None, Result, Ok, Err, List, [], ◌∷◌, drop, codes, length, refl, sym, ap, arith}
+use Rattle.std.specs.Prelude.{ok_or, option_map, option_and_then, if◌then◌else◌}
 use Rattle.std.specs.List.{slice_split, onto_first}
 use Rattle.std.specs.Str.{bytes_eq}
-use Rattle.rule_model.specs.Reading.{◌>>=◌, Fails}
+use Rattle.rule_model.specs.Reading.{◌>>=◌}
 use Rattle.rule_model.specs.declared.criteria.Acl.{Acl}
 use Rattle.rule_model.specs.declared.criteria.Criterion.{Criterion}
 use Rattle.rule_model.specs.declared.faults.Fault.{Fault}
 use Rattle.rule_model.specs.declared.faults.Fault.TheVariants.{BadCondition}
-use Rattle.rule_model.specs.declared.faults.ReadError.{ReadError}
-use Rattle.rule_model.specs.declared.faults.ReadError.TheVariants.{OutOfMemory, Wrong}
 use Rattle.rule_model.specs.declared.rules.Term.{Term}
-use Rattle.rule_terms.specs.declared.conditions.Conjunction.{Conjunction}
 use Rattle.rule_terms.specs.Names.{subject_of}
 use Rattle.rule_terms.specs.Conditions.{criterion_of, criterion_with, criteria_of, declarations_of, declared, condition_of, terms_of, each, in_braces, Place, First, Next, Negated, Braced, is_or, is_opening, is_closing, is_negated}
-use Rattle.rule_terms.specs.Sentences.{Begins, closed, with_word, braced, stands_for, signed, behind_not, term_of}
+use Rattle.rule_terms.specs.Sentences.{closed, with_word, braced, stands_for, signed, behind_not, term_of}
 
 abbrev pub first_of : List (List (List ℕ)) → List (List ℕ)
 first_of [] = []
@@ -62,7 +59,7 @@ others_later : (word : List ℕ) (words : List (List ℕ)) → is_or word ≡ fa
 others_later word words e = ap others_of (split_later word words e) ∙ others_of-onto word (slice_split is_or words)
 
 -- a condition from a place whose next word is no or
-rest_of-later : (own : List ℕ) (acls : List Acl) (place : Place) (word : List ℕ) (words : List (List ℕ)) → is_or word ≡ false
+pub rest_of-later : (own : List ℕ) (acls : List Acl) (place : Place) (word : List ℕ) (words : List (List ℕ)) → is_or word ≡ false
     → rest_of own acls place (word ∷ words) ≡ with_others own acls (terms_of own acls place (word ∷ first_of (slice_split is_or words))) (slice_split is_or words)
 rest_of-later own acls place word words e =
     ap (λ part. terms_of own acls place part >>= λ terms. each (terms_of own acls First) (others_of (slice_split is_or (word ∷ words))) >>= λ more. Ok (terms ∷ more)) (first_later word words e)
@@ -240,7 +237,7 @@ and_left words criteria = (criteria, words)
 abbrev as_term : Bool → List Criterion × List (List ℕ) → Term × List (List ℕ)
 as_term negated read = (record { negated = negated; criteria = read.0 }, read.1)
 
-abbrev goes_on : List ℕ → List Acl → Term × List (List ℕ) → Result (List (List Term)) Fault
+abbrev pub goes_on : List ℕ → List Acl → Term × List (List ℕ) → Result (List (List Term)) Fault
 goes_on own acls read = with_term read.0 (rest_of own acls Next read.1)
 
 by_inner : (own : List ℕ) (acls : List Acl) (negated : Bool) (inner : List (List ℕ) × List (List ℕ)) (read : Result Criterion Fault)
@@ -387,76 +384,3 @@ term_of-shorter own acls word words term left e = by_term (term_of own acls word
         let pair : Term × List (List ℕ) = (term, left) in
         let same : read ≡ pair = cc in
         omega (arith, shorter, ap (λ p. length p.1) same)
-
--- ---- a conjunction
-
--- where the next word of a conjunction stands that has these terms
-abbrev pub place_behind : List Term → Place
-place_behind [] = First
-place_behind (term ∷ terms) = Next
-
--- with these terms in front
-abbrev pub with_terms : List Term → Result (List (List Term)) Fault → Result (List (List Term)) Fault
-with_terms front (Ok []) = Ok []
-with_terms front (Ok (terms ∷ more)) = Ok ((front ++ terms) ∷ more)
-with_terms front (Err fault) = Err fault
-
--- the terms so far, and what goes on behind them
-abbrev pub conjoined : List ℕ → List Acl → List Term → List (List ℕ) → Result (List (List Term)) Fault
-conjoined own acls terms words = with_terms terms (rest_of own acls (place_behind terms) words)
-
-pub conjoined-none : (own : List ℕ) (acls : List Acl) (words : List (List ℕ)) → conjoined own acls [] words ≡ condition_of own acls words
-conjoined-none own acls words = by_read (rest_of own acls First words) ∙ sym (condition_of-rest own acls words)
-  where
-    by_read : (read : Result (List (List Term)) Fault) → with_terms [] read ≡ read
-    by_read (Ok []) = refl
-    by_read (Ok (terms ∷ more)) = refl
-    by_read (Err fault) = refl
-
-with_terms-more : (front : List Term) (term : Term) (read : Result (List (List Term)) Fault) → with_terms front (with_term term read) ≡ with_terms (front ++ term ∷ []) read
-with_terms-more front term (Ok []) = refl
-with_terms-more front term (Ok (terms ∷ more)) = ap (λ ts. Ok (ts ∷ more)) (sym (append_assoc front (term ∷ []) terms))
-with_terms-more front term (Err fault) = refl
-
--- behind a first term another may follow
-place_behind-more : (front : List Term) (term : Term) → place_behind (front ++ term ∷ []) ≡ Next
-place_behind-more [] term = refl
-place_behind-more (other ∷ front) term = refl
-
--- a term that has to follow, or may, is the same
-rest_of-either : (own : List ℕ) (acls : List Acl) (front : List Term) (word : List ℕ) (words : List (List ℕ)) → is_or word ≡ false
-    → rest_of own acls (place_behind front) (word ∷ words) ≡ rest_of own acls First (word ∷ words)
-rest_of-either own acls [] word words e = refl
-rest_of-either own acls (term ∷ front) word words e = rest_of-later own acls Next word words e ∙ sym (rest_of-later own acls First word words e)
-
--- a term more was read
-pub conjoined-term : (own : List ℕ) (acls : List Acl) (front new : List Term) (word : List ℕ) (left mid rest : List (List ℕ)) (term : Term) → left ≡ word ∷ mid → is_or word ≡ false
-    → term_of own acls word mid ≡ Ok (term, rest) → new ≡ front ++ term ∷ [] → conjoined own acls new rest ≡ conjoined own acls front left
-conjoined-term own acls front new word left mid rest term is e read more =
-    ap (λ terms. conjoined own acls terms rest) more
-    ∙ ap (λ place. with_terms (front ++ term ∷ []) (rest_of own acls place rest)) (place_behind-more front term)
-    ∙ sym (with_terms-more front term (rest_of own acls Next rest))
-    ∙ sym (ap (λ read. with_terms front (read >>= goes_on own acls)) read)
-    ∙ sym (ap (with_terms front) (rest_of-either own acls front word mid e ∙ rest_of-term own acls word mid e))
-    ∙ sym (ap (conjoined own acls front) is)
-
--- a term was refused
-pub conjoined-refused : (own : List ℕ) (acls : List Acl) (front : List Term) (word : List ℕ) (left mid rest words : List (List ℕ)) (error : ReadError) (result : Result Conjunction ReadError)
-    → left ≡ word ∷ mid → is_or word ≡ false → Fails error (term_of own acls word mid) → conjoined own acls front left ≡ condition_of own acls words
-    → IsErrAnd result (λ told. told ≡ error) → Begins own acls result rest words
-conjoined-refused own acls front word left mid rest words error (Ok read) is e fails gives same = absurd same
-conjoined-refused own acls front word left mid rest words OutOfMemory (Err told) is e fails gives same = subst (λ error. Fails error (condition_of own acls words)) (sym same) tt
-conjoined-refused own acls front word left mid rest words (Wrong fault) (Err told) is e fails gives same =
-    subst (λ error. Fails error (condition_of own acls words)) (sym same) (
-    sym gives
-    ∙ ap (conjoined own acls front) is
-    ∙ ap (with_terms front) (rest_of-either own acls front word mid e ∙ rest_of-term own acls word mid e)
-    ∙ ap (λ read. with_terms front (read >>= goes_on own acls)) fails
-    )
-
--- ---- a disjunction
-
--- what was read, with these conjunctions in front
-abbrev pub behind : List (List Term) → Result (List (List Term)) Fault → Result (List (List Term)) Fault
-behind front (Ok more) = Ok (front ++ more)
-behind front (Err fault) = Err fault

@@ -25,7 +25,7 @@ use Rattle.table_model.proofs.StepLemmas.{step_tickets, step_free}
 use Rattle.table_model.proofs.TestLemmas.{and-right}
 use Rattle.table_model.proofs.EntryLemmas.{distinct-filter, distinct-push}
 use Rattle.table_cli.specs.Answers.{Answers, AsksOf, Does, Says as SaysForm, commands_of, place_of}
-use Rattle.command_text.specs.Form.{Form, Everything, OneKey, Compare, Nothing, Unknown, Show, Clear, Set, form_of}
+use Rattle.command_text.specs.Form.{Form, Request, Everything, OneKey, Compare, Nothing, Unknown, Tables, Of, Show, Clear, Set, form_of}
 use Rattle.command_text.specs.Request.{Asks}
 use Rattle.command_text.specs.Seen.{words_of}
 use Rattle.table_cli.specs.Tables.{NamedState}
@@ -36,7 +36,7 @@ use Rattle.script.specs.Script.{Line, Empty, Bad, Commands, Open, Close, LineSay
 use Rattle.script.specs.Start.{empty_tables, start}
 use Rattle.script.specs.Visit.{Arrives, ArrivesFirst, IsOutFirst, LeavesFirst, Tracks, TracksBy}
 use Rattle.script.specs.declared.connections.Connection.{Connection}
-use Rattle.script.specs.declared.setup.NamedSpec.{NamedSpec}
+use Rattle.rule_model.specs.declared.sections.NamedSpec.{NamedSpec}
 use Rattle.script.specs.declared.visit.Verdict.{Verdict}
 use Rattle.script.specs.declared.visit.Verdict.TheVariants.{Accepted, Rejected}
 use Rattle.script.proofs.VisitLemmas.{LeavesReferences, counts_keep, step_keeps}
@@ -48,36 +48,33 @@ abbrev tickets_in : NamedState → List (Ticket × Key)
 tickets_in table = table.state.tickets
 
 -- the event of a command makes no reference, and gives none back
-asks_leaves : (kind : KeyType) (moment : ℕ) (form : Form) (event : Event) → Asks kind moment form (Ok event) → LeavesReferences event
-asks_leaves kind moment Nothing event asks = absurd asks
-asks_leaves kind moment Unknown event asks = cc
-asks_leaves kind moment (Show table choice) event asks = subst LeavesReferences (sym asks.2) tt
-asks_leaves kind moment (Clear table (OneKey text)) event asks = subst LeavesReferences (sym asks.2) tt
-asks_leaves kind moment (Clear table Everything) event asks = subst LeavesReferences (sym asks.2) tt
-asks_leaves kind moment (Clear table (Compare name op value)) event asks = subst LeavesReferences (sym asks.2) tt
-asks_leaves kind moment (Set table text pairs) event asks = subst LeavesReferences (sym asks.4) tt
+asks_leaves : (kind : KeyType) (moment : ℕ) (request : Request) (event : Event) → Asks kind moment request (Ok event) → LeavesReferences event
+asks_leaves kind moment (Show choice) event asks = subst LeavesReferences (sym asks.2) tt
+asks_leaves kind moment (Clear (OneKey text)) event asks = subst LeavesReferences (sym asks.2) tt
+asks_leaves kind moment (Clear Everything) event asks = subst LeavesReferences (sym asks.2) tt
+asks_leaves kind moment (Clear (Compare name op value)) event asks = subst LeavesReferences (sym asks.2) tt
+asks_leaves kind moment (Set text pairs) event asks = subst LeavesReferences (sym asks.4) tt
 
-does_keep : (kind : KeyType) (moment : ℕ) (form : Form) (table : NamedState) (asked : Result Event Message) (text : List ℕ) (state : State) → Asks kind moment form asked → Does table asked text state → state.tickets ≡ table.state.tickets
-does_keep kind moment form table (Ok event) text state asks does = elim does [
-  | inl replied ↦ step_keeps table.state event replied.0 state (asks_leaves kind moment form event asks) replied.1
+does_keep : (kind : KeyType) (moment : ℕ) (request : Request) (table : NamedState) (asked : Result Event Message) (text : List ℕ) (state : State) → Asks kind moment request asked → Does table asked text state → state.tickets ≡ table.state.tickets
+does_keep kind moment request table (Ok event) text state asks does = elim does [
+  | inl replied ↦ step_keeps table.state event replied.0 state (asks_leaves kind moment request event asks) replied.1
   | inr refused ↦ ap (λ (s : State). s.tickets) refused.3
 ]
-does_keep kind moment form table (Err message) text state asks does = ap (λ (s : State). s.tickets) does.1
+does_keep kind moment request table (Err message) text state asks does = ap (λ (s : State). s.tickets) does.1
 
-asks_of_keeps : (moment : ℕ) (form : Form) (place : Option ℕ) (old : List NamedState) (text : List ℕ) (new : List NamedState) → AsksOf moment form place old text new → map tickets_in new ≡ map tickets_in old
-asks_of_keeps moment form None old text new asks = ap (λ ts. map tickets_in ts) asks.1
-asks_of_keeps moment form (Some place) old text new asks =
+asks_of_keeps : (moment : ℕ) (request : Request) (place : Option ℕ) (old : List NamedState) (text : List ℕ) (new : List NamedState) → AsksOf moment request place old text new → map tickets_in new ≡ map tickets_in old
+asks_of_keeps moment request None old text new asks = ap (λ ts. map tickets_in ts) asks.1
+asks_of_keeps moment request (Some place) old text new asks =
     let table : NamedState = asks.0 in
-    let kept : asks.1.tickets ≡ table.state.tickets = does_keep table.state.spec.kind moment form table asks.2 text asks.1 asks.4 asks.5 in
+    let kept : asks.1.tickets ≡ table.state.tickets = does_keep table.state.spec.kind moment request table asks.2 text asks.1 asks.4 asks.5 in
     ap (λ ts. map tickets_in ts) asks.6
     ∙ map-set_same tickets_in old place (record { name = table.name; state = asks.1 }) table (kept ∙ ap tickets_in asks.3)
 
 form_keeps : (moment : ℕ) (form : Form) (old : List NamedState) (text : List ℕ) (new : List NamedState) → SaysForm moment form old text new → map tickets_in new ≡ map tickets_in old
 form_keeps moment Nothing old text new says = ap (λ ts. map tickets_in ts) says.1
 form_keeps moment Unknown old text new says = ap (λ ts. map tickets_in ts) says.1
-form_keeps moment (Show name choice) old text new says = asks_of_keeps moment (Show name choice) (place_of name old) old text new says
-form_keeps moment (Clear name choice) old text new says = asks_of_keeps moment (Clear name choice) (place_of name old) old text new says
-form_keeps moment (Set name key pairs) old text new says = asks_of_keeps moment (Set name key pairs) (place_of name old) old text new says
+form_keeps moment Tables old text new says = ap (λ ts. map tickets_in ts) says.1
+form_keeps moment (Of name request) old text new says = asks_of_keeps moment request (place_of name old) old text new says
 
 commands_keep : (moment : ℕ) (old : List NamedState) (commands : List (List ℕ)) (text : List ℕ) (new : List NamedState) → Chain (Answers moment) old commands text new → map tickets_in new ≡ map tickets_in old
 commands_keep moment old [] text new chain = ap (λ ts. map tickets_in ts) chain.1

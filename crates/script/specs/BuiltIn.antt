@@ -2,7 +2,7 @@
 use Rattle.std.specs.Prelude.{◌^◌, false, None, List, [], ◌∷◌, codes}
 use Rattle.stick_key.specs.declared.kind.KeyType.TheVariants.{Ip}
 use Rattle.stored_data.specs.declared.datum.Datum.TheVariants.{Gpc0}
-use Rattle.script.specs.declared.setup.NamedSpec.{NamedSpec}
+use Rattle.rule_model.specs.declared.sections.NamedSpec.{NamedSpec}
 
 -- listen t
 --     stick-table type ip size 100 store gpc0

@@ -4,7 +4,7 @@ use Rattle.line_service.specs.Service.{ServesAll}
 use Rattle.script.specs.Connections.{AreHeld, ScriptState}
 use Rattle.script.specs.Script.{Says}
 use Rattle.script.specs.Start.{start}
-use Rattle.script.specs.declared.setup.NamedSpec.{NamedSpec}
+use Rattle.rule_model.specs.declared.sections.NamedSpec.{NamedSpec}
 
 -- wherever the lines of a script lead to from empty tables: in each table the references that are out are exactly those that open connections hold, each once
 abbrev pub ReferencesLaw : Type 0

@@ -148,18 +148,18 @@ LineSays (Commands moment commands) old text new = AnswersLine moment old.tables
 LineSays (Open moment id address) old text new = Opens moment id address old text new
 LineSays (Close moment id bytes_in bytes_out) old text new = Closes moment id bytes_in bytes_out old text new
 
--- what a line writes stops behind a front of what it could have written
-abbrev pub LineStops : Line → ScriptState → List ℕ → Type 0
-LineStops Empty old text = ⊥
-LineStops Bad old text = IsPrefix text bad_line
-LineStops (Commands moment commands) old text = (count : ℕ) × StopsIn (Answers moment) old.tables (commands_of commands) count text
-LineStops (Open moment id address) old text = (whole : List ℕ) × (new : ScriptState) × Opens moment id address old whole new × IsPrefix text whole
-LineStops (Close moment id bytes_in bytes_out) old text = (whole : List ℕ) × (new : ScriptState) × Closes moment id bytes_in bytes_out old whole new × IsPrefix text whole
+-- what a line writes stops behind a front of what it could have written as it led to `new`
+abbrev pub LineStops : Line → ScriptState → List ℕ → ScriptState → Type 0
+LineStops Empty old text new = ⊥
+LineStops Bad old text new = IsPrefix text bad_line × (new ≡ old)
+LineStops (Commands moment commands) old text new = (count : ℕ) × StopsIn (Answers moment) old.tables (commands_of commands) count text new.tables × (new.connections ≡ old.connections)
+LineStops (Open moment id address) old text new = (whole : List ℕ) × Opens moment id address old whole new × IsPrefix text whole
+LineStops (Close moment id bytes_in bytes_out) old text new = (whole : List ℕ) × Closes moment id bytes_in bytes_out old whole new × IsPrefix text whole
 
 -- from `old`, a line may write this text and leave `new`
 abbrev pub Says : ScriptState → Option (List ℕ) → List ℕ → ScriptState → Type 0
 Says old line text new = LineSays (line_of line) old text new
 
--- from `old`, what a line writes may stop behind this text
-abbrev pub Stops : ScriptState → Option (List ℕ) → List ℕ → Type 0
-Stops old line text = LineStops (line_of line) old text
+-- from `old`, what a line writes may stop behind this text and leave `new`
+abbrev pub Stops : ScriptState → Option (List ℕ) → List ℕ → ScriptState → Type 0
+Stops old line text new = LineStops (line_of line) old text new

@@ -2,20 +2,14 @@
 
 ghost use Rattle.std.specs.Prelude.{◌≡◌, IfOk};
 ghost use Rattle.script.specs.BuiltIn.{built_in as specified};
-ghost use Rattle.script.specs.Start.{AreTableSpecs};
+ghost use Rattle.rule_model.specs.Served.{AreTableSpecs};
 
-use crate::Setup;
+use rule_model::{LIFE, MAX_REFS, Setup};
 use sequence::NoMemory;
 use std::alloc::Global;
 use stick_key::KeyType;
 use stick_table::Spec;
 use stored_data::{Column, Datum, StoredSet};
-
-/// The greatest number of outstanding references of a table's shard.
-pub const MAX_REFS: u32 = 65_536;
-
-/// The life of a table's shard: what its events and its outstanding references come to at most.
-pub const LIFE: u64 = 1 << 62;
 
 /// The setup of a proxy without a configuration file: one table `t` for 100 IPv4 addresses, which stores gpc0.
 pub fn built_in(alloc: Global) -> Result<Setup, NoMemory>

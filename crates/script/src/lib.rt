@@ -11,6 +11,6 @@ mod setup;
 mod short_text;
 mod visit;
 
-pub use built_in::{LIFE, MAX_REFS, built_in as built_in_setup};
+pub use built_in::built_in as built_in_setup;
 pub use replay::{FaultKind, ReplayFault, replay_script};
-pub use setup::{NamedSpec, Setup};
+pub use rule_model::{LIFE, MAX_REFS, NamedSpec, Setup};

@@ -6,12 +6,14 @@ ghost use Rattle.line_service.specs.Service.{ServesAll, StopsAfter};
 ghost use Rattle.line_service.specs.declared.service.TheConstants.{MAX_TURNS};
 ghost use Rattle.script.specs.Connections.{ScriptState};
 ghost use Rattle.script.specs.Script.{Says, Stops};
-ghost use Rattle.script.specs.Start.{AreTableSpecs, start};
+ghost use Rattle.rule_model.specs.Served.{AreTableSpecs};
+ghost use Rattle.script.specs.Start.{start};
 
-use crate::Setup;
 use crate::server::ScriptServer;
+use crate::setup::open_tables;
 use byte_ports::{Sink, Source};
 use line_service::{LineFaultKind, serve_lines};
+use rule_model::Setup;
 use std::alloc::Global;
 use stick_table::PlainTable;
 
@@ -47,9 +49,9 @@ pub fn replay_script<R: Source, W: Sink>(
         × Grows W.tells (W.written writer.old) (W.written writer.new) output
         × ServesAll Says (start setup.now.tables) script output new) }
     ensures end { OnOk result (IsAtEnd R.tells (R.left reader.new)) }
-    ensures fault { IfErr result (λ fault. (script output : List ℕ) × Takes R.tells (R.left reader.old) (R.left reader.new) script
+    ensures fault { IfErr result (λ fault. (script output : List ℕ) × (new : ScriptState) × Takes R.tells (R.left reader.old) (R.left reader.new) script
         × Grows W.tells (W.written writer.old) (W.written writer.new) output
-        × StopsAfter Says Stops (start setup.now.tables) script fault.done output) }
+        × StopsAfter Says Stops (start setup.now.tables) script fault.done output new) }
     // Each fault comes only where that failed.
     ensures read { IfErr result (λ fault. fault.kind ≡ FaultKind.ReadFault → (IsOneMore (R.failures reader.old) (R.failures reader.new)
         ⊎ ((script : List ℕ) × Takes R.tells (R.left reader.old) (R.left reader.new) script × (MAX_TURNS ≤ length script)))) }
@@ -57,7 +59,7 @@ pub fn replay_script<R: Source, W: Sink>(
     ensures memory { IfErr result (λ fault. fault.kind ≡ FaultKind.Memory → (fault.done ≡ 0) × Takes R.tells (R.left reader.old) (R.left reader.new) []
         × Grows W.tells (W.written writer.old) (W.written writer.new) []) }
 {
-    let tables = match setup.open_tables::<PlainTable>(alloc) {
+    let tables = match open_tables::<PlainTable>(alloc, setup) {
         Ok(tables) => tables,
         Err(_) => {
             return Err(ReplayFault {

@@ -2,7 +2,7 @@
 
 ghost use Rattle.std.specs.Prelude.{IfOk};
 ghost use Rattle.table_model.specs.Limits.{IsKeyType};
-ghost use Rattle.script.specs.Start.{AreTableSpecs};
+ghost use Rattle.rule_model.specs.Served.{AreTableSpecs};
 
 use byte_ports::{MemorySink, MemorySource};
 use script::{LIFE, MAX_REFS, Setup, replay_script};

@@ -4,7 +4,7 @@ ghost use Rattle.std.specs.Prelude.{◌≡◌, ◌≤◌, ◌<◌, ◌^◌, IfOk
 ghost use Rattle.stored_data.specs.Data.{is_rate};
 ghost use Rattle.stored_data.specs.Stored.{IsPeriod};
 ghost use Rattle.table_model.specs.Limits.{IsKeyType};
-ghost use Rattle.script.specs.Start.{AreTableSpecs};
+ghost use Rattle.rule_model.specs.Served.{AreTableSpecs};
 
 use byte_ports::{MemorySink, MemorySource};
 use script::{LIFE, MAX_REFS, Setup, replay_script};
@@ -200,6 +200,10 @@ fn without_a_table_connections_are_accepted(rt: HostRuntime) -> Result<(), Fail>
         b"open 1 accept\nconnection already open\nclose 1\nno such connection\nUnknown command.\n\n";
     let setup = Setup {
         tables: Sequence::new(rt.alloc()),
+        rules: Sequence::new(rt.alloc()),
+        bind: None,
+        server: None,
+        shards: 1,
     };
     assert!(rt; writes(rt.alloc(), &setup, SCRIPT, WANTED)?);
     Ok(())

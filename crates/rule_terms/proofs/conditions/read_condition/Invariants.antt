@@ -1,7 +1,7 @@
 use Rattle.std.proofs.Common.{◌≡◌, length}
 use Rattle.line_text.specs.Words.{words_left}
 use Rattle.rule_terms.specs.Conditions.{condition_of}
-use Rattle.rule_terms.proofs.SentenceLemmas.{behind}
+use Rattle.rule_terms.proofs.ConditionLemmas.{behind}
 use Rattle.rule_terms.proofs.conditions.read_condition.Given as goal
 
 -- the conjunctions so far, and those that are left

@@ -1,6 +1,7 @@
 use Rattle.std.proofs.Common.{◌∙◌, length, ap, arith, rules}
 use Rattle.line_text.specs.Words.{words_left}
-use Rattle.rule_terms.proofs.SentenceLemmas.{conjoined, conjoined-none, conjoined-term, conjoined-refused, term_of-shorter}
+use Rattle.rule_terms.proofs.ConditionLemmas.{conjoined, conjoined-none, conjoined-term, conjoined-refused}
+use Rattle.rule_terms.proofs.SentenceLemmas.{term_of-shorter}
 use Rattle.rule_terms.proofs.conditions.read_conjunction.Goals as goal
 
 pub loop-word-init : goal.loop-word-init

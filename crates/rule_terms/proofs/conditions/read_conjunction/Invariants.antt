@@ -1,7 +1,7 @@
 use Rattle.std.proofs.Common.{◌≡◌, ◌≤◌, length}
 use Rattle.line_text.specs.Words.{words_left}
 use Rattle.rule_terms.specs.Conditions.{condition_of}
-use Rattle.rule_terms.proofs.SentenceLemmas.{conjoined}
+use Rattle.rule_terms.proofs.ConditionLemmas.{conjoined}
 use Rattle.rule_terms.proofs.conditions.read_conjunction.Given as goal
 
 -- the terms so far and the words that are left give the whole condition

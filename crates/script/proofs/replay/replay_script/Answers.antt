@@ -9,7 +9,7 @@ use Rattle.script.proofs.replay.replay_script.Goals as goal
 pub returns-in-Err-clause-fault : goal.returns-in-Err-clause-fault
 returns-in-Err-clause-fault g c =
     let begin = start c.args.setup.now.tables in
-    ([], [], λ shown. refl, λ shown. sym (append-nil _), stops_before Says Stops begin begin [] [] (Some []) 0 [] (progress_none Says begin (Some []) refl))
+    ([], [], begin, λ shown. refl, λ shown. sym (append-nil _), stops_before Says Stops begin begin [] [] (Some []) 0 [] (progress_none Says begin (Some []) refl))
 
 pub serve_lines-requires : goal.serve_lines-requires
 serve_lines-requires g c =

@@ -1,6 +1,6 @@
 use Rattle.std.proofs.Common.{◌≡◌, ◌≤◌, ◌+◌, ℕ, List, length, ap, arith}
-use Rattle.line_text.specs.Parts.{parts, is_byte, is_line_end}
-use Rattle.config_words.specs.Lines.{without_crs, lines_of}
+use Rattle.line_text.specs.Parts.{parts, is_line_end}
+use Rattle.config_words.specs.Lines.{without_crs}
 use Rattle.config_words.proofs.LineLemmas.{few_lines}
 use Rattle.config_words.proofs.lines.Lines.new.Goals as goal
 

@@ -1,5 +1,4 @@
-use Rattle.std.proofs.Common.{◌≡◌, ◌<◌, ◌∙◌, List, ◌∷◌, ℕ, length, ap, arith}
-use Rattle.line_text.specs.Words.{words_left}
+use Rattle.std.proofs.Common.{◌≡◌, ◌<◌, ◌∙◌, List, ◌∷◌, length, ap, arith}
 use Rattle.config_words.specs.Table.{pairs_of}
 use Rattle.config_words.proofs.table.Settings.set_all.Goals as goal
 
