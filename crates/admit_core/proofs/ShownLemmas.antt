@@ -1,0 +1,148 @@
+-- No record keeps a value of the current connections, so a look shows the references of its key.
+use Rattle.std.proofs.Common.{◌≡◌, ◌∙◌, ℕ, ◌==◌, true, false, cond, not, List, [], ◌∷◌, filter, map, Option, Some, None, unwrap_or, refl, sym, ap, subst, inl, inr}
+use Rattle.std.specs.Prelude.{find}
+use Rattle.std.specs.Option.{option_map, option_map_or}
+use Rattle.std.specs.Cmp.Lexicographic.{nat_list_cmp_total}
+use Rattle.stored_data.specs.Acts.{acted, changed_field, content_of, is_kept, put_content, shown, with_value, zero_field, zero_of}
+use Rattle.stored_data.specs.Data.{place}
+use Rattle.stored_data.specs.Stored.{is_column}
+use Rattle.stored_data.specs.declared.act.Act.{Act}
+use Rattle.stored_data.specs.declared.act.Act.TheVariants.{Connection}
+use Rattle.stored_data.specs.declared.datum.Datum.{Datum}
+use Rattle.stored_data.specs.declared.datum.Datum.TheVariants.{ConnCur}
+use Rattle.stored_data.specs.declared.stored_set.Column.{Column}
+use Rattle.stored_data.specs.declared.values.Field.{Field}
+use Rattle.table_model.specs.Key.{Key, key_cmp}
+use Rattle.table_model.specs.Laws.{values_after}
+use Rattle.table_model.specs.Limits.{moment_of}
+use Rattle.table_model.specs.Run.{Run}
+use Rattle.table_model.specs.State.{State, empty_table, key_of, record_at, refs, row, stays, zero_record}
+use Rattle.table_model.specs.Step.{Outcome, Step, begun, found_or_zero, get, put_pairs}
+use Rattle.table_model.specs.declared.events.Event.{Event}
+use Rattle.table_model.specs.declared.events.Event.TheVariants.{Get, Track, Look, Count, Release, Put, Clear, ClearWhere, List as ListRows, Expire}
+use Rattle.table_model.specs.declared.replies.Reply.{Reply}
+use Rattle.table_model.specs.declared.replies.Reply.TheVariants.{Absent, Row as ARow}
+use Rattle.table_model.specs.declared.rows.Cell.{Cell}
+use Rattle.table_model.specs.declared.rows.Record.{Record}
+use Rattle.table_model.specs.declared.rows.Row.{Row}
+use Rattle.table_model.specs.declared.specification.Spec.{Spec}
+use Rattle.table_model.proofs.EntryLemmas.{lookup-filter-cases}
+use Rattle.table_model.proofs.FateLemmas.{Fate, gone, same, made, step_fate}
+use Rattle.table_model.proofs.LegalLemmas.{IsOrderly, empty_legal, orderly-from_legal, step_orderly}
+use Rattle.table_model.proofs.StepLemmas.{step_spec}
+use Rattle.rule_eval.proofs.ShownLemmas.{shown_lem}
+use Rattle.rule_eval.specs.Readings.{value_in}
+use Rattle.admit_core.specs.Shown.{LookLaw}
+
+-- ---- data without a datum
+
+acted_none : (fields : List Field) (now : ℕ) (act : Act) (datum : Datum) → content_of fields datum ≡ None → content_of (acted fields now act) datum ≡ None
+acted_none [] now act datum h = refl
+acted_none (field ∷ fields) now act datum h =
+    elim (place field.datum == place datum) as (λ b. option_map (λ (f : Field). f.content) (cond b (Some field) (find (λ (f : Field). place f.datum == place datum) fields)) ≡ None
+    → option_map (λ (f : Field). f.content) (cond b (Some (changed_field now act field)) (find (λ (f : Field). place f.datum == place datum) (acted fields now act))) ≡ None) [
+      | true ↦ λ h. cc
+      | false ↦ λ h. acted_none fields now act datum h
+    ] h
+
+put_none : (fields : List Field) (other datum : Datum) (value : ℕ) → content_of fields datum ≡ None → content_of (with_value fields other value) datum ≡ None
+put_none [] other datum value h = refl
+put_none (field ∷ fields) other datum value h =
+    elim (place field.datum == place other) as (λ c. content_of (cond c (record { datum = field.datum; content = put_content value field.content }) field ∷ with_value fields other value) datum ≡ None) [
+      | true ↦ elim (place field.datum == place datum) as (λ b. option_map (λ (f : Field). f.content) (cond b (Some field) (find (λ (f : Field). place f.datum == place datum) fields)) ≡ None
+          → option_map (λ (f : Field). f.content) (cond b (Some (record { datum = field.datum; content = put_content value field.content })) (find (λ (f : Field). place f.datum == place datum) (with_value fields other value))) ≡ None) [
+            | true ↦ λ h. cc
+            | false ↦ λ h. put_none fields other datum value h
+          ] h
+      | false ↦ elim (place field.datum == place datum) as (λ b. option_map (λ (f : Field). f.content) (cond b (Some field) (find (λ (f : Field). place f.datum == place datum) fields)) ≡ None
+          → option_map (λ (f : Field). f.content) (cond b (Some field) (find (λ (f : Field). place f.datum == place datum) (with_value fields other value))) ≡ None) [
+            | true ↦ λ h. cc
+            | false ↦ λ h. put_none fields other datum value h
+          ] h
+    ]
+
+puts_none : (pairs : List Cell) (fields : List Field) (datum : Datum) → content_of fields datum ≡ None → content_of (put_pairs pairs fields) datum ≡ None
+puts_none [] fields datum h = h
+puts_none (pair ∷ pairs) fields datum h = puts_none pairs (with_value fields pair.datum pair.value) datum (put_none fields pair.datum datum pair.value h)
+
+-- a new record has none of conn_cur
+zero_none : (columns : List Column) → content_of (zero_of columns) ConnCur ≡ None
+zero_none [] = refl
+zero_none (column ∷ columns) =
+    elim (place column.datum == place ConnCur) as (λ b. (place column.datum == place ConnCur) ≡ b → content_of (map zero_field (cond (not b) (column ∷ filter is_kept columns) (filter is_kept columns))) ConnCur ≡ None) [
+      | true ↦ λ is. zero_none columns
+      | false ↦ λ is. ap (λ b. option_map (λ (f : Field). f.content) (cond b (Some (zero_field column)) (find (λ (f : Field). place f.datum == place ConnCur) (zero_of columns)))) is ∙ zero_none columns
+    ] refl
+
+values_none : (clock : ℕ) (event : Event) (values : List Field) → content_of values ConnCur ≡ None → content_of (values_after clock event values) ConnCur ≡ None
+values_none clock (Track now key) values h = acted_none values clock Connection ConnCur h
+values_none clock (Count now ticket act) values h = acted_none values clock act ConnCur h
+values_none clock (Put now key pairs) values h = puts_none pairs values ConnCur h
+values_none clock (Get now key) values h = h
+values_none clock (Look now ticket) values h = h
+values_none clock (Release now ticket) values h = h
+values_none clock (Clear now key) values h = h
+values_none clock (ClearWhere now choice) values h = h
+values_none clock (ListRows now choice) values h = h
+values_none clock (Expire now) values h = h
+
+-- ---- runs
+
+-- no record has any of conn_cur
+abbrev KeepsNone : State → Type 0
+KeepsNone state = (key : Key) (found : Record) → record_at key state.records ≡ Some found → content_of found.values ConnCur ≡ None
+
+begun_none : (old : State) (now : ℕ) → IsOrderly old → KeepsNone old → KeepsNone (begun old now)
+begun_none old now orderly keeps key found is =
+    elim (lookup-filter-cases key_cmp nat_list_cmp_total key (stays (begun old now).clock old.tickets) old.records orderly.sound.keys_rise) [
+      | inl stays_there ↦ keeps key found (sym stays_there ∙ is)
+      | inr left_out ↦ cc
+    ]
+
+found_none : (state : State) (key : Key) (o : Option Record) → record_at key state.records ≡ o → KeepsNone state → content_of (unwrap_or o (zero_record state.spec.columns)).values ConnCur ≡ None
+found_none state key None is keeps = zero_none state.spec.columns
+found_none state key (Some found) is keeps = keeps key found is
+
+step_none : (old : State) (event : Event) (reply : Reply) (new : State) → IsOrderly old → KeepsNone old → Step old event reply new → KeepsNone new
+step_none old event reply new orderly keeps step key found is = go (step_fate old event reply new key orderly step)
+  where
+    go : Fate old (begun old (moment_of event)) event reply key (record_at key new.records) → content_of found.values ConnCur ≡ None
+    go (gone free none) = cc
+    go (same now untold) = begun_none old (moment_of event) orderly keeps key found (sym now ∙ is)
+    go (made after now of_it told values) =
+        let begins : State = begun old (moment_of event) in
+        let one : found ≡ after = cc in
+        ap (λ (r : Record). content_of r.values ConnCur) one ∙ ap (λ vs. content_of vs ConnCur) values
+        ∙ values_none begins.clock event (found_or_zero begins key).values (found_none begins key (record_at key begins.records) refl (begun_none old (moment_of event) orderly keeps))
+
+record Keeps (spec : Spec) (state : State) : Type 0 where
+  pub orderly : IsOrderly state
+  pub none : KeepsNone state
+  pub same_spec : state.spec ≡ spec
+
+run_none : (spec : Spec) (old : State) (events : List Event) (replies : List Reply) (new : State) → Keeps spec old → Run old events replies new → Keeps spec new
+run_none spec old [] [] new keeps run = subst (Keeps spec) (sym run) keeps
+run_none spec old [] (r ∷ rs) new keeps run = absurd run
+run_none spec old (e ∷ es) [] new keeps run = absurd run
+run_none spec old (e ∷ es) (r ∷ rs) new keeps run =
+    run_none spec run.0 es rs new (record { orderly = step_orderly old e r run.0 keeps.orderly run.1; none = step_none old e r run.0 keeps.orderly keeps.none run.1; same_spec = step_spec old e r run.0 run.1 ∙ keeps.same_spec }) run.2
+
+-- ---- looks
+
+shows : (state : State) (key : Key) (o : Option Record) (r : Row) → is_column state.spec.columns ConnCur ≡ true → KeepsNone state → record_at key state.records ≡ o → option_map_or (λ found. ARow (row state key found)) o Absent ≡ ARow r → value_in r.cells ConnCur ≡ r.refs
+shows state key None r stored keeps is h = cc
+shows state key (Some found) r stored keeps is h =
+    let shown_row : row state key found ≡ r = cc in
+    subst (λ (s : Row). value_in s.cells ConnCur ≡ s.refs) shown_row
+    (shown_lem state.spec.columns state.clock (refs key state.tickets) key found stored (ap (option_map (shown state.clock)) (keeps key found is)))
+
+looked : (state : State) (o : Option Key) (r : Row) → is_column state.spec.columns ConnCur ≡ true → KeepsNone state → (option_map_or (get state) o (Absent, state)).0 ≡ ARow r → value_in r.cells ConnCur ≡ r.refs
+looked state None r stored keeps h = cc
+looked state (Some key) r stored keeps h = shows state key (record_at key state.records) r stored keeps refl h
+
+pub look_law : LookLaw
+look_law spec events replies state now ticket r later stored run step =
+    let start : Keeps spec (empty_table spec) = record { orderly = orderly-from_legal (empty_table spec) (empty_legal spec); none = λ key found is. cc; same_spec = refl } in
+    let keeps : Keeps spec state = run_none spec (empty_table spec) events replies state start run in
+    let begins : State = begun state now in
+    looked begins (key_of ticket state.tickets) r (ap (λ (s : Spec). is_column s.columns ConnCur) keeps.same_spec ∙ stored) (begun_none state now keeps.orderly keeps.none) (ap (λ (o : Outcome). o.0) step.gives)
