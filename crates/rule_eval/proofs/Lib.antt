@@ -1,6 +1,9 @@
 pub mod Standing
+pub mod Ready
+pub mod Asking
 pub mod Walk
 pub mod EndsLemmas
 pub mod Quiet
 pub mod LimitLaws
 pub mod ShownLemmas
+pub mod TrackingLemmas

@@ -1,5 +1,5 @@
 -- What rules that begin with a limit ask.
-use Rattle.std.proofs.Common.{◌≡◌, ◌∙◌, ◌≤◌, ℕ, Bool, true, false, nat_lt, List, [], ◌∷◌, Option, Some, None, sym, ap, refl}
+use Rattle.std.proofs.Common.{◌≡◌, ◌∙◌, ◌≤◌, ℕ, Bool, true, false, nat_lt, List, [], ◌∷◌, Option, Some, None, ap, refl}
 use Rattle.std.proofs.lemmas.Bool.{ltb-false}
 use Rattle.stored_data.specs.declared.datum.Datum.TheVariants.{ConnCur}
 use Rattle.table_model.specs.Key.{Key}
@@ -7,7 +7,7 @@ use Rattle.table_model.specs.declared.rows.Row.{Row}
 use Rattle.rule_model.specs.declared.actions.KeyExpression.TheVariants as keys
 use Rattle.rule_model.specs.declared.actions.Slot.TheVariants.{Sc0}
 use Rattle.rule_model.specs.declared.sections.Setup.{Setup}
-use Rattle.rule_eval.specs.Limit.{tracking_rule, refusing_rule, LimitsFirst, IsWithin, WithinLaw, FirstLaw, SecondLaw, OnceLaw, NeverLaw, wants_sc0}
+use Rattle.rule_eval.specs.Limit.{tracking_rule, refusing_rule, LimitsFirst, WithinLaw, FirstLaw, SecondLaw, OnceLaw, NeverLaw, wants_sc0}
 use Rattle.rule_eval.specs.Readings.{is_answer, value_in}
 use Rattle.rule_eval.specs.Slots.{no_slots}
 use Rattle.rule_eval.specs.Tables.{key_of}

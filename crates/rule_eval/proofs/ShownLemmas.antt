@@ -1,14 +1,11 @@
 -- What a row shows of the current connections.
-use Rattle.std.proofs.Common.{◌≡◌, ◌∙◌, ℕ, Bool, true, false, List, [], ◌∷◌, ap, refl, eqb, None, if◌then◌else◌, unwrap_or}
+use Rattle.std.proofs.Common.{◌≡◌, ◌∙◌, Bool, true, false, [], ◌∷◌, ap, refl, eqb, unwrap_or}
 use Rattle.stored_data.specs.Acts.{value_at}
 use Rattle.stored_data.specs.Data.{place}
 use Rattle.stored_data.specs.Stored.{is_column}
 use Rattle.stored_data.specs.declared.datum.Datum.{Datum}
 use Rattle.stored_data.specs.declared.datum.Datum.TheVariants.{Gpt0, Gpc0, Gpc0Rate, ConnCnt, ConnRate, ConnCur, SessCnt, SessRate, BytesInCnt, BytesInRate, BytesOutCnt, BytesOutRate, Gpc1, Gpc1Rate}
-use Rattle.stored_data.specs.declared.stored_set.Column.{Column}
-use Rattle.table_model.specs.Key.{Key}
-use Rattle.table_model.specs.State.{row_of, shown}
-use Rattle.table_model.specs.declared.rows.Record.{Record}
+use Rattle.table_model.specs.State.{row_of}
 use Rattle.rule_eval.specs.Limit.{ShownLaw}
 use Rattle.rule_eval.specs.Readings.{value_in}
 

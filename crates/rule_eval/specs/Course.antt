@@ -1,5 +1,5 @@
 -- Where an evaluation waits, and what it still asks.
-use Rattle.std.specs.Prelude.{◌≡◌, ℕ, Bool, true, false, not, ◌&&◌, List, [], ◌∷◌, is_some, unwrap_or, Option, Some, None, if◌then◌else◌}
+use Rattle.std.specs.Prelude.{◌≡◌, ℕ, Bool, true, false, not, ◌&&◌, List, [], is_some, unwrap_or, Option, None, if◌then◌else◌}
 use Rattle.rule_model.specs.declared.actions.Action.{Action}
 use Rattle.table_model.specs.Key.{Key}
 use Rattle.rule_model.specs.declared.actions.KeyExpression.{KeyExpression}
@@ -31,9 +31,8 @@ use Rattle.rule_eval.specs.declared.scan.Scan.TheVariants as scans
 use Rattle.rule_eval.specs.declared.slots.Slots.{Slots}
 use Rattle.rule_eval.specs.declared.wants.Answer.{Answer}
 use Rattle.rule_eval.specs.declared.wants.Samples.{Samples}
-use Rattle.rule_eval.specs.declared.wants.Verdict.{Verdict}
 use Rattle.rule_eval.specs.declared.wants.Want.{Want}
-use Rattle.rule_eval.specs.declared.wants.Want.TheVariants.{Get, Track, Look, Count, Done}
+use Rattle.rule_eval.specs.declared.wants.Want.TheVariants.{Get, Track, Look, Count}
 
 -- ---- questions and requests: wants whose keys are still to be made
 
@@ -50,15 +49,16 @@ unfoldable pub request_want : Setup → Samples → Request → Want
 request_want setup samples (requests.Track slot table key) = Track slot table (key_at setup samples key.now table)
 request_want setup samples (requests.Count slot act) = Count slot act
 
--- whether a question has its key
-unfoldable pub is_asked : Setup → Samples → Question → Bool
-is_asked setup samples (questions.Get table) = is_some (key_of setup samples keys.Source table)
-is_asked setup samples question = true
+-- whether a question has its key, or a slot that tracks
+unfoldable pub is_asked : Setup → Samples → Slots → Question → Bool
+is_asked setup samples slots (questions.Get table) = is_some (key_of setup samples keys.Source table)
+is_asked setup samples slots (questions.Look slot) = is_some (slot_of slots slot)
+is_asked setup samples slots (questions.Count slot act) = is_some (slot_of slots slot)
 
--- whether a request has its key, and a slot that is free
+-- whether a request has its key and a slot that is free, or a slot that tracks
 unfoldable pub is_requested : Setup → Samples → Slots → Request → Bool
 is_requested setup samples slots (requests.Track slot table key) = not (is_some (slot_of slots slot)) && is_some (key_of setup samples key.now table)
-is_requested setup samples slots (requests.Count slot act) = true
+is_requested setup samples slots (requests.Count slot act) = is_some (slot_of slots slot)
 
 -- ---- what is found of a part of a rule
 
@@ -78,10 +78,10 @@ truth (criteria.Source networks) answer = false
 truth (criteria.Matches measure patterns) answer = matches_any patterns (reading measure answer)
 
 -- what was found is what the definition has
-abbrev pub Finds : {A : Type 0} → Setup → Samples → Found A → (Answer → A) → Inquiry A → Type 0
-Finds setup samples (Known value) meaning inquiry = inquiry ≡ known value
-Finds setup samples (Asks question) meaning inquiry =
-    (inquiry ≡ asks (question_want setup samples question) meaning) × (is_asked setup samples question ≡ true)
+abbrev pub Finds : {A : Type 0} → Setup → Samples → Slots → Found A → (Answer → A) → Inquiry A → Type 0
+Finds setup samples slots (Known value) meaning inquiry = inquiry ≡ known value
+Finds setup samples slots (Asks question) meaning inquiry =
+    (inquiry ≡ asks (question_want setup samples question) meaning) × (is_asked setup samples slots question ≡ true)
 
 -- the same of an action
 abbrev pub Acts : Setup → Samples → Slots → Effect → Inquiry Outcome → Type 0
@@ -123,13 +123,13 @@ place_course setup samples slots question place after =
 -- a scan came to the first criterion that asks, or to the truth
 abbrev pub Leads : Setup → Samples → Slots → Scan → ((Bool → Course) → Course) → Type 0
 Leads setup samples slots (scans.Asks question place) course =
-    ((after : Bool → Course) → course after ≡ place_course setup samples slots question place after) × (is_asked setup samples question ≡ true)
+    ((after : Bool → Course) → course after ≡ place_course setup samples slots question place after) × (is_asked setup samples slots question ≡ true)
 Leads setup samples slots (scans.Is holds) course = (after : Bool → Course) → course after ≡ after holds
 
 -- the same within a condition, where other parts follow
 abbrev pub LeadsWithin : Setup → Samples → Slots → Scan → ((Bool → Course) → Course) → ((Bool → Course) → (Bool → Course)) → Type 0
 LeadsWithin setup samples slots (scans.Asks question place) course end =
-    ((after : Bool → Course) → course (end after) ≡ place_course setup samples slots question place after) × (is_asked setup samples question ≡ true)
+    ((after : Bool → Course) → course (end after) ≡ place_course setup samples slots question place after) × (is_asked setup samples slots question ≡ true)
 LeadsWithin setup samples slots (scans.Is holds) course end = (after : Bool → Course) → course after ≡ after holds
 
 -- ---- points within the rules
@@ -149,6 +149,6 @@ point_course setup samples slots (points.Done verdict) = done verdict
 
 -- whether what is waited for can be asked
 abbrev pub is_ready : Setup → Samples → Slots → Point → Bool
-is_ready setup samples slots (points.Condition question place rule rules) = is_asked setup samples question
+is_ready setup samples slots (points.Condition question place rule rules) = is_asked setup samples slots question
 is_ready setup samples slots (points.Action request rules) = is_requested setup samples slots request
 is_ready setup samples slots (points.Done verdict) = true

@@ -1,16 +1,13 @@
 -- What an evaluation stands for.
-use Rattle.std.specs.Prelude.{◌≡◌, ℕ, Bool, true, not, is_some, List, ◌++◌}
+use Rattle.std.specs.Prelude.{◌≡◌, ℕ, List, ◌++◌}
 use Rattle.rule_model.specs.declared.sections.Setup.{Setup}
 use Rattle.rule_eval.specs.Course.{point_course}
 use Rattle.rule_eval.specs.Left.{point_left}
-use Rattle.rule_eval.specs.Slots.{slot_of}
 use Rattle.rule_eval.specs.Verdict.{Course, next}
 use Rattle.rule_eval.specs.declared.evaluation.Eval.{Eval}
 use Rattle.rule_eval.specs.declared.slots.Slots.{Slots}
 use Rattle.rule_eval.specs.declared.wants.Answer.{Answer}
 use Rattle.rule_eval.specs.declared.wants.Samples.{Samples}
-use Rattle.rule_eval.specs.declared.wants.Want.{Want}
-use Rattle.rule_eval.specs.declared.wants.Want.TheVariants.{Track}
 
 -- what an evaluation still asks
 unfoldable pub remaining : Eval → Course
@@ -32,8 +29,3 @@ slots_in eval = eval.case.slots
 pub record Stands (eval : Eval) (setup : Setup) (samples : Samples) (answers : List Answer) : Type 0 where
   pub judges : setup_of eval ≡ setup
   pub course : (more : List Answer) → remaining eval more ≡ next setup samples (answers ++ more)
-
--- whether a want tracks no slot that tracks already
-abbrev pub is_free : Slots → Want → Bool
-is_free slots (Track slot table key) = not (is_some (slot_of slots slot))
-is_free slots want = true

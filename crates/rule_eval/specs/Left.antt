@@ -8,7 +8,7 @@ use Rattle.rule_eval.specs.declared.scan.Point.TheVariants as points
 use Rattle.rule_eval.specs.declared.scan.Scan.{Scan}
 use Rattle.rule_eval.specs.declared.scan.Scan.TheVariants as scans
 use Rattle.rule_eval.specs.declared.wants.Want.{Want}
-use Rattle.rule_eval.specs.declared.wants.Want.TheVariants.{Get, Track, Look, Count, Done}
+use Rattle.rule_eval.specs.declared.wants.Want.TheVariants.{Done}
 
 -- the criteria of terms, of a condition, and of rules with their actions
 abbrev pub criteria_in : List Term → ℕ

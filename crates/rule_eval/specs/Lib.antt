@@ -5,6 +5,8 @@ pub mod Verdict
 pub mod Course
 pub mod Left
 pub mod Memory
+pub mod Asked
+pub mod Tracking
 pub mod Eval
 pub mod Ends
 pub mod Limit

@@ -1,5 +1,5 @@
 -- Rules that begin by tracking the source and refusing it beyond a limit.
-use Rattle.std.specs.Prelude.{◌≡◌, ℕ, ◌≤◌, Bool, true, false, List, [], ◌∷◌, Option, Some, None, IsTrue}
+use Rattle.std.specs.Prelude.{◌≡◌, ℕ, ◌≤◌, Bool, true, false, List, [], ◌∷◌, Some, None, IsTrue}
 use Rattle.std.specs.List.{AllByRecursion}
 use Rattle.stored_data.specs.Acts.{value_at}
 use Rattle.stored_data.specs.Stored.{is_column}

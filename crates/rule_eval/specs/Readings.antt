@@ -12,7 +12,7 @@ use Rattle.rule_model.specs.declared.criteria.Operator.TheVariants.{Eq, Ge, Gt, 
 use Rattle.rule_model.specs.declared.criteria.Pattern.{Pattern}
 use Rattle.rule_model.specs.declared.criteria.Pattern.TheVariants.{Compare, Between}
 use Rattle.rule_eval.specs.declared.wants.Want.{Want}
-use Rattle.rule_eval.specs.declared.wants.Want.TheVariants.{Get, Track, Look, Count, Done}
+use Rattle.rule_eval.specs.declared.wants.Want.TheVariants.{Get, Track, Look, Count}
 use Rattle.rule_eval.specs.declared.wants.Answer.{Answer}
 use Rattle.rule_eval.specs.declared.wants.Answer.TheVariants as answers
 

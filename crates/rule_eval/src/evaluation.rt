@@ -7,6 +7,8 @@ ghost use Rattle.rule_eval.specs.Course.{criterion_end, is_asked, is_ready, is_r
 ghost use Rattle.rule_eval.specs.Memory.{kind_takes_memory, want_takes_memory};
 ghost use Rattle.rule_eval.specs.Left.{is_done, place_left, point_left, rules_size};
 ghost use Rattle.rule_eval.specs.Tables.{key_of, kind_of};
+ghost use Rattle.rule_eval.specs.Asked.{asked_by};
+ghost use Rattle.rule_eval.specs.Tracking.{is_free, is_tracking, names_table};
 ghost use Rattle.rule_eval.specs.Verdict.{slots_after, unless_negated};
 
 use crate::case::Case;
@@ -14,7 +16,7 @@ use crate::questions::{Question, Request, answers_question, answers_request, slo
 use crate::readings::truth;
 use crate::scan::{Place, Point, Scan, after_criterion, after_rule, scan_rules};
 use crate::tables::key_of;
-use crate::{Answer, Samples, Slots, Verdict, Want};
+use crate::{Answer, Asked, Samples, Slots, Verdict, Want};
 use rule_model::{KeyExpression, Rule, Setup};
 use sequence::NoMemory;
 use std::alloc::Global;
@@ -41,7 +43,7 @@ fn make_key(
 /// The want of a question that can be asked.
 #[tactic(auto, unfolding(crate::specs::Course::question_want, crate::specs::Course::is_asked))]
 fn question_want(alloc: Global, case: &Case<'_>, question: Question) -> Result<Want, NoMemory>
-    requires { is_asked case.now.setup.now case.now.samples question ≡ true }
+    requires { is_asked case.now.setup.now case.now.samples case.now.slots question ≡ true }
     ensures want { IfOk result (λ want. want ≡ question_want case.now.setup.now case.now.samples question) }
     ensures memory { want_takes_memory case.now.setup.now (question_want case.now.setup.now case.now.samples question) ≡ false → IsOk result }
 {
@@ -109,7 +111,7 @@ pub struct Eval<'a> {
 impl<'a> Eval<'a> {
     ghost use Rattle.rule_eval.specs.Slots.{no_slots};
     ghost use Rattle.rule_eval.specs.Verdict.{next};
-    ghost use Rattle.rule_eval.specs.Eval.{left, remaining, setup_of, slots_in, Stands, is_free};
+    ghost use Rattle.rule_eval.specs.Eval.{left, remaining, setup_of, slots_in, Stands};
 
     /// An evaluation that has no answer yet. This takes no memory.
     #[tactic(auto, unfolding(crate::specs::Eval::left, crate::specs::Eval::remaining, crate::specs::Eval::setup_of, crate::specs::Eval::slots_in))]
@@ -132,12 +134,25 @@ impl<'a> Eval<'a> {
         ensures wanted { IfOk result (λ want. want ≡ remaining self.now []) }
         ensures next { (setup : Setup) (samples : Samples) (answers : List Answer) →
             Stands self.now setup samples answers → IfOk result (λ want. want ≡ next setup samples answers) }
-        ensures memory { (setup : Setup) (samples : Samples) (answers : List Answer) →
-            Stands self.now setup samples answers → want_takes_memory setup (next setup samples answers) ≡ false → IsOk result }
+        ensures memory { want_takes_memory (setup_of self.now) (remaining self.now []) ≡ false → IsOk result }
+
+        // What is wanted keeps to the tables of the setup and to what the slots track.
+        ensures table { names_table (setup_of self.now) (remaining self.now []) ≡ true }
         ensures free { is_free (slots_in self.now) (remaining self.now []) ≡ true }
+        ensures tracks { is_tracking (slots_in self.now) (remaining self.now []) ≡ true }
+
         ensures left { is_done (remaining self.now []) ≡ (left self.now == 0) }
     {
         self.wanted(alloc)
+    }
+
+    /// What kind of want is next, apart from its key. This takes no memory.
+    pub fn asks(&self) -> Asked
+        ensures asked { result ≡ asked_by (remaining self.now []) }
+        ensures free { is_free (slots_in self.now) (remaining self.now []) ≡ true }
+        ensures left { is_done (remaining self.now []) ≡ (left self.now == 0) }
+    {
+        self.asked()
     }
 
     /// Takes the answer to what is wanted: one of another kind makes the connection rejected. Behind the verdict no
@@ -155,13 +170,26 @@ impl<'a> Eval<'a> {
     fn wanted(&self, alloc: Global) -> Result<Want, NoMemory>
         ensures wanted { IfOk result (λ want. want ≡ remaining self.now []) }
         ensures memory { want_takes_memory (setup_of self.now) (remaining self.now []) ≡ false → IsOk result }
-        ensures free { is_free (slots_in self.now) (remaining self.now []) ≡ true }
         ensures left { is_done (remaining self.now []) ≡ (left self.now == 0) }
     {
         match self.point {
             Point::Condition { question, .. } => question_want(alloc, &self.case, question),
             Point::Action { request, .. } => request_want(alloc, &self.case, request),
             Point::Done(verdict) => Ok(Want::Done(verdict)),
+        }
+    }
+
+    #[tactic(auto, using(crate::proofs::Ready::question_event), unfolding(crate::specs::Eval::remaining, crate::specs::Course::request_want))]
+    fn asked(&self) -> Asked
+        ensures { result ≡ asked_by (remaining self.now []) }
+    {
+        match self.point {
+            Point::Condition { .. } => Asked::Event,
+            Point::Action { request, .. } => match request {
+                Request::Track { slot, table, .. } => Asked::Reference { slot, table },
+                Request::Count { .. } => Asked::Event,
+            },
+            Point::Done(verdict) => Asked::Settled(verdict),
         }
     }
 

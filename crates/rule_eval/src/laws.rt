@@ -4,10 +4,26 @@
 //! further condition, on a table that stores `conn_cur`, where no other rule tracks by sc0.
 ghost use Rattle.rule_eval.specs.Ends.{EndsLaw};
 ghost use Rattle.rule_eval.specs.Limit.{FirstLaw, NeverLaw, OnceLaw, SecondLaw, ShownLaw, WithinLaw};
+ghost use Rattle.rule_eval.specs.Tracking.{FreeLaw, TablesLaw, TrackingLaw};
 
 /// Every evaluation comes to its verdict: after as many answers as the rules have criteria and actions, at the latest.
 pub fn ends()
     ensures { EndsLaw }
+{}
+
+/// Whatever the answers were, a reference is wanted only for a slot that tracks nothing by them.
+pub fn free()
+    ensures { FreeLaw }
+{}
+
+/// Only a slot that tracks an entry by the answers so far is looked at or counted in.
+pub fn tracking()
+    ensures { TrackingLaw }
+{}
+
+/// A row or a reference is asked only of a table of the setup.
+pub fn tables()
+    ensures { TablesLaw }
 {}
 
 /// Behind such rules a connection whose source can be a key of the table is accepted only where its answers begin with a

@@ -5,11 +5,15 @@
 #![tactic(auto)]
 
 mod case;
+#[cfg(test)]
+mod cases;
 mod evaluation;
 pub mod laws;
 mod measures;
 mod questions;
 mod readings;
+#[cfg(test)]
+mod rows;
 mod scan;
 mod slots;
 mod tables;
@@ -17,4 +21,4 @@ mod wants;
 
 pub use evaluation::Eval;
 pub use slots::Slots;
-pub use wants::{Answer, Samples, Verdict, Want};
+pub use wants::{Answer, Asked, Samples, Verdict, Want};

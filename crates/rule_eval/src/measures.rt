@@ -20,7 +20,7 @@ use stored_data::Act;
 /// An entry that is looked at through its slot.
 #[tactic(auto, unfolding(crate::specs::Course::question_want, crate::specs::Course::is_asked))]
 fn look(case: &Case<'_>, slot: Slot, fetch: Fetch) -> Found<Option<u64>>
-    ensures { Finds case.now.setup.now case.now.samples result (read_of fetch) (looked case.now.setup.now slot (slot_of case.now.slots slot) fetch) }
+    ensures { Finds case.now.setup.now case.now.samples case.now.slots result (read_of fetch) (looked case.now.setup.now slot (slot_of case.now.slots slot) fetch) }
 {
     match case.slots.get(slot) {
         None => Found::Known(None),
@@ -37,7 +37,7 @@ fn look(case: &Case<'_>, slot: Slot, fetch: Fetch) -> Found<Option<u64>>
 /// An act on the entry of a slot.
 #[tactic(auto, unfolding(crate::specs::Course::question_want, crate::specs::Course::is_asked))]
 fn count(case: &Case<'_>, slot: Slot, act: Act) -> Found<Option<u64>>
-    ensures { Finds case.now.setup.now case.now.samples result value_of (counted slot (slot_of case.now.slots slot) act) }
+    ensures { Finds case.now.setup.now case.now.samples case.now.slots result value_of (counted slot (slot_of case.now.slots slot) act) }
 {
     match case.slots.get(slot) {
         None => Found::Known(None),
@@ -48,7 +48,7 @@ fn count(case: &Case<'_>, slot: Slot, act: Act) -> Found<Option<u64>>
 /// The entry of the source in a table: 0, where the source can't be its key.
 #[tactic(auto, unfolding(crate::specs::Course::question_want, crate::specs::Course::is_asked))]
 fn show(case: &Case<'_>, table: u32, fetch: Fetch) -> Found<Option<u64>>
-    ensures { Finds case.now.setup.now case.now.samples result (read_of fetch) (source_shown case.now.setup.now case.now.samples (Some table) fetch) }
+    ensures { Finds case.now.setup.now case.now.samples case.now.slots result (read_of fetch) (source_shown case.now.setup.now case.now.samples (Some table) fetch) }
 {
     if !stores(case.setup, table, fetch) {
         return Found::Known(None);
@@ -62,7 +62,7 @@ fn show(case: &Case<'_>, table: u32, fetch: Fetch) -> Found<Option<u64>>
 
 /// The value of a measure; none makes its criterion false.
 fn measure_of(case: &Case<'_>, measure: &Measure) -> Found<Option<u64>>
-    ensures { Finds case.now.setup.now case.now.samples result (reading measure.now) (measured case.now.setup.now case.now.samples case.now.slots measure.now) }
+    ensures { Finds case.now.setup.now case.now.samples case.now.slots result (reading measure.now) (measured case.now.setup.now case.now.samples case.now.slots measure.now) }
 {
     match measure {
         Measure::SourcePort => Found::Known(Some(u64::from(case.samples.src_port))),
@@ -85,7 +85,7 @@ fn is_in_one(networks: &[Network], address: Address) -> bool
 /// Whether a criterion holds.
 #[tactic(auto, unfolding(crate::specs::Verdict::judged, crate::specs::Course::truth))]
 pub(crate) fn judge(case: &Case<'_>, criterion: &Criterion) -> Found<bool>
-    ensures { Finds case.now.setup.now case.now.samples result (truth criterion.now) (judged case.now.setup.now case.now.samples case.now.slots criterion.now) }
+    ensures { Finds case.now.setup.now case.now.samples case.now.slots result (truth criterion.now) (judged case.now.setup.now case.now.samples case.now.slots criterion.now) }
 {
     match criterion {
         Criterion::Always(value) => Found::Known(*value),

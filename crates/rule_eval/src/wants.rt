@@ -23,6 +23,17 @@ pub enum Verdict {
     Reject,
 }
 
+/// What kind of want is next, apart from its key.
+#[derive(Clone, Copy, Debug, PartialEq, Eq)]
+pub enum Asked {
+    /// An event that brings no reference.
+    Event,
+    /// A reference to an entry of a table, for a slot that has none.
+    Reference { slot: Slot, table: u32 },
+    /// Nothing more: the rules have come to this verdict.
+    Settled(Verdict),
+}
+
 /// What is asked next. A table's number is its place among the tables of the setup.
 #[derive(Drop)]
 pub enum Want {

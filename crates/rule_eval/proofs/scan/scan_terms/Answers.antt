@@ -1,4 +1,4 @@
-use Rattle.std.proofs.Common.{◌≡◌, ◌∙◌, sym, ap}
+use Rattle.std.proofs.Common.{◌∙◌, sym, ap}
 use Rattle.rule_eval.specs.Verdict.{all_terms, any_criterion}
 use Rattle.rule_eval.specs.Course.{conjunction_end, criteria_end}
 use Rattle.rule_eval.proofs.scan.scan_terms.Goals as goal

@@ -1,5 +1,5 @@
-use Rattle.std.proofs.Common.{◌≡◌, ◌∙◌, ap, sym, ◌∷◌}
-use Rattle.rule_eval.specs.Course.{point_course, question_want}
+use Rattle.std.proofs.Common.{◌∙◌, ap, sym, ◌∷◌}
+use Rattle.rule_eval.specs.Course.{point_course}
 use Rattle.rule_eval.specs.Eval.{remaining, slots_in}
 use Rattle.rule_eval.proofs.Standing.{condition-answered, question_keeps}
 use Rattle.rule_eval.proofs.evaluation.Eval.advance.Goals as goal
