@@ -1,8 +1,9 @@
 -- What an answer makes of a connection.
-use Rattle.std.proofs.Common.{◌≡◌, ◌∙◌, ℕ, ◌/◌, Bool, true, false, not, ◌||◌, [], ◌∷◌, ◌++◌, append-nil, slice_get, Option, Some, None, refl, sym, ap}
+use Rattle.std.proofs.Common.{◌≡◌, ◌∙◌, ℕ, ◌/◌, true, false, [], ◌∷◌, ◌++◌, append-nil, slice_get, Option, Some, None, refl, sym, ap}
 use Rattle.std.specs.Prelude.{is_none}
 use Rattle.rule_model.specs.declared.actions.Slot.{Slot}
 use Rattle.rule_model.specs.declared.actions.Slot.TheVariants.{Sc0, Sc1, Sc2}
+use Rattle.rule_eval.specs.Asked.{asked_by}
 use Rattle.rule_eval.specs.Eval.{Stands as EvalStands}
 use Rattle.rule_eval.specs.Left.{is_done}
 use Rattle.rule_eval.specs.Slots.{with_slot}
@@ -10,17 +11,17 @@ use Rattle.rule_eval.specs.Verdict.{next, slots_after}
 use Rattle.rule_eval.specs.declared.slots.Slots.{Slots}
 use Rattle.rule_eval.specs.declared.wants.Answer.{Answer}
 use Rattle.rule_eval.specs.declared.wants.Answer.TheVariants as answers
+use Rattle.rule_eval.specs.declared.wants.Asked.{Asked}
+use Rattle.rule_eval.specs.declared.wants.Asked.TheVariants.{Settled}
 use Rattle.rule_eval.specs.declared.wants.Verdict.{Verdict}
 use Rattle.rule_eval.specs.declared.wants.Want.{Want}
 use Rattle.rule_eval.specs.declared.wants.Want.TheVariants.{Get, Track, Look, Count, Done}
 use Rattle.admit_core.specs.Conn.{Judges, Stands, progress_of, wanted}
 use Rattle.admit_core.specs.Connection.{Connection, Progress, answers_need, asks, closing, counting, is_asking, is_judged, judging, leaving, need_given, need_in, need_of, took, took_of}
 use Rattle.admit_core.specs.Held.{held_with, holding, is_free_for, tables_of}
-use Rattle.admit_core.specs.Judge.{asked_by, received}
+use Rattle.admit_core.specs.Receiving.{received}
 use Rattle.admit_core.specs.declared.conn.Conn.{Conn}
 use Rattle.admit_core.specs.declared.held.Held.{Held}
-use Rattle.admit_core.specs.declared.judge.Asked.{Asked}
-use Rattle.admit_core.specs.declared.judge.Asked.TheVariants.{Settled}
 use Rattle.admit_core.specs.declared.need.Need.TheVariants as needs
 use Rattle.admit_core.specs.declared.need.Phase.{Phase}
 use Rattle.admit_core.specs.declared.need.Phase.TheVariants.{New, Judging, Admitted, Rejected, Ended}
@@ -107,10 +108,6 @@ judged_need want progress none judged = ap (λ given. need_given given want prog
     in_phase Rejected at judged = cc
     in_phase Ended at judged = cc
 
-pub known_asked : (judged known : Bool) → not judged || known ≡ true → judged ≡ true → known ≡ true
-known_asked true known asked is = asked
-known_asked false known asked is = cc
-
 pub not_settled : (want : Want) (asked : Asked) → asked ≡ asked_by want → ((verdict : Verdict) → asked ≡ Settled verdict → ⊥) → is_done want ≡ false
 not_settled (Done verdict) asked is other = absurd (other verdict is)
 not_settled (Get table key) asked is other = refl
@@ -135,7 +132,7 @@ pub wanted_asks : {R : Type 0} (conn : Conn R) (connection : Connection R) → S
 unfolding wanted Judges
 wanted_asks conn connection stands = stands.judges.course [] ∙ ap (next connection.setup connection.samples) (append-nil connection.answers)
 
-pub stands_heard : {R : Type 0} (old new : Conn R) (connection : Connection R) (answer : Answer) (reference : Option R) → Stands old connection → EvalStands new.judge.eval connection.setup connection.samples (connection.answers ++ answer ∷ [])
+pub stands_heard : {R : Type 0} (old new : Conn R) (connection : Connection R) (answer : Answer) (reference : Option R) → Stands old connection → EvalStands new.eval connection.setup connection.samples (connection.answers ++ answer ∷ [])
     → is_asking (wanted old) (progress_of old) ≡ true → progress_of new ≡ took_of (wanted old) (progress_of old) reference → Stands new (took connection answer reference)
 unfolding Judges
 stands_heard old new connection answer reference stands heard asking progress =

@@ -1,6 +1,6 @@
 pub mod HeldLemmas
-pub mod JudgeLemmas
 pub mod ConnLemmas
+pub mod NeedLemmas
 pub mod HistoryLemmas
 pub mod KeepingLemmas
 pub mod ShownLemmas

@@ -1,10 +1,9 @@
 -- What a connection's code stands for.
-use Rattle.std.specs.Prelude.{◌≡◌, Bool, not, ◌||◌, []}
+use Rattle.std.specs.Prelude.{◌≡◌, ℕ, []}
 use Rattle.rule_model.specs.declared.sections.Setup.{Setup}
-use Rattle.rule_eval.specs.Eval.{remaining, setup_of, Stands as EvalStands}
+use Rattle.rule_eval.specs.Eval.{left, remaining, setup_of, Stands as EvalStands}
 use Rattle.rule_eval.specs.declared.wants.Want.{Want}
-use Rattle.admit_core.specs.Connection.{Connection, Progress, is_judged, need_of}
-use Rattle.admit_core.specs.Judge.{is_known, is_tried}
+use Rattle.admit_core.specs.Connection.{Connection, Progress, need_of}
 use Rattle.admit_core.specs.declared.conn.Conn.{Conn}
 use Rattle.admit_core.specs.declared.need.Need.{Need}
 
@@ -13,27 +12,23 @@ progress_of conn = record { phase = conn.phase; bytes = conn.bytes; counted = co
 
 -- what its rules ask next
 unfoldable pub wanted : {R : Type 0} → Conn R → Want
-wanted conn = remaining conn.judge.eval []
+wanted conn = remaining conn.eval []
 
 -- the setup that it is judged by
 unfoldable pub judged_by : {R : Type 0} → Conn R → Setup
-judged_by conn = setup_of conn.judge.eval
+judged_by conn = setup_of conn.eval
+
+-- how much its rules can still ask
+unfoldable pub rules_left : {R : Type 0} → Conn R → ℕ
+rules_left conn = left conn.eval
 
 -- what it wants next
 abbrev pub needed : {R : Type 0} → Conn R → Need
 needed conn = need_of (wanted conn) (progress_of conn)
 
--- whether what it wants was asked since its last answer; after the verdict of its rules that isn't needed
-unfoldable pub is_asked : {R : Type 0} → Conn R → Bool
-is_asked conn = not (is_judged conn.phase) || is_known conn.judge.asked
-
--- whether it was asked at all, be it that there was no memory
-unfoldable pub was_tried : {R : Type 0} → Conn R → Bool
-was_tried conn = not (is_judged conn.phase) || is_tried conn.judge.asked
-
 -- it is this connection
 unfoldable pub Judges : {R : Type 0} → Conn R → Connection R → Type 0
-Judges conn connection = EvalStands conn.judge.eval connection.setup connection.samples connection.answers
+Judges conn connection = EvalStands conn.eval connection.setup connection.samples connection.answers
 
 pub record Stands {R : Type 0} (conn : Conn R) (connection : Connection R) : Type 0 where
   pub judges : Judges conn connection

@@ -1,6 +1,8 @@
 pub mod Held
 pub mod Connection
-pub mod Judge
+pub mod Receiving
+pub mod Naming
 pub mod Conn
+pub mod Left
 pub mod History
 pub mod Shown

@@ -1,18 +1,19 @@
 //! A connection, from its first rule to its last reference.
-ghost use Rattle.std.specs.Prelude.{◌≡◌, ◌≤◌, ◌<◌, ◌+◌, ◌^◌, Some, None, true, false, is_some, is_none, slice_get, IfOk, IsOk, OnErr, OnOk};
+ghost use Rattle.std.specs.Prelude.{◌≡◌, ◌≤◌, ◌+◌, Some, None, true, false, is_some, is_none, slice_get, IfOk, IsOk, OnErr};
 ghost use Rattle.std.specs.Option.{option_map};
 ghost use Rattle.rule_eval.specs.Eval.{slots_in};
 ghost use Rattle.rule_eval.specs.declared.wants.Answer.TheVariants.{Released};
 ghost use Rattle.rule_model.specs.declared.actions.Slot.TheVariants.{Sc0, Sc1, Sc2};
-ghost use Rattle.admit_core.specs.Connection.{answers_need, arrived, closed, closed_of, closing, counting, gave, gave_of, is_event, is_judged, is_release, leaving, need_takes_memory, refused, refused_of, released_of, sessions, took, took_of, turned, turned_of, wants_held};
+ghost use Rattle.admit_core.specs.Connection.{answers_need, arrived, closed, closed_of, closing, counting, gave, gave_of, is_asking, is_event, is_judged, is_release, leaving, need_takes_memory, refused, refused_of, released_of, sessions, took, took_of, turned, turned_of, wants_held};
 ghost use Rattle.admit_core.specs.Held.{held_at, holding, is_free_for, tables_of};
-ghost use Rattle.admit_core.specs.Judge.{HasPlace, received};
+ghost use Rattle.admit_core.specs.Left.{is_rest, is_still};
+ghost use Rattle.admit_core.specs.Naming.{names_held, names_table_of};
+ghost use Rattle.admit_core.specs.Receiving.{HasPlace, received};
 ghost use Rattle.admit_core.specs.declared.need.Need.TheVariants.{Rest, Turn};
 
 use crate::held::Held;
-use crate::judge::{Asked, Judge};
 use crate::{Need, Phase};
-use rule_eval::{Answer, Samples, Verdict, Want};
+use rule_eval::{Answer, Asked, Eval, Samples, Verdict, Want};
 use rule_model::{Setup, Slot};
 use sequence::NoMemory;
 use std::alloc::Global;
@@ -46,7 +47,7 @@ fn receive<R>(held: &mut Held<R>, asked: Asked, reference: Option<R>)
 /// at a time, and whoever drives it makes the event, and tells it the answer or that it was refused.
 #[derive(Drop)]
 pub struct Conn<'a, R> {
-    judge: Judge<'a>,
+    eval: Eval<'a>,
     phase: Phase,
     /// Once it is closed, the bytes that came in and went out.
     bytes: Option<(u64, u64)>,
@@ -57,13 +58,13 @@ pub struct Conn<'a, R> {
     given: Option<(Slot, u32)>,
     ghost not_given: { is_judged phase ≡ true → is_none given ≡ true },
     ghost not_held: { is_free_for held given ≡ true },
-    ghost same_tables: { is_judged phase ≡ true → tables_of held ≡ slots_in judge.eval },
+    ghost same_tables: { is_judged phase ≡ true → tables_of held ≡ slots_in eval },
 }
 
-#[tactic(auto, unfolding(crate::specs::Connection::need_of, crate::specs::Connection::took_of, crate::specs::Connection::refused_of, crate::specs::Conn::progress_of, crate::specs::Conn::wanted, crate::specs::Conn::judged_by, crate::specs::Conn::is_asked, crate::specs::Conn::was_tried, crate::specs::Conn::Judges, crate::specs::Held::tables_of))]
+#[tactic(auto, unfolding(crate::specs::Connection::need_of, crate::specs::Connection::took_of, crate::specs::Connection::refused_of, crate::specs::Conn::progress_of, crate::specs::Conn::wanted, crate::specs::Conn::judged_by, crate::specs::Conn::Judges, crate::specs::Held::tables_of, crate::specs::Conn::rules_left))]
 impl<'a, R> Conn<'a, R> {
     ghost use Rattle.admit_core.specs.Connection.{Connection, need};
-    ghost use Rattle.admit_core.specs.Conn.{is_asked, judged_by, needed, progress_of, Stands, wanted, was_tried};
+    ghost use Rattle.admit_core.specs.Conn.{judged_by, needed, progress_of, rules_left, Stands, wanted};
 
     /// A connection that has just come. This takes no memory.
     pub fn new(setup: &'a Setup, samples: Samples) -> Self
@@ -71,7 +72,7 @@ impl<'a, R> Conn<'a, R> {
         ensures given { is_some (progress_of result).given ≡ false }
     {
         Conn {
-            judge: Judge::new(setup, samples),
+            eval: Eval::new(setup, samples),
             phase: Phase::New,
             bytes: None,
             counted: 0,
@@ -88,24 +89,52 @@ impl<'a, R> Conn<'a, R> {
         *phase
     }
 
+    /// Whether it wants nothing but to be closed, or nothing at all.
+    pub fn is_still(&self) -> bool
+        requires { is_some (progress_of self.now).given ≡ false }
+        ensures { result ≡ is_still (needed self.now) }
+    {
+        match self.phase {
+            Phase::Admitted => self.bytes.is_none(),
+            Phase::Ended => true,
+            _ => false,
+        }
+    }
+
+    /// Whether it wants nothing but to be closed.
+    pub fn rests(&self) -> bool
+        requires { is_some (progress_of self.now).given ≡ false }
+        ensures { result ≡ is_rest (needed self.now) }
+    {
+        self.phase == Phase::Admitted && self.bytes.is_none()
+    }
+
     /// What it wants next. Only a key that is a text takes memory: after the verdict of its rules nothing does. Where
     /// memory was wanted, it is told so by `refused`.
-    pub fn want(&mut self, alloc: Global) -> Result<Need, NoMemory>
-        ensures needed { IfOk result (λ wanted. wanted ≡ needed self.old) }
-        ensures need { (connection : Connection R) → Stands self.old connection → IfOk result (λ wanted. wanted ≡ need connection) }
-        ensures memory { (connection : Connection R) → Stands self.old connection → need_takes_memory connection.setup (need connection) ≡ false → IsOk result }
-        ensures free { IfOk result (λ wanted. wants_held (progress_of self.old).held wanted ≡ false) }
-        ensures given { is_free_for (progress_of self.old).held (progress_of self.old).given ≡ true }
-        ensures asked { OnOk result (is_asked self.new ≡ true) }
-        ensures tried { was_tried self.new ≡ true }
+    pub fn want(&self, alloc: Global) -> Result<Need, NoMemory>
+        ensures needed { IfOk result (λ wanted. wanted ≡ needed self.now) }
+        ensures need { (connection : Connection R) → Stands self.now connection → IfOk result (λ wanted. wanted ≡ need connection) }
+        ensures memory { need_takes_memory (judged_by self.now) (needed self.now) ≡ false → IsOk result }
+
+        // What it names is there: its table, the reference that it needs, and a free slot for one that comes.
+        ensures table { IfOk result (λ wanted. names_table_of (judged_by self.now) wanted ≡ true) }
+        ensures held { IfOk result (λ wanted. is_some (progress_of self.now).given ≡ false → names_held (progress_of self.now).held wanted ≡ true) }
+        ensures free { IfOk result (λ wanted. wants_held (progress_of self.now).held wanted ≡ false) }
+        ensures given { is_free_for (progress_of self.now).held (progress_of self.now).given ≡ true }
 
         // Where there was no memory for what it wants, that is an event, of which no reference was handed out.
-        ensures event { OnErr result (is_event (needed self.old) ≡ true) }
-        ensures not_given { OnErr result (is_some (progress_of self.old).given ≡ false) }
+        ensures event { OnErr result (is_event (needed self.now) ≡ true) }
+        ensures not_given { OnErr result (is_some (progress_of self.now).given ≡ false) }
+    {
+        self.next(alloc)
+    }
 
-        ensures needs { needed self.new ≡ needed self.old }
-        ensures progress { progress_of self.new ≡ progress_of self.old }
-        ensures stands { (connection : Connection R) → Stands self.old connection → Stands self.new connection }
+    /// What it wants next.
+    fn next(&self, alloc: Global) -> Result<Need, NoMemory>
+        ensures needed { IfOk result (λ wanted. wanted ≡ needed self.now) }
+        ensures memory { need_takes_memory (judged_by self.now) (needed self.now) ≡ false → IsOk result }
+        ensures event { OnErr result (is_event (needed self.now) ≡ true) }
+        ensures not_given { OnErr result (is_some (progress_of self.now).given ≡ false) }
     {
         if let Some((slot, _)) = self.given {
             return Ok(Need::Release { slot });
@@ -119,18 +148,13 @@ impl<'a, R> Conn<'a, R> {
     }
 
     /// What it wants while it is judged.
-    fn judging(&mut self, alloc: Global) -> Result<Need, NoMemory>
-        requires { is_judged (progress_of self.old).phase ≡ true }
-        ensures needed { IfOk result (λ wanted. wanted ≡ needed self.old) }
-        ensures memory { need_takes_memory (judged_by self.old) (needed self.old) ≡ false → IsOk result }
-        ensures free { IfOk result (λ wanted. wants_held (progress_of self.old).held wanted ≡ false) }
-        ensures asked { OnOk result (is_asked self.new ≡ true) }
-        ensures tried { was_tried self.new ≡ true }
-        ensures event { OnErr result (is_event (needed self.old) ≡ true) }
-        ensures same { progress_of self.new ≡ progress_of self.old }
-        ensures eval { self.new.judge.eval ≡ self.old.judge.eval }
+    fn judging(&self, alloc: Global) -> Result<Need, NoMemory>
+        requires { is_judged (progress_of self.now).phase ≡ true }
+        ensures needed { IfOk result (λ wanted. wanted ≡ needed self.now) }
+        ensures memory { need_takes_memory (judged_by self.now) (needed self.now) ≡ false → IsOk result }
+        ensures event { OnErr result (is_event (needed self.now) ≡ true) }
     {
-        match self.judge.want(alloc)? {
+        match self.eval.want(alloc)? {
             Want::Get { table, key } => Ok(Need::Get { table, key }),
             Want::Track { slot, table, key } => Ok(Need::Track { slot, table, key }),
             Want::Look { slot } => Ok(Need::Look { slot }),
@@ -188,11 +212,12 @@ impl<'a, R> Conn<'a, R> {
     /// Takes the answer to what it wants, and with `Tracked` the reference that came. The answer to a release comes
     /// once its reference was handed out by `give`. This takes no memory.
     pub fn take(&mut self, answer: Answer, reference: Option<R>)
-        requires asked { is_asked self.old ≡ true }
         requires answers { answers_need (needed self.old) answer reference ≡ true }
         requires given { answer ≡ Released → is_some (progress_of self.old).given ≡ true }
         ensures progress { progress_of self.new ≡ took_of (wanted self.old) (progress_of self.old) reference }
         ensures given { is_some (progress_of self.new).given ≡ false }
+        ensures asked { is_asking (wanted self.old) (progress_of self.old) ≡ true → rules_left self.new + 1 ≤ rules_left self.old }
+        ensures less { rules_left self.new ≤ rules_left self.old }
         ensures stands { (connection : Connection R) → Stands self.old connection → Stands self.new (took connection answer reference) }
     {
         if self.given.is_some() {
@@ -205,13 +230,14 @@ impl<'a, R> Conn<'a, R> {
             self.counted += 1;
             return;
         }
-        if let Asked::Settled(_) = self.judge.asked {
+        let asked = self.eval.asks();
+        if let Asked::Settled(_) = asked {
             nothing_came(reference);
             self.counted += 1;
             return;
         }
-        receive(&mut self.held, self.judge.asked, reference);
-        self.judge.take(answer);
+        receive(&mut self.held, asked, reference);
+        self.eval.take(answer);
         self.phase = Phase::Judging;
     }
 
@@ -219,11 +245,11 @@ impl<'a, R> Conn<'a, R> {
     /// rejected; after it a count is skipped, and a release is wanted again, with the reference that `give` had handed
     /// out. This takes no memory.
     pub fn refused(&mut self, reference: Option<R>)
-        requires tried { was_tried self.old ≡ true }
         requires event { is_event (needed self.old) ≡ true }
         requires given { is_some reference ≡ is_some (progress_of self.old).given }
         ensures progress { progress_of self.new ≡ refused_of (wanted self.old) (progress_of self.old) reference }
         ensures given { is_some (progress_of self.new).given ≡ false }
+        ensures rules { rules_left self.new ≡ rules_left self.old }
         ensures stands { (connection : Connection R) → Stands self.old connection → Stands self.new (refused connection reference) }
     {
         let Some(reference) = reference else {
@@ -238,14 +264,13 @@ impl<'a, R> Conn<'a, R> {
 
     /// An event that needs no reference was refused.
     fn skip(&mut self)
-        requires tried { was_tried self.old ≡ true }
         requires event { is_event (needed self.old) ≡ true }
         requires given { is_some (progress_of self.old).given ≡ false }
         ensures progress { progress_of self.new ≡ refused_of (wanted self.old) (progress_of self.old) None }
-        ensures eval { self.new.judge.eval ≡ self.old.judge.eval }
+        ensures eval { self.new.eval ≡ self.old.eval }
     {
         match self.phase {
-            Phase::New | Phase::Judging => match self.judge.asked {
+            Phase::New | Phase::Judging => match self.eval.asks() {
                 Asked::Settled(_) => self.counted += 1,
                 _ => self.phase = Phase::Rejected,
             },
@@ -260,13 +285,13 @@ impl<'a, R> Conn<'a, R> {
 
     /// Its next phase, where that is wanted.
     pub fn turn(&mut self)
-        requires asked { is_asked self.old ≡ true }
         requires turn { needed self.old ≡ Turn }
         ensures progress { progress_of self.new ≡ turned_of (wanted self.old) (progress_of self.old) }
+        ensures rules { rules_left self.new ≡ rules_left self.old }
         ensures stands { (connection : Connection R) → Stands self.old connection → Stands self.new (turned connection) }
     {
         self.phase = match self.phase {
-            Phase::New | Phase::Judging => match self.judge.asked {
+            Phase::New | Phase::Judging => match self.eval.asks() {
                 Asked::Settled(Verdict::Accept) => Phase::Admitted,
                 _ => Phase::Rejected,
             },
@@ -278,6 +303,7 @@ impl<'a, R> Conn<'a, R> {
     pub fn close(&mut self, bytes_in: u64, bytes_out: u64)
         requires { needed self.old ≡ Rest }
         ensures progress { progress_of self.new ≡ closed_of (progress_of self.old) bytes_in bytes_out }
+        ensures rules { rules_left self.new ≡ rules_left self.old }
         ensures stands { (connection : Connection R) → Stands self.old connection → Stands self.new (closed connection bytes_in bytes_out) }
     {
         self.bytes = Some((bytes_in, bytes_out));
@@ -300,10 +326,9 @@ impl<'a, R> Conn<'a, R> {
 
         // Its release is what is wanted, as before.
         ensures needs { needed self.new ≡ needed self.old }
-        ensures asked { is_asked self.new ≡ true }
-        ensures tried { was_tried self.new ≡ true }
         ensures given { is_some (progress_of self.new).given ≡ true }
 
+        ensures rules { rules_left self.new ≡ rules_left self.old }
         ensures stands { (connection : Connection R) → Stands self.old connection → Stands self.new (gave connection) }
     {
         let Some(slot) = self.held.nth(0) else {
@@ -321,7 +346,7 @@ impl<'a, R> Conn<'a, R> {
         ensures sc2 { result.2 ≡ held_at (progress_of self.entry).held Sc2 }
     {
         let Conn {
-            judge: _judge,
+            eval: _eval,
             phase: _,
             bytes: _,
             counted: _,

@@ -5,7 +5,6 @@
 
 mod conn;
 mod held;
-mod judge;
 pub mod laws;
 #[cfg(test)]
 mod lives;
