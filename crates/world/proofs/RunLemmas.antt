@@ -1,0 +1,124 @@
+-- The code of a world goes on as the world that it stands for.
+use Rattle.std.proofs.Common.{◌≡◌, ℕ, zero, suc, ◌<◌, refl, sym, ap, subst, ◌∙◌, arith, Bool, false, List, [], ◌∷◌, length, get_or, slice_get, slice_set, Some, is_some}
+use Rattle.std.proofs.lemmas.Option.{slice_get-get_or}
+use Rattle.rule_model.specs.declared.sections.Setup.{Setup}
+use Rattle.shard_book.specs.BooksState.{BooksState}
+use Rattle.shard_cli.specs.declared.named.Named.{Named}
+use Rattle.admit_core.specs.Conn.{judged_by, progress_of, Stands}
+use Rattle.admit_core.specs.Connection.{Connection, Progress}
+use Rattle.admit_core.specs.declared.conn.Conn.{Conn}
+use Rattle.world.specs.Balance.{IsCovered, times_by, times_out}
+use Rattle.world.specs.Drive.{HasMoved}
+use Rattle.world.specs.Lived.{IsLived}
+use Rattle.world.specs.Moves.{Moves}
+use Rattle.world.specs.Tables.{AreTablesOf, TableState, table_states}
+use Rattle.world.specs.World.{Element, WorldState, begun, woken}
+use Rattle.world.specs.WorldCode.{AreGuests, IsReached, StandsFor}
+use Rattle.world.specs.declared.guest.Guest.{Guest}
+use Rattle.world.specs.declared.reference.Reference.{Reference}
+use Rattle.world.specs.declared.visit.Visit.{Visit}
+use Rattle.world.proofs.CountLemmas.{some_same, sum_at}
+use Rattle.world.proofs.DriveLemmas.{setup_same}
+use Rattle.world.proofs.WorldLemmas.{IsWoken, IsWorld, begun_world, elements_world, woken_same}
+
+-- ---- guests
+
+-- the guest, the visit and the connection of a number
+pub record GuestAt (guests : List Guest) (visits : List Visit) (connections : List (Connection Reference)) (i : ℕ) : Type 0 where
+  pub guest : Guest
+  pub visit : Visit
+  pub connection : Connection Reference
+  pub at_guest : slice_get guests i ≡ Some guest
+  pub at_visit : slice_get visits i ≡ Some visit
+  pub at_connection : slice_get connections i ≡ Some connection
+  pub visit_is : guest.visit ≡ visit
+  pub stands : Stands guest.conn connection
+
+pub guest_at : (guests : List Guest) (visits : List Visit) (connections : List (Connection Reference)) (i : ℕ) → AreGuests guests visits connections → i < length guests → GuestAt guests visits connections i
+guest_at [] visits connections i are within = absurd (omega (arith, within))
+guest_at (guest ∷ guests) [] connections i are within = absurd are
+guest_at (guest ∷ guests) (visit ∷ visits) [] i are within = absurd are
+guest_at (guest ∷ guests) (visit ∷ visits) (connection ∷ connections) zero are within =
+    record { guest = guest; visit = visit; connection = connection; at_guest = refl; at_visit = refl; at_connection = refl; visit_is = are.0; stands = are.1 }
+guest_at (guest ∷ guests) (visit ∷ visits) (connection ∷ connections) (suc i) are within =
+    let found = guest_at guests visits connections i are.2 (omega (arith, within)) in
+    record { guest = found.guest; visit = found.visit; connection = found.connection; at_guest = found.at_guest; at_visit = found.at_visit; at_connection = found.at_connection; visit_is = found.visit_is; stands = found.stands }
+
+pub guests_set : (guests : List Guest) (visits : List Visit) (connections : List (Connection Reference)) (i : ℕ) (guest : Guest) (connection : Connection Reference) (visit : Visit) → AreGuests guests visits connections
+    → slice_get visits i ≡ Some visit → guest.visit ≡ visit → Stands guest.conn connection → AreGuests (slice_set guests i guest) visits (slice_set connections i connection)
+guests_set [] [] [] i guest connection visit are at same stands = are
+guests_set [] [] (c ∷ connections) i guest connection visit are at same stands = absurd are
+guests_set [] (v ∷ visits) connections i guest connection visit are at same stands = absurd are
+guests_set (g ∷ guests) [] connections i guest connection visit are at same stands = absurd are
+guests_set (g ∷ guests) (v ∷ visits) [] i guest connection visit are at same stands = absurd are
+guests_set (g ∷ guests) (v ∷ visits) (c ∷ connections) zero guest connection visit are at same stands = (same ∙ sym (some_same v visit at), stands, are.2)
+guests_set (g ∷ guests) (v ∷ visits) (c ∷ connections) (suc i) guest connection visit are at same stands = (are.0, are.1, guests_set guests visits connections i guest connection visit are.2 at same stands)
+
+-- ---- what a world that was reached keeps
+
+module _ (setup : Setup) (tables : List (Named BooksState)) (guests : List Guest) (reached : IsReached setup tables guests) (number : ℕ) (within : number < length guests) (guest : Guest) (is : guest ≡ get_or guests number guest) where
+  pub world_is : IsWorld setup reached.world
+  world_is = elements_world setup reached.visits (begun setup reached.visits) reached.schedule reached.world reached.count reached.scheduled reached.goes (begun_world setup reached.visits reached.opens)
+
+  pub found : GuestAt guests reached.visits reached.world.connections number
+  found = guest_at guests reached.visits reached.world.connections number reached.stands.guests_are within
+
+  same_guest : guest ≡ found.guest
+  same_guest = some_same guest found.guest (ap Some is ∙ sym (slice_get-get_or guests number guest within) ∙ found.at_guest)
+
+  stands_it : Stands guest.conn found.connection
+  stands_it = subst (λ (g : Guest). Stands g.conn found.connection) (sym same_guest) found.stands
+
+  pub lived_it : IsLived found.connection × (found.connection.setup ≡ setup)
+  lived_it = world_is.each number found.connection found.at_connection
+
+  pub none_given : is_some (progress_of guest.conn).given ≡ false
+  none_given = ap (λ (p : Progress Reference). is_some p.given) stands_it.progress ∙ ap is_some lived_it.0.given
+
+  pub awake_it : IsWoken found.connection (woken guest.visit found.connection)
+  awake_it = woken_same guest.visit found.connection lived_it.0
+
+  pub judged_is : (conn : Conn Reference) → Stands conn (woken guest.visit found.connection) → judged_by conn ≡ setup
+  judged_is conn stands = setup_same conn (woken guest.visit found.connection) stands ∙ awake_it.setup ∙ lived_it.1
+
+  pub shards_are : (conn : Conn Reference) → ((connection : Connection Reference) → Stands guest.conn connection → Stands conn (woken guest.visit connection)) → setup.shards ≡ (judged_by conn).shards
+  shards_are conn stands = ap (λ (s : Setup). s.shards) (sym (judged_is conn (stands found.connection stands_it)))
+
+  pub tables_are : (conn : Conn Reference) (now : List (Named BooksState)) → ((connection : Connection Reference) → Stands guest.conn connection → Stands conn (woken guest.visit connection)) → now ≡ tables → AreTablesOf (judged_by conn) (table_states now)
+  tables_are conn now stands same =
+      subst (λ s. AreTablesOf s (table_states now)) (sym (judged_is conn (stands found.connection stands_it)))
+      (subst (AreTablesOf setup) (sym (ap table_states same ∙ reached.stands.tables_are)) world_is.tables)
+
+  pub covered_is : (conn : Conn Reference) (now : List (Named BooksState)) → ((connection : Connection Reference) → Stands guest.conn connection → Stands conn (woken guest.visit connection)) → now ≡ tables → IsCovered (table_states now) (progress_of conn).held
+  covered_is conn now stands same reference =
+      let held : times_by reference (progress_of conn).held ≡ times_by reference found.connection.progress.held =
+      ap (λ (p : Progress Reference). times_by reference p.held) (stands found.connection stands_it).progress ∙ ap (times_by reference) awake_it.held in
+      let out : times_out reference (table_states now) ≡ times_out reference reached.world.tables = ap (times_out reference) (ap table_states same ∙ reached.stands.tables_are) in
+      omega (arith, held, out, world_is.balance reference, sum_at (λ (connection : Connection Reference). times_by reference connection.progress.held) reached.world.connections number found.connection found.at_connection)
+
+-- ---- one goes on
+
+pub went : (tables middle later : List (Named BooksState)) (guests : List Guest) (number moment : ℕ) (guest : Guest) (awake after : Conn Reference) (was_refused : Bool) → number < length guests → guest ≡ get_or guests number guest
+    → ((connection : Connection Reference) → Stands guest.conn connection → Stands awake (woken guest.visit connection)) → middle ≡ tables → HasMoved moment (table_states middle) awake (table_states later) after was_refused
+    → (visits : List Visit) (world : WorldState) → StandsFor tables guests visits world
+    → (next : WorldState) × StandsFor later (slice_set guests number (record { visit = guest.visit; conn = after })) visits next × Element visits world (number, moment) next was_refused
+went tables middle later guests number moment guest awake after was_refused within is wakes same moved visits world stands =
+    let found : GuestAt guests visits world.connections number = guest_at guests visits world.connections number stands.guests_are within in
+    let same_guest : guest ≡ found.guest = some_same guest found.guest (ap Some is ∙ sym (slice_get-get_or guests number guest within) ∙ found.at_guest) in
+    let it : Stands guest.conn found.connection = subst (λ (g : Guest). Stands g.conn found.connection) (sym same_guest) found.stands in
+    let visit : guest.visit ≡ found.visit = ap (λ (g : Guest). g.visit) same_guest ∙ found.visit_is in
+    let one = moved (woken guest.visit found.connection) (wakes found.connection it) in
+    let next : WorldState = record { tables = table_states later; connections = slice_set world.connections number one.0 } in (
+      next,
+      record { tables_are = refl; guests_are = guests_set guests visits world.connections number (record { visit = guest.visit; conn = after }) one.0 found.visit stands.guests_are found.at_visit visit one.1 },
+      record {
+        visit = found.visit;
+        connection = found.connection;
+        after = one.0;
+        visits_it = found.at_visit;
+        is_it = found.at_connection;
+        moves = subst (λ (ts : List TableState). Moves moment ts (woken found.visit found.connection) (table_states later) one.0 was_refused) (ap table_states same ∙ stands.tables_are)
+            (subst (λ (v : Visit). Moves moment (table_states middle) (woken v found.connection) (table_states later) one.0 was_refused) visit one.2);
+        others = refl;
+      },
+    )

@@ -1,0 +1,13 @@
+//! What every world keeps. Each law is the contract of a function that does nothing.
+ghost use Rattle.world.specs.Limit.{AdmittedLimitLaw, ReferencesLaw};
+
+/// Whatever the schedule, a reference is out exactly where a connection holds it, each once.
+pub fn references()
+    ensures { ReferencesLaw }
+{}
+
+/// Whatever the schedule: where the rules begin with `track-sc0 src` and `reject if { sc0_conn_cur gt L }` on a table
+/// that stores `conn_cur`, and no other rule tracks by sc0, at most L admitted connections hold any one key by sc0.
+pub fn limit()
+    ensures { AdmittedLimitLaw }
+{}
