@@ -1,14 +1,10 @@
 //! Devices that fail, lines that are too long, fronts of lines, and entries that are in use.
 
-use crate::answers::{Answered, Joined, join};
-use crate::session::{Devices, Session, Tables, serve, sound, tables_of};
-use sequence::Sequence;
-use shard_book::Keeper;
+use crate::session::{Devices, Session, serve, sound};
+use crate::written::{Answered, Joined, is_wanted, join};
 use shard_cli::{CliFault, CliFaultKind};
 use std::alloc::{AllocError, Global};
 use std::test::Fail;
-use stick_key::{KeyType, StickKey, read_key, shard_of};
-use stick_table::{Event, Reply};
 
 /// A session with answers of every kind, a command a line.
 static SESSION: [Answered; 8] = [
@@ -70,51 +66,45 @@ fn stopped(
     written <= wanted.len() && session.written.as_slice() == &wanted[..written]
 }
 
-#[test]
-fn a_writer_that_fails_has_a_front_of_the_answers(rt: HostRuntime) -> Result<(), Fail> {
-    let whole = join(rt.alloc(), &SESSION)?;
-    for bytes in 0..whole.wanted.len() {
-        let devices = Devices {
-            piece: 100,
-            read_fault: None,
-            write_fault: Some(bytes),
-        };
-        let tables = tables_of(rt.alloc())?;
-        let session = serve(rt.alloc(), tables, &whole.text, devices)?;
-        let done = commands_written(&SESSION, bytes);
-        assert!(rt;
-            stopped(
-                &session,
-                CliFaultKind::WriteFault,
-                done,
-                &whole.wanted,
-                bytes
-            )
-        );
-    }
-    Ok(())
+/// Whether a session whose writer fails behind so many bytes has written those, and ended there.
+fn ends_with_writer(alloc: Global, whole: &Joined, bytes: usize) -> Result<bool, AllocError> {
+    let devices = Devices {
+        piece: 100,
+        read_fault: None,
+        write_fault: Some(bytes),
+    };
+    let session = serve(alloc, &[], &whole.text, devices)?;
+    let done = commands_written(&SESSION, bytes);
+    let kind = CliFaultKind::WriteFault;
+    Ok(stopped(&session, kind, done, &whole.wanted, bytes))
+}
+
+/// Whether a session whose reader fails behind so many bytes has answered the lines that end in them, and ended there.
+fn ends_with_reader(alloc: Global, whole: &Joined, bytes: usize) -> Result<bool, AllocError> {
+    let devices = Devices {
+        piece: 5,
+        read_fault: Some(bytes),
+        write_fault: None,
+    };
+    let session = serve(alloc, &[], &whole.text, devices)?;
+    let (done, written) = commands_read(&SESSION, bytes);
+    let kind = CliFaultKind::ReadFault;
+    Ok(stopped(&session, kind, done, &whole.wanted, written))
 }
 
 #[test]
-fn a_reader_that_fails_ends_behind_whole_lines(rt: HostRuntime) -> Result<(), Fail> {
+fn a_device_that_fails_ends_the_session(rt: HostRuntime) -> Result<(), Fail> {
     let whole = join(rt.alloc(), &SESSION)?;
-    for bytes in 0..whole.text.len() {
-        let devices = Devices {
-            piece: 5,
-            read_fault: Some(bytes),
-            write_fault: None,
-        };
-        let tables = tables_of(rt.alloc())?;
-        let session = serve(rt.alloc(), tables, &whole.text, devices)?;
-        let (done, written) = commands_read(&SESSION, bytes);
+    for bytes in 0..whole.wanted.len() {
         assert!(rt;
-            stopped(
-                &session,
-                CliFaultKind::ReadFault,
-                done,
-                &whole.wanted,
-                written
-            )
+            ends_with_writer(rt.alloc(), &whole, bytes)?,
+            "written {bytes}"
+        );
+    }
+    for bytes in 0..whole.text.len() {
+        assert!(rt;
+            ends_with_reader(rt.alloc(), &whole, bytes)?,
+            "read {bytes}"
         );
     }
     Ok(())
@@ -131,15 +121,18 @@ fn long_line(alloc: Global, length: usize, next: &[u8]) -> Result<Vec<u8>, Alloc
     Ok(text)
 }
 
+/// Whether a line of so many bytes is one unknown command, and the line behind it another.
+fn is_one_command(alloc: Global, length: usize) -> Result<bool, AllocError> {
+    let text = long_line(alloc, length, b"show table u")?;
+    let session = serve(alloc, &[], &text, sound(1_000))?;
+    let wanted = b"Unknown command.\n\nNo such table.\n\n".as_slice();
+    Ok(session.result == Ok(2) && session.written.as_slice() == wanted)
+}
+
 #[test]
 fn a_line_that_is_too_long_is_one_command(rt: HostRuntime) -> Result<(), Fail> {
-    static WANTED: &[u8] = b"Unknown command.\n\nNo such table.\n\n";
     for length in [16_383usize, 16_384, 16_385, 40_000] {
-        let text = long_line(rt.alloc(), length, b"show table u")?;
-        let tables = tables_of(rt.alloc())?;
-        let session = serve(rt.alloc(), tables, &text, sound(1_000))?;
-        assert!(rt; session.result == Ok(2));
-        assert_eq!(rt; session.written.as_slice(), WANTED);
+        assert!(rt; is_one_command(rt.alloc(), length)?, "{length} bytes");
     }
     Ok(())
 }
@@ -185,41 +178,24 @@ fn answer_to_front(changes: &[(usize, &'static [u8])], length: usize) -> &'stati
     answer
 }
 
+/// Whether a front of a line is answered so.
+fn is_answered(alloc: Global, front: &[u8], answer: &[u8]) -> Result<bool, AllocError> {
+    let session = serve(alloc, &[], front, sound(100))?;
+    Ok(session.result.is_ok() && session.written.as_slice() == answer)
+}
+
 #[test]
 fn every_front_of_a_line_is_answered(rt: HostRuntime) -> Result<(), Fail> {
     for (line, changes) in FRONTS.iter() {
         for length in 0..line.len() + 1 {
-            let tables = tables_of(rt.alloc())?;
-            let session = serve(rt.alloc(), tables, &line[..length], sound(100))?;
-            assert!(rt; session.result.is_ok());
-            assert_eq!(rt;
-                session.written.as_slice(),
-                answer_to_front(changes, length)
+            let answer = answer_to_front(changes, length);
+            assert!(rt;
+                is_answered(rt.alloc(), &line[..length], answer)?,
+                "front of {length}"
             );
         }
     }
     Ok(())
-}
-
-/// The key of an address; none where memory is short.
-fn key(alloc: Global, text: &[u8]) -> Option<StickKey> {
-    read_key(alloc, KeyType::Ip, text).ok()
-}
-
-/// Tracks an address in the first table, on its shard.
-fn track(alloc: Global, tables: &mut Tables, text: &[u8]) -> bool {
-    let Some(key) = key(alloc, text) else {
-        return false;
-    };
-    if tables.is_empty() {
-        return false;
-    }
-    let keeper = &mut tables[0].keeper;
-    let shard = shard_of(&key, keeper.shards());
-    matches!(
-        keeper.call(shard, 0, Event::Track(5_000, key)),
-        Ok(Reply::Tracked { .. })
-    )
 }
 
 /// What a session writes where 10.0.0.1 and 10.0.0.4 of table t are tracked.
@@ -259,12 +235,9 @@ static IN_USE: [Answered; 6] = [
 
 #[test]
 fn entries_in_use_stay(rt: HostRuntime) -> Result<(), Fail> {
-    let whole: Joined = join(rt.alloc(), &IN_USE)?;
-    let mut tables = tables_of(rt.alloc())?;
-    assert!(rt; track(rt.alloc(), &mut tables, b"10.0.0.1"));
-    assert!(rt; track(rt.alloc(), &mut tables, b"10.0.0.4"));
-    let session = serve(rt.alloc(), tables, &whole.text, sound(100))?;
-    assert!(rt; session.result == Ok(whole.commands));
-    assert_eq!(rt; session.written.as_slice(), whole.wanted.as_slice());
+    let whole = join(rt.alloc(), &IN_USE)?;
+    let tracked = [b"10.0.0.1".as_slice(), b"10.0.0.4".as_slice()];
+    let session = serve(rt.alloc(), &tracked, &whole.text, sound(100))?;
+    assert!(rt; is_wanted(&session, &whole));
     Ok(())
 }

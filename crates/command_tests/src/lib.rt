@@ -7,3 +7,5 @@ mod answers;
 mod faults;
 #[cfg(test)]
 mod session;
+#[cfg(test)]
+mod written;

@@ -6,18 +6,18 @@ ghost use Rattle.table_model.specs.Limits.{IsTableSpec};
 
 use byte_ports::{MemorySink, MemorySource};
 use sequence::Sequence;
-use shard_book::Books;
+use shard_book::{Books, Keeper};
 use shard_cli::{CliFault, CommandService, Named, StoppedClock};
 use std::alloc::{AllocError, Global};
-use stick_key::KeyType;
-use stick_table::{PlainTable, Spec};
+use stick_key::{KeyType, StickKey, read_key, shard_of};
+use stick_table::{Event, PlainTable, Reply, Spec};
 use stored_data::{Column, Datum, StoredSet};
 
 /// Tables in shards, by name.
-pub type Tables = Vec<Named<Books<PlainTable>>>;
+type Tables = Vec<Named<Books<PlainTable>>>;
 
 /// A service of commands for tests.
-pub type Service = CommandService<Books<PlainTable>, StoppedClock>;
+type Service = CommandService<Books<PlainTable>, StoppedClock>;
 
 /// The columns of table t: gpc0, conn_rate(10s), conn_cur and bytes_in_cnt.
 fn columns_of_t(alloc: Global) -> Result<StoredSet, AllocError> {
@@ -87,7 +87,7 @@ fn spec_of(kind: KeyType, size: u32, expire: Option<u32>, nopurge: bool, columns
 
 /// The tables: t for 100 addresses and 30 s, in three shards; full for 3 addresses, which flushes none, in two shards;
 /// n for 10 integers; s for 5 texts of 4 bytes, in two shards.
-pub fn tables_of(alloc: Global) -> Result<Tables, AllocError> {
+fn tables_of(alloc: Global) -> Result<Tables, AllocError> {
     let mut tables = Vec::new(alloc);
     let t = spec_of(KeyType::Ip, 100, Some(30_000), false, columns_of_t(alloc)?);
     add_table(alloc, &mut tables, b"t", t, 3)?;
@@ -132,15 +132,40 @@ pub fn sound(piece: usize) -> Devices
     }
 }
 
-/// Serves a text at moment 5,000 with these tables.
+/// The key of an address; none where memory is short.
+fn key(alloc: Global, text: &[u8]) -> Option<StickKey> {
+    read_key(alloc, KeyType::Ip, text).ok()
+}
+
+/// Tracks an address in the first table, on its shard; answers whether it did.
+fn track(alloc: Global, tables: &mut Tables, text: &[u8]) -> bool {
+    let Some(key) = key(alloc, text) else {
+        return false;
+    };
+    if tables.is_empty() {
+        return false;
+    }
+    let keeper = &mut tables[0].keeper;
+    let shard = shard_of(&key, keeper.shards());
+    matches!(
+        keeper.call(shard, 0, Event::Track(5_000, key)),
+        Ok(Reply::Tracked { .. })
+    )
+}
+
+/// Serves a text at moment 5,000, with these addresses tracked in table t.
 pub fn serve(
     alloc: Global,
-    tables: Tables,
+    tracked: &[&[u8]],
     text: &[u8],
     devices: Devices,
 ) -> Result<Session, AllocError>
     requires { 0 < devices.piece }
 {
+    let mut tables = tables_of(alloc)?;
+    for address in tracked {
+        track(alloc, &mut tables, address);
+    }
     let mut service: Service = CommandService::new(alloc, tables, StoppedClock::at(5_000));
     let mut reader = MemorySource::new(text, devices.piece, devices.read_fault);
     let mut writer = MemorySink::new(alloc, 7, devices.write_fault);

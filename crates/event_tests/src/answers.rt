@@ -7,7 +7,7 @@ use crate::stored::{
 use std::alloc::AllocError;
 use std::cmp::Ordering;
 use stick_key::StickKey;
-use stick_table::{Cell, Filter, Op, Refusal, Reply, Row, Ticket};
+use stick_table::{Cell, Event, Filter, Op, Refusal, Reply, Row, Ticket};
 use stored_data::{Act, Datum};
 
 /// The keys are the numbers below this one.
@@ -16,6 +16,23 @@ pub const KEYS: u32 = 10;
 /// Whether a key is this number.
 fn is_number(key: &StickKey, number: u32) -> bool {
     key.bytes() == number.to_be_bytes().as_slice()
+}
+
+/// The number that a key is.
+fn number_of(key: &StickKey) -> u32 {
+    match key.bytes().as_array() {
+        Some(bytes) => u32::from_be_bytes(*bytes),
+        None => KEYS,
+    }
+}
+
+/// How many numbers of a table's life an event takes.
+fn taken_by(event: &Event) -> u64 {
+    match event {
+        Event::Track(_, _) => 2,
+        Event::Release(_, _) => 0,
+        _ => 1,
+    }
 }
 
 fn compares(op: Op, a: u64, b: u64) -> bool {
@@ -64,30 +81,27 @@ fn is_expired(reply: &Reply, wanted: u64) -> bool {
 }
 
 impl Reckoning {
-    /// The refusal of an event, given whether its ticket is out, and how many numbers of the table's life it takes.
-    fn refusal(&self, out: bool, taken: u64) -> Option<Refusal> {
-        if !out {
+    /// Whether the ticket of an event is out, if it has one.
+    fn is_out(&self, event: &Event) -> bool {
+        match event {
+            Event::Look(_, ticket) => self.key_of(*ticket).is_some(),
+            Event::Count(_, ticket, _) => self.key_of(*ticket).is_some(),
+            Event::Release(_, ticket) => self.key_of(*ticket).is_some(),
+            _ => true,
+        }
+    }
+
+    /// The refusal of an event, if it is to be refused.
+    fn refusal(&self, event: &Event) -> Option<Refusal> {
+        if !self.is_out(event) {
             return Some(Refusal::Stale);
         }
+        let taken = taken_by(event);
         let used = self.events.saturating_add(self.held.len() as u64);
         if taken > 0 && used.saturating_add(taken) > self.limits.life {
             return Some(Refusal::Exhausted);
         }
         None
-    }
-
-    /// The reply of a table that is to give one; or whether it refuses as it should.
-    fn reply<'a>(
-        &self,
-        answer: &'a Result<Reply, Refusal>,
-        out: bool,
-        taken: u64,
-    ) -> Result<&'a Reply, bool> {
-        match (answer, self.refusal(out, taken)) {
-            (Ok(reply), None) => Ok(reply),
-            (Err(refusal), Some(wanted)) => Err(*refusal == wanted),
-            _ => Err(false),
-        }
     }
 
     /// What is shown of a datum, where it is stored.
@@ -194,39 +208,8 @@ impl Reckoning {
         (removed, kept)
     }
 
-    /// Whether a table answered a Get as the rules say.
-    pub fn is_get(&mut self, now: u64, key: u32, answer: &Result<Reply, Refusal>) -> bool {
-        let reply = match self.reply(answer, true, 1) {
-            Ok(reply) => reply,
-            Err(agrees) => return agrees,
-        };
-        self.begin(now);
-        self.shows(key, reply)
-    }
-
-    /// Whether it answered a Look so.
-    pub fn is_look(&mut self, now: u64, ticket: Ticket, answer: &Result<Reply, Refusal>) -> bool {
-        let key = self.key_of(ticket);
-        let reply = match self.reply(answer, key.is_some(), 1) {
-            Ok(reply) => reply,
-            Err(agrees) => return agrees,
-        };
-        self.begin(now);
-        self.shows(key.unwrap_or(KEYS), reply)
-    }
-
-    /// Whether it answered a Track so. The new reference is held from then on.
-    pub fn is_track(
-        &mut self,
-        now: u64,
-        key: u32,
-        answer: &Result<Reply, Refusal>,
-    ) -> Result<bool, AllocError> {
-        let reply = match self.reply(answer, true, 2) {
-            Ok(reply) => reply,
-            Err(agrees) => return Ok(agrees),
-        };
-        self.begin(now);
+    /// Whether a Track is to be replied so. The new reference is held from then on.
+    fn is_track(&mut self, key: u32, reply: &Reply) -> Result<bool, AllocError> {
         if self.held.len() as u64 >= u64::from(self.limits.max_refs) {
             return Ok(matches!(reply, Reply::NoRefs));
         }
@@ -259,21 +242,9 @@ impl Reckoning {
         Ok(())
     }
 
-    /// Whether it answered a Count so.
-    pub fn is_count(
-        &mut self,
-        now: u64,
-        ticket: Ticket,
-        act: Act,
-        answer: &Result<Reply, Refusal>,
-    ) -> Result<bool, AllocError> {
-        let key = self.key_of(ticket);
-        let reply = match self.reply(answer, key.is_some(), 1) {
-            Ok(reply) => reply,
-            Err(agrees) => return Ok(agrees),
-        };
-        self.begin(now);
-        let entry = self.entry_or_new(key.unwrap_or(KEYS));
+    /// Whether a Count is to be replied so.
+    fn is_count(&mut self, key: u32, act: Act, reply: &Reply) -> Result<bool, AllocError> {
+        let entry = self.entry_or_new(key);
         if act == Act::Connection {
             self.connect(entry)?;
         }
@@ -282,38 +253,16 @@ impl Reckoning {
         Ok(is_value(reply, answer_of(act, entry, changed)))
     }
 
-    /// Whether it answered a Release so. The reference is held no more.
-    pub fn is_release(
-        &mut self,
-        now: u64,
-        ticket: Ticket,
-        answer: &Result<Reply, Refusal>,
-    ) -> Result<bool, AllocError> {
-        let key = self.key_of(ticket);
-        let reply = match self.reply(answer, key.is_some(), 0) {
-            Ok(reply) => reply,
-            Err(agrees) => return Ok(agrees),
-        };
-        self.begin(now);
-        let entry = self.refreshed(self.entry_or_new(key.unwrap_or(KEYS)));
+    /// Whether a Release is to be replied so. The reference is held no more.
+    fn is_release(&mut self, ticket: Ticket, reply: &Reply) -> Result<bool, AllocError> {
+        let entry = self.refreshed(self.entry_or_new(self.held_key(ticket)));
         self.keep(entry)?;
         self.held.retain(|held| held.ticket.number != ticket.number);
         Ok(matches!(reply, Reply::Released))
     }
 
-    /// Whether it answered a Put so.
-    pub fn is_put(
-        &mut self,
-        now: u64,
-        key: u32,
-        pairs: &[Cell],
-        answer: &Result<Reply, Refusal>,
-    ) -> Result<bool, AllocError> {
-        let reply = match self.reply(answer, true, 1) {
-            Ok(reply) => reply,
-            Err(agrees) => return Ok(agrees),
-        };
-        self.begin(now);
+    /// Whether a Put is to be replied so.
+    fn is_put(&mut self, key: u32, pairs: &[Cell], reply: &Reply) -> Result<bool, AllocError> {
         if let Some(agrees) = put_fault(pairs, reply) {
             return Ok(agrees);
         }
@@ -325,13 +274,8 @@ impl Reckoning {
         Ok(is_written(reply, created))
     }
 
-    /// Whether it answered a Clear so.
-    pub fn is_clear(&mut self, now: u64, key: u32, answer: &Result<Reply, Refusal>) -> bool {
-        let reply = match self.reply(answer, true, 1) {
-            Ok(reply) => reply,
-            Err(agrees) => return agrees,
-        };
-        self.begin(now);
+    /// Whether a Clear is to be replied so.
+    fn is_clear(&mut self, key: u32, reply: &Reply) -> bool {
         if self.entry(key).is_none() {
             return matches!(reply, Reply::Absent);
         }
@@ -342,31 +286,16 @@ impl Reckoning {
         matches!(reply, Reply::Removed)
     }
 
-    /// Whether it answered a ClearWhere so.
-    pub fn is_clear_where(
-        &mut self,
-        now: u64,
-        filter: &Filter,
-        answer: &Result<Reply, Refusal>,
-    ) -> bool {
-        let reply = match self.reply(answer, true, 1) {
-            Ok(reply) => reply,
-            Err(agrees) => return agrees,
-        };
-        self.begin(now);
+    /// Whether a ClearWhere is to be replied so.
+    fn is_clear_where(&mut self, filter: &Filter, reply: &Reply) -> bool {
         match not_stored(filter) {
             Some(datum) => is_not_stored(reply, datum),
             None => is_cleared(reply, self.clear_meant(filter)),
         }
     }
 
-    /// Whether it answered a List so.
-    pub fn is_list(&mut self, now: u64, filter: &Filter, answer: &Result<Reply, Refusal>) -> bool {
-        let reply = match self.reply(answer, true, 1) {
-            Ok(reply) => reply,
-            Err(agrees) => return agrees,
-        };
-        self.begin(now);
+    /// Whether a List is to be replied so.
+    fn is_list(&self, filter: &Filter, reply: &Reply) -> bool {
         match not_stored(filter) {
             Some(datum) => is_not_stored(reply, datum),
             None => self.is_listing(filter, reply),
@@ -382,14 +311,41 @@ impl Reckoning {
         }
     }
 
-    /// Whether it answered an Expire so.
-    pub fn is_expire(&mut self, now: u64, answer: &Result<Reply, Refusal>) -> bool {
-        let reply = match self.reply(answer, true, 1) {
-            Ok(reply) => reply,
-            Err(agrees) => return agrees,
-        };
-        let before = self.entries.len();
-        self.begin(now);
-        is_expired(reply, before.saturating_sub(self.entries.len()) as u64)
+    /// The key of a ticket that is out; of another, a number that is no key.
+    fn held_key(&self, ticket: Ticket) -> u32 {
+        self.key_of(ticket).unwrap_or(KEYS)
+    }
+
+    /// Whether an event whose moment has come, at which so many entries went, is to be replied so.
+    fn is_reply(&mut self, gone: u64, event: &Event, reply: &Reply) -> Result<bool, AllocError> {
+        match event {
+            Event::Get(_, key) => Ok(self.shows(number_of(key), reply)),
+            Event::Track(_, key) => self.is_track(number_of(key), reply),
+            Event::Look(_, ticket) => Ok(self.shows(self.held_key(*ticket), reply)),
+            Event::Count(_, ticket, act) => self.is_count(self.held_key(*ticket), *act, reply),
+            Event::Release(_, ticket) => self.is_release(*ticket, reply),
+            Event::Put(_, key, pairs) => self.is_put(number_of(key), pairs.as_slice(), reply),
+            Event::Clear(_, key) => Ok(self.is_clear(number_of(key), reply)),
+            Event::ClearWhere(_, filter) => Ok(self.is_clear_where(filter, reply)),
+            Event::List(_, filter) => Ok(self.is_list(filter, reply)),
+            Event::Expire(_) => Ok(is_expired(reply, gone)),
+        }
+    }
+
+    /// Whether a table answered an event of this moment as the rules say. What the event changes is changed here too.
+    pub fn agrees(
+        &mut self,
+        now: u64,
+        event: &Event,
+        answer: &Result<Reply, Refusal>,
+    ) -> Result<bool, AllocError> {
+        match (answer, self.refusal(event)) {
+            (Ok(reply), None) => {
+                let gone = self.begin(now);
+                self.is_reply(gone, event, reply)
+            }
+            (Err(refusal), Some(wanted)) => Ok(*refusal == wanted),
+            _ => Ok(false),
+        }
     }
 }

@@ -1,6 +1,7 @@
 //! What the test draws at random.
 ghost use Rattle.std.specs.Prelude.{◌≤◌, ◌<◌, ◌^◌, All, IfOk};
 ghost use Rattle.stored_data.specs.Data.{greatest};
+ghost use Rattle.table_model.specs.Limits.{IsTableEvent};
 ghost use Rattle.table_model.specs.declared.rows.Cell.{Cell};
 
 use crate::answers::KEYS;
@@ -9,23 +10,19 @@ use crate::reckoning::{Limits, Reckoning};
 use sequence::Sequence;
 use std::alloc::{AllocError, Global};
 use stick_key::{KeyType, Sample, StickKey, convert};
-use stick_table::{Cell, Cells, Filter, Op, Ticket};
+use stick_table::{Cell, Cells, Event, Filter, Op, Ticket};
 use stored_data::{Act, Datum};
 
 /// The greatest moment, in ms.
 const GREATEST_MOMENT: u64 = (1 << 62) - 1;
 
-/// The key of a number.
-pub fn key_of(alloc: Global, number: u32) -> Result<StickKey, AllocError> {
+/// The key of a number: of a few more than there are places.
+fn key(alloc: Global, random: &mut Random, limits: Limits) -> Result<StickKey, AllocError> {
+    let number = random.below(limits.size.saturating_add(2).min(KEYS).max(1));
     match convert(alloc, &Sample::Number(number), KeyType::Integer) {
         Ok(Some(key)) => Ok(key),
         _ => Err(AllocError),
     }
-}
-
-/// A few more keys than there are places.
-pub fn key(random: &mut Random, limits: Limits) -> u32 {
-    random.below(limits.size.saturating_add(2).min(KEYS).max(1))
 }
 
 /// The date of some entry, or the clock.
@@ -55,7 +52,7 @@ pub fn moment(random: &mut Random, plain: &Reckoning) -> u64
 }
 
 /// A ticket that is mostly out: now and then another number, or another slot.
-pub fn ticket(random: &mut Random, plain: &Reckoning) -> Ticket {
+fn ticket(random: &mut Random, plain: &Reckoning) -> Ticket {
     let place = random.below((plain.held.len().min(8) as u32).max(1)) as usize;
     let Some(held) = plain.held.get(place) else {
         return Ticket { number: 1, slot: 0 };
@@ -75,7 +72,7 @@ pub fn ticket(random: &mut Random, plain: &Reckoning) -> Ticket {
 }
 
 /// An act, mostly on a datum that is stored.
-pub fn act(random: &mut Random) -> Act {
+fn act(random: &mut Random) -> Act {
     match random.below(9) {
         0..=2 => Act::IncGpc0,
         3 => Act::ClrGpc0,
@@ -120,7 +117,7 @@ fn pair(random: &mut Random) -> Cell
 }
 
 /// No pair, one, or two.
-pub fn pairs(alloc: Global, random: &mut Random) -> Result<Cells, AllocError>
+fn pairs(alloc: Global, random: &mut Random) -> Result<Cells, AllocError>
     ensures { IfOk result (λ cells. All (λ (pair : Cell). pair.value ≤ greatest pair.datum) cells) }
 {
     let first = pair(random);
@@ -144,15 +141,46 @@ fn op(random: &mut Random) -> Op {
 }
 
 /// A filter of any kind, mostly one that compares.
-pub fn filter(alloc: Global, random: &mut Random, limits: Limits) -> Result<Filter, AllocError> {
+fn filter(alloc: Global, random: &mut Random, limits: Limits) -> Result<Filter, AllocError> {
     match random.below(8) {
         0 => Ok(Filter::Everything),
         1 => Ok(Filter::Nothing),
-        2 => Ok(Filter::Key(key_of(alloc, key(random, limits))?)),
+        2 => Ok(Filter::Key(key(alloc, random, limits)?)),
         _ => {
             let datum = datum(random);
             let op = op(random);
             Ok(Filter::Compare(datum, op, u64::from(random.below(5))))
         }
+    }
+}
+
+/// An event at this moment, of the kind that a number below 20 stands for.
+pub fn event(
+    alloc: Global,
+    random: &mut Random,
+    plain: &Reckoning,
+    kind: u32,
+    now: u64,
+) -> Result<Event, AllocError>
+    requires { now < 2 ^ 62 }
+    ensures { IfOk result IsTableEvent }
+{
+    match kind {
+        0 => Ok(Event::Get(now, key(alloc, random, plain.limits)?)),
+        1..=5 => Ok(Event::Track(now, key(alloc, random, plain.limits)?)),
+        6..=7 => Ok(Event::Look(now, ticket(random, plain))),
+        8..=10 => {
+            let ticket = ticket(random, plain);
+            Ok(Event::Count(now, ticket, act(random)))
+        }
+        11..=12 => Ok(Event::Release(now, ticket(random, plain))),
+        13..=15 => {
+            let key = key(alloc, random, plain.limits)?;
+            Ok(Event::Put(now, key, pairs(alloc, random)?))
+        }
+        16 => Ok(Event::Clear(now, key(alloc, random, plain.limits)?)),
+        17 => Ok(Event::ClearWhere(now, filter(alloc, random, plain.limits)?)),
+        18 => Ok(Event::List(now, filter(alloc, random, plain.limits)?)),
+        _ => Ok(Event::Expire(now)),
     }
 }

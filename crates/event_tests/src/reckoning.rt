@@ -204,13 +204,15 @@ impl Reckoning {
         current.saturating_add(reached)
     }
 
-    /// The moment of an event has come, and it is counted.
-    pub fn begin(&mut self, now: u64) {
+    /// The moment of an event has come, and it is counted. Answers how many entries go.
+    pub fn begin(&mut self, now: u64) -> u64 {
+        let before = self.entries.len();
         let clock = self.clock.max(now);
         let held = self.held.as_slice();
         self.entries.retain(|entry| is_there(held, clock, *entry));
         self.clock = clock;
         self.events = self.events.saturating_add(1);
+        before.saturating_sub(self.entries.len()) as u64
     }
 
     /// Removes the entry of a key.

@@ -9,7 +9,7 @@ use crate::reckoning::{Limits, Reckoning};
 use std::alloc::{AllocError, Global};
 use std::test::Fail;
 use stick_key::KeyType;
-use stick_table::{Event, PlainTable, Spec, Table};
+use stick_table::{PlainTable, Spec, Table};
 use stored_data::{Column, Datum, StoredSet};
 
 /// Adds a column that isn't there.
@@ -104,84 +104,6 @@ impl Trial {
         })
     }
 
-    fn get(&mut self) -> Result<bool, AllocError> {
-        let now = draws::moment(&mut self.random, &self.plain);
-        let number = draws::key(&mut self.random, self.plain.limits);
-        let key = draws::key_of(self.alloc, number)?;
-        let answer = self.table.step(&Event::Get(now, key));
-        Ok(self.plain.is_get(now, number, &answer))
-    }
-
-    fn track(&mut self) -> Result<bool, AllocError> {
-        let now = draws::moment(&mut self.random, &self.plain);
-        let number = draws::key(&mut self.random, self.plain.limits);
-        let key = draws::key_of(self.alloc, number)?;
-        let answer = self.table.step(&Event::Track(now, key));
-        self.plain.is_track(now, number, &answer)
-    }
-
-    fn look(&mut self) -> bool {
-        let now = draws::moment(&mut self.random, &self.plain);
-        let ticket = draws::ticket(&mut self.random, &self.plain);
-        let answer = self.table.step(&Event::Look(now, ticket));
-        self.plain.is_look(now, ticket, &answer)
-    }
-
-    fn count(&mut self) -> Result<bool, AllocError> {
-        let now = draws::moment(&mut self.random, &self.plain);
-        let ticket = draws::ticket(&mut self.random, &self.plain);
-        let act = draws::act(&mut self.random);
-        let answer = self.table.step(&Event::Count(now, ticket, act));
-        self.plain.is_count(now, ticket, act, &answer)
-    }
-
-    fn release(&mut self) -> Result<bool, AllocError> {
-        let now = draws::moment(&mut self.random, &self.plain);
-        let ticket = draws::ticket(&mut self.random, &self.plain);
-        let answer = self.table.step(&Event::Release(now, ticket));
-        self.plain.is_release(now, ticket, &answer)
-    }
-
-    fn put(&mut self) -> Result<bool, AllocError> {
-        let now = draws::moment(&mut self.random, &self.plain);
-        let number = draws::key(&mut self.random, self.plain.limits);
-        let key = draws::key_of(self.alloc, number)?;
-        let pairs = draws::pairs(self.alloc, &mut self.random)?;
-        let again = pairs.copy()?;
-        let answer = self.table.step(&Event::Put(now, key, pairs));
-        self.plain.is_put(now, number, again.as_slice(), &answer)
-    }
-
-    fn clear(&mut self) -> Result<bool, AllocError> {
-        let now = draws::moment(&mut self.random, &self.plain);
-        let number = draws::key(&mut self.random, self.plain.limits);
-        let key = draws::key_of(self.alloc, number)?;
-        let answer = self.table.step(&Event::Clear(now, key));
-        Ok(self.plain.is_clear(now, number, &answer))
-    }
-
-    fn clear_where(&mut self) -> Result<bool, AllocError> {
-        let now = draws::moment(&mut self.random, &self.plain);
-        let filter = draws::filter(self.alloc, &mut self.random, self.plain.limits)?;
-        let again = filter.copy()?;
-        let answer = self.table.step(&Event::ClearWhere(now, filter));
-        Ok(self.plain.is_clear_where(now, &again, &answer))
-    }
-
-    fn list(&mut self) -> Result<bool, AllocError> {
-        let now = draws::moment(&mut self.random, &self.plain);
-        let filter = draws::filter(self.alloc, &mut self.random, self.plain.limits)?;
-        let again = filter.copy()?;
-        let answer = self.table.step(&Event::List(now, filter));
-        Ok(self.plain.is_list(now, &again, &answer))
-    }
-
-    fn expire(&mut self) -> bool {
-        let now = draws::moment(&mut self.random, &self.plain);
-        let answer = self.table.step(&Event::Expire(now));
-        self.plain.is_expire(now, &answer)
-    }
-
     /// Whether the table has counted as many events and has as many references out as reckoned.
     fn has_counted(&self) -> bool {
         self.table.events() == self.plain.events
@@ -190,18 +112,11 @@ impl Trial {
 
     /// One event; answers whether the table answers as reckoned.
     fn event(&mut self) -> Result<bool, AllocError> {
-        match self.random.below(20) {
-            0 => self.get(),
-            1..=5 => self.track(),
-            6..=7 => Ok(self.look()),
-            8..=10 => self.count(),
-            11..=12 => self.release(),
-            13..=15 => self.put(),
-            16 => self.clear(),
-            17 => self.clear_where(),
-            18 => self.list(),
-            _ => Ok(self.expire()),
-        }
+        let kind = self.random.below(20);
+        let now = draws::moment(&mut self.random, &self.plain);
+        let event = draws::event(self.alloc, &mut self.random, &self.plain, kind, now)?;
+        let answer = self.table.step(&event);
+        self.plain.agrees(now, &event, &answer)
     }
 }
 
