@@ -1,19 +1,13 @@
 -- How each change of the links keeps them linked.
-use Rattle.std.proofs.Common.{◌≡◌, ◌≢◌, ℕ, zero, suc, ◌+◌, ◌<◌, ◌≤◌, ◌^◌, ◌-◌, length-append, ◌||◌, true≢false, Bool, true, false, eqb, List, [], ◌∷◌, ◌++◌, length, get_or, set, Some, None, slice_get, refl, sym, ap, subst, ◌∙◌, ◌⊎◌, inl, inr, cond, arith, length-set}
-use Rattle.std.proofs.lemmas.Bool.{eqb-true, eqb-false, ne_eqb}
+use Rattle.std.proofs.Common.{◌≡◌, ◌≢◌, ℕ, zero, suc, ◌<◌, ◌≤◌, ◌^◌, ◌||◌, true≢false, Bool, true, false, eqb, List, [], ◌∷◌, ◌++◌, length, get_or, set, Some, None, slice_get, refl, sym, ap, subst, ◌∙◌, ◌⊎◌, inl, inr, cond, arith, length-set}
+use Rattle.std.proofs.lemmas.Bool.{eqb-true, eqb-false, eq-eqb, ne_eqb}
 use Rattle.std.proofs.lemmas.List.{get_or-set_same, get_or-set_other}
 use Rattle.std.proofs.lemmas.Map.Steps.{length-le_from_distinct_below}
 use Rattle.std.specs.List.{IsDistinct, list_any}
 use Rattle.expiry_order.specs.declared.Link.{Link}
 use Rattle.expiry_order.specs.declared.TheConstants.{NONE}
-use Rattle.expiry_order.specs.Links.{link, no_link, walk, IsLinked, with_next, with_previous, slot_or_none}
+use Rattle.expiry_order.specs.Links.{link, no_link, walk, slots_from, IsLinked, with_next, with_previous, slot_or_none}
 use Rattle.slot_handle.proofs.DistinctSlots.{Off, Off-cut, distinct-push, distinct-cut, distinct-last, distinct-front, distinct-back, distinct-head}
-
-pub walk-linked : (links : List Link) (slots : List ℕ) (before first last after : ℕ) → IsLinked links before first last after slots → walk links (length slots) first ≡ slots
-walk-linked links [] before first last after p = refl
-walk-linked links (s ∷ slots) before first last after p =
-    let on = walk-linked links slots s (link links s).next last after p.3 in
-    rw p.0 (ap (λ l. s ∷ l) on)
 
 -- a write at a slot that is none of these
 pub linked-set : (links : List Link) (at : ℕ) (w : Link) (slots : List ℕ) (before first last after : ℕ) → Off at slots → IsLinked links before first last after slots → IsLinked (set links at w) before first last after slots
@@ -142,10 +136,6 @@ right_relinked links (y ∷ back) before first last previous small distinct p =
     (subst (λ ls. IsLinked ls previous y (cond (eqb y NONE) previous last) NONE (y ∷ back)) (sym (changed_previous links y previous some))
     (subst (λ l. IsLinked links' previous y l NONE (y ∷ back)) (sym kept) made))
 
-pub length-walk : (links : List Link) (count slot : ℕ) → length (walk links count slot) ≡ count
-length-walk links zero slot = refl
-length-walk links (suc count) slot = ap suc (length-walk links count (link links slot).next)
-
 pub length-with_next : (links : List Link) (at next : ℕ) → length (with_next links at next) ≡ length links
 length-with_next links at next = by_test (eqb at NONE)
   where
@@ -248,45 +238,56 @@ pub slots_fit : (links : List Link) (slots : List ℕ) (before first last after 
 slots_fit links slots before first last after distinct p =
     length-le_from_distinct_below slots (length links) distinct (all_inside links slots before first last after p)
 
+-- a walk goes through the slots that are linked, however many more it may go
+walk-linked : (links : List Link) (most : ℕ) (slots : List ℕ) (before first last : ℕ) → Small links → length slots ≤ most → IsLinked links before first last NONE slots → walk links most first ≡ slots
+walk-linked links zero [] before first last small fit p = refl
+walk-linked links zero (s ∷ slots) before first last small fit p = absurd (omega arith)
+walk-linked links (suc most) [] before first last small fit p = ap (λ b. cond b [] (first ∷ walk links most (link links first).next)) (eq-eqb first NONE p.0)
+walk-linked links (suc most) (s ∷ slots) before first last small fit p =
+    let on = walk-linked links most slots s (link links s).next last small (omega arith) p.3 in
+    rw p.0 (ap (λ b. cond b [] (s ∷ walk links most (link links s).next)) (not_none links s small p.1) ∙ ap (λ l. s ∷ l) on)
+
+pub walk-none : (links : List Link) (most : ℕ) → walk links most NONE ≡ []
+walk-none links zero = refl
+walk-none links (suc most) = refl
+
 -- the links go through these slots, which are distinct
-pub record IsOrder (links : List Link) (front back count : ℕ) (slots : List ℕ) : Type 0 where
+pub record IsOrder (links : List Link) (front back : ℕ) (slots : List ℕ) : Type 0 where
   pub small : Small links
   pub linked : IsLinked links NONE front back NONE slots
   pub distinct : IsDistinct eqb slots
-  pub walked : walk links count front ≡ slots
-  pub counted : length slots ≡ count
+  pub walked : slots_from links front ≡ slots
 
-pub order_is : (links : List Link) (front back count : ℕ) → Small links × IsLinked links NONE front back NONE (walk links count front) × IsDistinct eqb (walk links count front) → IsOrder links front back count (walk links count front)
-order_is links front back count p = record { small = p.0; linked = p.1; distinct = p.2; walked = refl; counted = length-walk links count front }
+pub order_is : (links : List Link) (front back : ℕ) → Small links × IsLinked links NONE front back NONE (slots_from links front) × IsDistinct eqb (slots_from links front) → IsOrder links front back (slots_from links front)
+order_is links front back p = record { small = p.0; linked = p.1; distinct = p.2; walked = refl }
 
-pub order_from : (links : List Link) (front back count : ℕ) (slots : List ℕ) → Small links → IsLinked links NONE front back NONE slots → IsDistinct eqb slots → length slots ≡ count → IsOrder links front back count slots
-order_from links front back count slots small linked distinct counted =
-    record { small = small; linked = linked; distinct = distinct; walked = ap (λ n. walk links n front) (sym counted) ∙ walk-linked links slots NONE front back NONE linked; counted = counted }
+pub order_from : (links : List Link) (front back : ℕ) (slots : List ℕ) → Small links → IsLinked links NONE front back NONE slots → IsDistinct eqb slots → IsOrder links front back slots
+order_from links front back slots small linked distinct =
+    record { small = small; linked = linked; distinct = distinct; walked = walk-linked links (length links) slots NONE front back small (slots_fit links slots NONE front back NONE distinct linked) linked }
 
-pub invariant_from : (links : List Link) (front back count : ℕ) (slots : List ℕ) → IsOrder links front back count slots → Small links × IsLinked links NONE front back NONE (walk links count front) × IsDistinct eqb (walk links count front)
-invariant_from links front back count slots o = (o.small, rw o.walked o.linked, rw o.walked o.distinct)
+pub invariant_from : (links : List Link) (front back : ℕ) (slots : List ℕ) → IsOrder links front back slots → Small links × IsLinked links NONE front back NONE (slots_from links front) × IsDistinct eqb (slots_from links front)
+invariant_from links front back slots o = (o.small, rw o.walked o.linked, rw o.walked o.distinct)
 
-pub order-joined : (links : List Link) (front back count slot : ℕ) (slots : List ℕ) → IsOrder links front back count slots → Off slot slots → slot < length links
-    → IsOrder (with_next (set links slot record { next = NONE; previous = back }) back slot) (cond (eqb back NONE) slot front) slot (count + 1) (slots ++ slot ∷ [])
-order-joined links front back count slot slots o off inside =
+pub order-joined : (links : List Link) (front back slot : ℕ) (slots : List ℕ) → IsOrder links front back slots → Off slot slots → slot < length links
+    → IsOrder (with_next (set links slot record { next = NONE; previous = back }) back slot) (cond (eqb back NONE) slot front) slot (slots ++ slot ∷ [])
+order-joined links front back slot slots o off inside =
     let long = length-with_next (set links slot record { next = NONE; previous = back }) back slot in
     let long2 = length-set links slot record { next = NONE; previous = back } in
-    let small = o.small in let counted = o.counted in
-    order_from _ _ slot (count + 1) (slots ++ slot ∷ []) (omega arith)
+    let small = o.small in
+    order_from _ _ slot (slots ++ slot ∷ []) (omega arith)
     (joined links slots front back slot o.small o.linked o.distinct off inside)
-    (distinct-push slots slot o.distinct off) (omega (arith, length-append slots (slot ∷ [])))
+    (distinct-push slots slot o.distinct off)
 
-pub order-left_out : (links : List Link) (front back count slot : ℕ) (before behind : List ℕ) → IsOrder links front back count (before ++ slot ∷ behind)
+pub order-left_out : (links : List Link) (front back slot : ℕ) (before behind : List ℕ) → IsOrder links front back (before ++ slot ∷ behind)
     → IsOrder (with_previous (with_next links (link links slot).previous (link links slot).next) (link links slot).next (link links slot).previous)
-    (cond (eqb (link links slot).previous NONE) (link links slot).next front) (cond (eqb (link links slot).next NONE) (link links slot).previous back) (count - 1) (before ++ behind)
-order-left_out links front back count slot before behind o =
+    (cond (eqb (link links slot).previous NONE) (link links slot).next front) (cond (eqb (link links slot).next NONE) (link links slot).previous back) (before ++ behind)
+order-left_out links front back slot before behind o =
     let long = length-with_next links (link links slot).previous (link links slot).next in
     let long2 = length-with_previous (with_next links (link links slot).previous (link links slot).next) (link links slot).next (link links slot).previous in
-    let small = o.small in let counted = o.counted in
-    order_from _ _ _ (count - 1) (before ++ behind) (omega arith)
+    let small = o.small in
+    order_from _ _ _ (before ++ behind) (omega arith)
     (left_out links before behind front back slot o.small o.linked o.distinct)
     (distinct-cut before behind slot o.distinct).rest
-    (omega (arith, length-append before (slot ∷ behind), length-append before behind))
 
 any_default : (links : List Link) (slot : ℕ) (d e : Link) → slot < length links → get_or links slot d ≡ get_or links slot e
 any_default [] slot d e inside = absurd (omega arith)

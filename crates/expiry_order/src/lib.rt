@@ -28,7 +28,6 @@ pub struct Order {
     links: Vec<Link>,
     front: u32,
     back: u32,
-    count: u32,
 }
 
 impl Model for Order {
@@ -40,14 +39,14 @@ impl Model for Order {
 
     ghost coded = { queue_code };
 
-    ghost use Rattle.expiry_order.specs.Links.{walk, IsLinked};
+    ghost use Rattle.expiry_order.specs.Links.{slots_from, IsLinked};
     ghost use Rattle.expiry_order.specs.declared.TheConstants.{NONE};
 
-    ghost view = { λ o. queue (length o.links.items) (walk o.links.items o.count o.front) };
+    ghost view = { λ o. queue (length o.links.items) (slots_from o.links.items o.front) };
 
     ghost invariant = { λ o. (length o.links.items ≤ 2 ^ 30)
-        × IsLinked o.links.items NONE o.front o.back NONE (walk o.links.items o.count o.front)
-        × IsDistinct nat_eq (walk o.links.items o.count o.front) };
+        × IsLinked o.links.items NONE o.front o.back NONE (slots_from o.links.items o.front)
+        × IsDistinct nat_eq (slots_from o.links.items o.front) };
 }
 
 fn some_slot(slot: u32) -> Option<u32>
@@ -97,7 +96,6 @@ impl Order {
             links: Vec::from_elem(alloc, alone, capacity as usize)?,
             front: NONE,
             back: NONE,
-            count: 0,
         })
     }
 
@@ -129,7 +127,6 @@ impl Order {
         };
         set_next(&mut self.links, &mut self.front, self.back, slot);
         self.back = slot;
-        self.count += 1;
     }
 
     /// Takes a slot out. The others keep their order.
@@ -140,6 +137,5 @@ impl Order {
         let Link { next, previous } = self.links[slot as usize];
         set_next(&mut self.links, &mut self.front, previous, next);
         set_previous(&mut self.links, &mut self.back, next, previous);
-        self.count -= 1;
     }
 }

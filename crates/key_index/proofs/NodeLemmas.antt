@@ -9,7 +9,7 @@ use Rattle.key_index.specs.Keys.{Entry, Keys, entry, keys, HasDistinctKeys, HasK
 use Rattle.key_index.specs.declared.Node.{Node}
 use Rattle.key_index.specs.declared.TheConstants.{NONE}
 
-any_head : (heads : List ℕ) (bucket d e : ℕ) → bucket < length heads → get_or heads bucket d ≡ get_or heads bucket e
+pub any_head : (heads : List ℕ) (bucket d e : ℕ) → bucket < length heads → get_or heads bucket d ≡ get_or heads bucket e
 any_head [] bucket d e inside = absurd (omega arith)
 any_head (h ∷ heads) zero d e inside = refl
 any_head (h ∷ heads) (suc bucket) d e inside = any_head heads bucket d e (omega arith)
@@ -75,3 +75,15 @@ absent_without index slot key distinct here q has =
       | inl same ↦ (let none = ap (λ k. get_or (set index.slots slot None) k None) same ∙ set_none index.slots slot in let some = has.1 in cc)
       | inr other ↦ other (distinct q slot key (has.0, sym (get_or-set_other index.slots slot q None None other) ∙ has.1) here)
     ]
+
+-- nodes that show the same, and one slot less, have no key that was not there
+pub shown_kept : (nodes next : List (Option Node)) (slot : ℕ) → map entry_in next ≡ map entry_in nodes → (q : ℕ) (n : Node) → HasNode (set next slot None) q n → (m : Node) × HasNode nodes q m × (m.key ≡ n.key)
+shown_kept nodes next slot shows q n has = elim (which q slot) [
+  | inl same ↦ (let none = ap (λ k. get_or (set next slot None) k None) same ∙ set_none next slot in cc)
+  | inr other ↦ (
+      let there : HasNode next q n = sym (get_or-set_other next slot q None None other) ∙ has in
+      let shown : entry_in (get_or nodes q None) ≡ Some (entry n.key n.generation) =
+      sym (get_or-map entry_in nodes q None) ∙ ap (λ l. get_or l q None) (sym shows) ∙ get_or-map entry_in next q None ∙ ap entry_in there in
+      let m = has_entry nodes q _ shown in
+      (m.0, m.1, ap (λ (e : Entry). e.key) m.2))
+]

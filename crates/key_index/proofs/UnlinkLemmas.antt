@@ -1,5 +1,5 @@
 -- All chains, where the slot before is linked past one that leaves.
-use Rattle.std.proofs.Common.{◌≡◌, ◌≢◌, ◌⊎◌, inl, inr, ℕ, ◌<◌, eqb, cond, List, [], ◌∷◌, ◌++◌, map, length, get_or, set, Option, Some, None, refl, sym, ap, subst, ◌∙◌, arith, length-set, append_assoc}
+use Rattle.std.proofs.Common.{◌≡◌, ◌≢◌, ◌⊎◌, inl, inr, ℕ, ◌<◌, Bool, true, false, eqb, cond, List, [], ◌∷◌, ◌++◌, map, length, get_or, set, Option, Some, None, refl, sym, ap, subst, ◌∙◌, arith, length-set, append_assoc}
 use Rattle.std.proofs.lemmas.Bool.{eqb-false}
 use Rattle.std.proofs.lemmas.List.{get_or-set_same, get_or-set_other}
 use Rattle.std.proofs.Permutation.{which}
@@ -146,3 +146,10 @@ module _ (nodes : List (Option Node)) (heads : List ℕ) (seed slot bucket befor
           let distinct = subst (IsDistinct eqb) f.is (sound.chains f.home f.inside).distinct in
           let at_p = distinct-cut f.front (slot ∷ f.back) before distinct in
           λ e. eqb-false before slot at_p.behind.0 (sym e)
+
+pub length_with_next : (heads : List ℕ) (bucket before next : ℕ) → length (heads_with_next heads bucket before next) ≡ length heads
+length_with_next heads bucket before next = by_test (eqb before NONE)
+  where
+    by_test : (b : Bool) → length (cond b (set heads bucket next) heads) ≡ length heads
+    by_test true = length-set heads bucket next
+    by_test false = refl

@@ -1,6 +1,7 @@
 -- How an `Index` lays out its chains. No public clause cites this module.
 use Rattle.std.specs.Prelude.{◌≡◌, ℕ, zero, suc, ◌^◌, ◌<◌, ◌≤◌, ◌⊎◌, ◌==◌, if◌then◌else◌, List, [], ◌∷◌, length, get_or, slice_set, Option, Some, None, eqb}
-use Rattle.std.specs.Prelude.{bit_and, ◌-◌}
+use Rattle.std.specs.Prelude.{bit_and, ◌-◌, ◌/◌}
+use Rattle.std.specs.Int.{bit_at}
 use Rattle.core.specs.Hash.DefaultHasher.{finish, write, with_keys}
 use Rattle.std.specs.List.{IsDistinct}
 use Rattle.key_index.specs.Keys.{Entry, entry}
@@ -14,6 +15,14 @@ hash_of seed bytes = finish (write (with_keys seed seed) bytes)
 -- the bucket of a key: so many of the low bits of its hash
 abbrev pub bucket_of : ℕ → ℕ → List ℕ → ℕ
 bucket_of seed buckets key = bit_and (hash_of seed key) (buckets - 1)
+
+-- the mark of a key: the three highest bits of its hash
+abbrev pub mark_of : ℕ → List ℕ → ℕ
+mark_of seed key = hash_of seed key / 2 ^ 61
+
+-- the marks, where a bucket whose chain has no first slot has none
+abbrev pub marks_behind : List ℕ → ℕ → ℕ → List ℕ
+marks_behind marks bucket first = if first == NONE then slice_set marks bucket 0 else marks
 
 -- the heads, where a bucket that no slot comes before begins with another
 abbrev pub heads_with_next : List ℕ → ℕ → ℕ → ℕ → List ℕ
@@ -76,3 +85,9 @@ pub record IsSound (nodes : List (Option Node)) (heads : List ℕ) (seed : ℕ) 
   pub chains : (bucket : ℕ) → bucket < length heads → Chain nodes seed (length heads) bucket (get_or heads bucket NONE)
   -- no two slots have one key
   pub single : (i j : ℕ) (m n : Node) → HasNode nodes i m → HasNode nodes j n → m.key ≡ n.key → i ≡ j
+
+-- each key's mark is among those of its bucket
+pub record IsMarked (nodes : List (Option Node)) (heads marks : List ℕ) (seed : ℕ) : Type 0 where
+  pub long : length marks ≡ length heads
+  pub marked : (slot : ℕ) (node : Node) → HasNode nodes slot node
+      → bit_at (get_or marks (bucket_of seed (length heads) node.key) 0) (mark_of seed node.key) ≡ 1

@@ -1,14 +1,18 @@
 //! From keys to handles: hash chains through slot numbers.
 #![tactic(auto)]
 
-ghost use Rattle.std.specs.Prelude.{◌≡◌, ◌≢◌, ℕ, ◌<◌, ◌≤◌, ◌^◌, ◌%◌, length, Some, None, IsSome, IfNone, IfOk, IfSome, IsTrue, ◌↔◌};
+ghost use Rattle.std.specs.Prelude.{◌≡◌, ◌≢◌, ℕ, ◌<◌, ◌≤◌, ◌-◌, ◌/◌, ◌^◌, ◌%◌, bit_and, length, Some, None, IsSome, IfNone, IfOk, IfSome, IsTrue, ◌↔◌};
 ghost use Rattle.key_index.specs.Keys.{no_keys, capacity_of, entry, entry_at, handle_at, MapsTo, HasKey, IsAbsent, HasDistinctKeys, with_key, without_slot};
 ghost use Rattle.std.specs.Prelude.{◌⊎◌, List, eqb, vec_len, get_or};
 ghost use Rattle.std.specs.List.{IsDistinct};
-ghost use Rattle.key_index.specs.Chains.{hash_of, bucket_of, IsAmong, IsChain, NamesNext, heads_with_next, nodes_with_next};
+ghost use Rattle.std.specs.Int.{bit_at};
+ghost use Rattle.key_index.specs.Chains.{hash_of, IsAmong, IsChain, NamesNext, heads_with_next, nodes_with_next, marks_behind};
+
+mod sip;
 
 use core::hash::keyed_hasher;
 use sequence::NoMemory;
+use sip::{hash_of_4, hash_of_16};
 pub use slot_handle::Handle;
 use std::alloc::Global;
 use std::hash::Hasher;
@@ -33,9 +37,13 @@ struct Node {
 /// A key's chain is the low bits of its SipHash-1-3, with the seed for both halves of the hash's key. Without the
 /// seed nobody can choose keys of one chain, as far as is known of SipHash; whoever knows it can, and then a call
 /// takes steps in proportion to the keys.
+///
+/// A bucket has a byte of marks, of the keys in its chain and perhaps of some that left it, so that the search for an
+/// absent key mostly reads no slot.
 #[derive(Drop)]
 pub struct Index {
     heads: Vec<u32>,
+    marks: Vec<u8>,
     nodes: Vec<Option<Node>>,
     seed: u64,
 }
@@ -48,11 +56,11 @@ impl Model for Index {
 
     ghost coded = { keys_code };
 
-    ghost use Rattle.key_index.specs.Chains.{entry_in, IsSound};
+    ghost use Rattle.key_index.specs.Chains.{entry_in, IsSound, IsMarked};
 
     ghost view = { λ i. keys (map entry_in i.nodes.items) };
 
-    ghost invariant = { λ i. IsSound i.nodes.items i.heads.items i.seed };
+    ghost invariant = { λ i. IsSound i.nodes.items i.heads.items i.seed × IsMarked i.nodes.items i.heads.items i.marks.items i.seed };
 }
 
 // The hash of a key's bytes: SipHash-1-3, under the seed for both keys.
@@ -60,18 +68,58 @@ impl Model for Index {
 fn hash(seed: u64, bytes: &[u8]) -> u64
     ensures { result ≡ hash_of seed bytes.now }
 {
-    let mut hasher = keyed_hasher(seed, seed);
-    hasher.write(bytes);
-    hasher.finish()
+    match bytes.len() {
+        4 => hash_of_4(seed, bytes),
+        16 => hash_of_16(seed, bytes),
+        _ => {
+            let mut hasher = keyed_hasher(seed, seed);
+            hasher.write(bytes);
+            hasher.finish()
+        }
+    }
 }
 
-// The bucket of a key, of so many, a power of two.
-fn bucket(seed: u64, buckets: usize, key: &StickKey) -> usize
+// The bucket of a key with this hash, of so many, a power of two.
+fn bucket(hash: u64, buckets: usize) -> usize
     requires { 0 < buckets }
-    ensures bucket { result ≡ bucket_of seed buckets key.now }
+    ensures bucket { result ≡ bit_and hash (buckets - 1) }
     ensures within { result < buckets }
 {
-    (hash(seed, key.bytes()) & (buckets as u64 - 1)) as usize
+    (hash & (buckets as u64 - 1)) as usize
+}
+
+// The mark of a key with this hash: one of eight, by bits that no bucket is told by.
+fn mark(hash: u64) -> u32
+    ensures mark { result ≡ hash / 2 ^ 61 }
+    ensures within { result < 8 }
+{
+    (hash >> 61) as u32
+}
+
+fn has_mark(marks: u8, mark: u32) -> bool
+    requires { mark < 8 }
+    ensures { IsTrue result ↔ bit_at marks mark ≡ 1 }
+{
+    (marks >> mark) & 1 == 1
+}
+
+// The marks, and this one.
+fn with_mark(marks: u8, mark: u32) -> u8
+    requires { mark < 8 }
+    ensures marked { bit_at result mark ≡ 1 }
+    ensures kept { (other : ℕ) → bit_at marks other ≡ 1 → bit_at result other ≡ 1 }
+{
+    marks | (1 << mark)
+}
+
+// Forgets the marks of a bucket whose chain has ended.
+fn forget_marks(marks: &mut Vec<u8>, bucket: usize, first: u32)
+    requires { bucket < vec_len marks.old }
+    ensures { marks.new.items ≡ marks_behind marks.old.items bucket first }
+{
+    if first == NONE {
+        marks[bucket] = 0;
+    }
 }
 
 fn is_same(key: &StickKey, other: &StickKey) -> bool
@@ -125,8 +173,8 @@ fn set_next(
 }
 
 impl Index {
-    /// An empty index of `capacity` slots, 1 to 2^30. It takes the memory of them all, and of the heads of its
-    /// chains: the least power of two that is not below the capacity.
+    /// An empty index of `capacity` slots, 1 to 2^30. It takes the memory of them all, and of the heads and marks of
+    /// its chains: the least power of two that is not below one and a half times the capacity.
     pub fn new(alloc: Global, capacity: u32, seed: u64) -> Result<Self, NoMemory>
         requires positive { 0 < capacity }
         requires within { capacity ≤ 2 ^ 30 }
@@ -136,8 +184,10 @@ impl Index {
         for _slot in 0..capacity {
             nodes.push_reserved(None);
         }
+        let buckets = (capacity + capacity / 2).next_power_of_two() as usize;
         Ok(Index {
-            heads: Vec::from_elem(alloc, NONE, capacity.next_power_of_two() as usize)?,
+            heads: Vec::from_elem(alloc, NONE, buckets)?,
+            marks: Vec::from_elem(alloc, 0, buckets)?,
             nodes,
             seed,
         })
@@ -149,7 +199,11 @@ impl Index {
         ensures absent { IfNone result (IsAbsent self.now key.now) }
         ensures distinct { HasDistinctKeys self.now }
     {
-        let bucket = bucket(self.seed, self.heads.len(), key);
+        let hash = hash(self.seed, key.bytes());
+        let bucket = bucket(hash, self.heads.len());
+        if !has_mark(self.marks[bucket], mark(hash)) {
+            return None;
+        }
         let mut slot = self.heads[bucket];
         while slot != NONE {
             match &self.nodes[slot as usize] {
@@ -173,7 +227,8 @@ impl Index {
         requires absent { IsAbsent self.old key }
         ensures { self.new ≡ with_key self.old key handle }
     {
-        let bucket = bucket(self.seed, self.heads.len(), &key);
+        let hash = hash(self.seed, key.bytes());
+        let bucket = bucket(hash, self.heads.len());
         let next = self.heads[bucket];
         self.nodes[handle.slot as usize] = Some(Node {
             key,
@@ -181,6 +236,7 @@ impl Index {
             next,
         });
         self.heads[bucket] = handle.slot;
+        self.marks[bucket] = with_mark(self.marks[bucket], mark(hash));
     }
 
     /// Takes the key of a slot that has one out, and gives it back.
@@ -191,11 +247,15 @@ impl Index {
         ensures absent { IsAbsent self.new result }
     {
         let (bucket, next) = match &self.nodes[slot as usize] {
-            Some(node) => (bucket(self.seed, self.heads.len(), &node.key), node.next),
+            Some(node) => (
+                bucket(hash(self.seed, node.key.bytes()), self.heads.len()),
+                node.next,
+            ),
             None => unreachable!(),
         };
         let before = before(&self.nodes, self.heads[bucket], slot);
         set_next(&mut self.heads, &mut self.nodes, bucket, before, next);
+        forget_marks(&mut self.marks, bucket, self.heads[bucket]);
         match mem::replace(&mut self.nodes[slot as usize], None) {
             Some(
                 Node {

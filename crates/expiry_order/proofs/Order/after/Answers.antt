@@ -1,6 +1,6 @@
 use Rattle.std.proofs.Common.{◌∙◌, sym, ap, subst, arith}
 use Rattle.expiry_order.specs.Queue.{slot_after}
-use Rattle.expiry_order.specs.Links.{link, walk, IsLinked, slot_or_none}
+use Rattle.expiry_order.specs.Links.{link, slots_from, IsLinked, slot_or_none}
 use Rattle.expiry_order.specs.declared.Link.{Link}
 use Rattle.expiry_order.specs.declared.TheConstants.{NONE}
 use Rattle.slot_handle.proofs.DistinctSlots.{cut_at, distinct-cut}
@@ -11,15 +11,15 @@ use Rattle.expiry_order.proofs.Order.after.Goals as goal
 pub index-requires : goal.index-requires
 index-requires c =
     let o = c.self.inside in
-    let cut = cut_at (walk o.links.items o.count o.front) c.args.slot (rw (← c.self.view_is) at c.requires) in
+    let cut = cut_at (slots_from o.links.items o.front) c.args.slot (rw (← c.self.view_is) at c.requires) in
     let linked = subst (IsLinked o.links.items NONE o.front o.back NONE) cut.is c.self.invariant.1 in
     omega (arith, (within o.links.items cut.front cut.back o.front o.back c.args.slot linked).inside, o.links.ok)
 
 pub returns : goal.returns
 returns c =
     let o = c.self.inside in
-    let was = order_is o.links.items o.front o.back o.count c.self.invariant in
-    let cut = cut_at (walk o.links.items o.count o.front) c.args.slot (rw (← c.self.view_is) at c.requires) in
+    let was = order_is o.links.items o.front o.back c.self.invariant in
+    let cut = cut_at (slots_from o.links.items o.front) c.args.slot (rw (← c.self.view_is) at c.requires) in
     let linked = subst (IsLinked o.links.items NONE o.front o.back NONE) cut.is was.linked in
     let here = within o.links.items cut.front cut.back o.front o.back c.args.slot linked in
     let apart = distinct-cut cut.front cut.back c.args.slot (rw cut.is at was.distinct) in

@@ -1,5 +1,5 @@
 use Rattle.std.proofs.Common.{subst}
-use Rattle.expiry_order.specs.Links.{walk, IsLinked}
+use Rattle.expiry_order.specs.Links.{slots_from, IsLinked}
 use Rattle.expiry_order.specs.declared.TheConstants.{NONE}
 use Rattle.slot_handle.proofs.DistinctSlots.{cut_at}
 use Rattle.expiry_order.proofs.LinkLemmas.{within}
@@ -11,6 +11,6 @@ returns-clause-queue c =
     rw (← c.self.view_is) (record {
       distinct = c.self.invariant.2;
       below = λ slot found.
-          let cut = cut_at (walk o.links.items o.count o.front) slot found in
+          let cut = cut_at (slots_from o.links.items o.front) slot found in
           (within o.links.items cut.front cut.back o.front o.back slot (subst (IsLinked o.links.items NONE o.front o.back NONE) cut.is c.self.invariant.1)).inside;
     })

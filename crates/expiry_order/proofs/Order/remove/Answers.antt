@@ -1,6 +1,6 @@
 use Rattle.std.proofs.Common.{◌≢◌, ◌<◌, ◌∙◌, length, sym, ap, subst, arith}
 use Rattle.expiry_order.specs.Queue.{queue, without}
-use Rattle.expiry_order.specs.Links.{link, walk, IsLinked, with_next}
+use Rattle.expiry_order.specs.Links.{link, slots_from, IsLinked, with_next}
 use Rattle.expiry_order.specs.declared.TheConstants.{NONE}
 use Rattle.slot_handle.proofs.DistinctSlots.{cut_at, distinct-cut}
 use Rattle.expiry_order.proofs.SlotLemmas.{without-cut}
@@ -10,14 +10,14 @@ use Rattle.expiry_order.proofs.Order.remove.Goals as goal
 pub index-requires : goal.index-requires
 index-requires c =
     let o = c.self.inside in
-    let cut = cut_at (walk o.links.items o.count o.front) c.args.slot (rw (← c.self.view_is) at c.requires) in
+    let cut = cut_at (slots_from o.links.items o.front) c.args.slot (rw (← c.self.view_is) at c.requires) in
     let linked = subst (IsLinked o.links.items NONE o.front o.back NONE) cut.is c.self.invariant.1 in
     omega (arith, (within o.links.items cut.front cut.back o.front o.back c.args.slot linked).inside, o.links.ok)
 
 pub set_next-requires : goal.set_next-requires
 set_next-requires c =
     let o = c.self.inside in
-    let cut = cut_at (walk o.links.items o.count o.front) c.args.slot (rw (← c.self.view_is) at c.requires) in
+    let cut = cut_at (slots_from o.links.items o.front) c.args.slot (rw (← c.self.view_is) at c.requires) in
     let linked = subst (IsLinked o.links.items NONE o.front o.back NONE) cut.is c.self.invariant.1 in
     let here = within o.links.items cut.front cut.back o.front o.back c.args.slot linked in
     let read = link_read o.links.items c.args.slot c.index.result.now here.inside c.index.ensures in
@@ -26,7 +26,7 @@ set_next-requires c =
 pub set_previous-requires : goal.set_previous-requires
 set_previous-requires c =
     let o = c.self.inside in
-    let cut = cut_at (walk o.links.items o.count o.front) c.args.slot (rw (← c.self.view_is) at c.requires) in
+    let cut = cut_at (slots_from o.links.items o.front) c.args.slot (rw (← c.self.view_is) at c.requires) in
     let linked = subst (IsLinked o.links.items NONE o.front o.back NONE) cut.is c.self.invariant.1 in
     let here = within o.links.items cut.front cut.back o.front o.back c.args.slot linked in
     let read = link_read o.links.items c.args.slot c.index.result.now here.inside c.index.ensures in
@@ -38,22 +38,22 @@ set_previous-requires c =
 pub invariant_of-self : goal.invariant_of-self
 invariant_of-self c =
     let o = c.self.inside in
-    let cut = cut_at (walk o.links.items o.count o.front) c.args.slot (rw (← c.self.view_is) at c.requires) in
-    let was = subst (IsOrder o.links.items o.front o.back o.count) cut.is (order_is o.links.items o.front o.back o.count c.self.invariant) in
+    let cut = cut_at (slots_from o.links.items o.front) c.args.slot (rw (← c.self.view_is) at c.requires) in
+    let was = subst (IsOrder o.links.items o.front o.back) cut.is (order_is o.links.items o.front o.back c.self.invariant) in
     let here = within o.links.items cut.front cut.back o.front o.back c.args.slot was.linked in
     let read = link_read o.links.items c.args.slot c.index.result.now here.inside c.index.ensures in
-    let now = order-left_out o.links.items o.front o.back o.count c.args.slot cut.front cut.back was in
-    rw (c.set_previous.ensures.links, c.set_previous.ensures.back, c.set_next.ensures.links, c.set_next.ensures.front, read) (invariant_from _ _ _ _ _ now)
+    let now = order-left_out o.links.items o.front o.back c.args.slot cut.front cut.back was in
+    rw (c.set_previous.ensures.links, c.set_previous.ensures.back, c.set_next.ensures.links, c.set_next.ensures.front, read) (invariant_from _ _ _ _ now)
 
 pub returns : goal.returns
 returns c =
     let o = c.self.inside in
-    let cut = cut_at (walk o.links.items o.count o.front) c.args.slot (rw (← c.self.view_is) at c.requires) in
-    let was = subst (IsOrder o.links.items o.front o.back o.count) cut.is (order_is o.links.items o.front o.back o.count c.self.invariant) in
+    let cut = cut_at (slots_from o.links.items o.front) c.args.slot (rw (← c.self.view_is) at c.requires) in
+    let was = subst (IsOrder o.links.items o.front o.back) cut.is (order_is o.links.items o.front o.back c.self.invariant) in
     let apart = distinct-cut cut.front cut.back c.args.slot was.distinct in
     let here = within o.links.items cut.front cut.back o.front o.back c.args.slot was.linked in
     let read = link_read o.links.items c.args.slot c.index.result.now here.inside c.index.ensures in
-    let now = order-left_out o.links.items o.front o.back o.count c.args.slot cut.front cut.back was in
+    let now = order-left_out o.links.items o.front o.back c.args.slot cut.front cut.back was in
     let l = link o.links.items c.args.slot in
     let long = length-with_previous (with_next o.links.items l.previous l.next) l.next l.previous ∙ length-with_next o.links.items l.previous l.next in
     let gone = ap (λ s. without s c.args.slot) cut.is ∙ without-cut cut.front cut.back c.args.slot apart.before apart.behind in
