@@ -1,5 +1,5 @@
 -- How many admitted connections hold one key.
-use Rattle.std.specs.Prelude.{ℕ, ◌≤◌, nat_eq, Bool, true, false, ◌&&◌, Option, Some, None, List, count_by}
+use Rattle.std.specs.Prelude.{ℕ, ◌≤◌, nat_eq, Bool, true, false, ◌&&◌, Option, Some, None, List, count_by, length}
 use Rattle.std.specs.Option.{option_map_or, option_and_then}
 use Rattle.table_model.specs.Key.{Key, same_key}
 use Rattle.table_model.specs.State.{State, key_of}
@@ -13,7 +13,6 @@ use Rattle.world.specs.Tables.{CanOpen, TableState, shard_at}
 use Rattle.world.specs.World.{Elements, IsSchedule, WorldState, begun}
 use Rattle.world.specs.declared.reference.Reference.{Reference}
 use Rattle.world.specs.declared.visit.Visit.{Visit}
-use Rattle.std.specs.Prelude.{length}
 
 abbrev pub is_admitted : Phase → Bool
 is_admitted Admitted = true

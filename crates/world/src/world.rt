@@ -10,10 +10,10 @@ ghost use Rattle.world.specs.WorldCode.{IsReached, StandsFor};
 ghost use Rattle.world.specs.declared.visit.Visit.{Visit as ItsVisit};
 ghost use Rattle.std.specs.Prelude.{List};
 
-use crate::{Reference, Visit};
 use crate::drive::advance;
 use crate::guest::{Guest, wake};
 use crate::open::open_tables;
+use crate::{Reference, Visit};
 use admit_core::{Conn, Phase};
 use rule_model::{Setup, Slot};
 use sequence::NoMemory;
