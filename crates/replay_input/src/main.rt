@@ -7,7 +7,7 @@ use std::io;
 use std::process::ExitCode;
 
 fn main(rt: HostRuntime) -> ExitCode {
-    let Ok(setup) = built_in_setup(rt.alloc()) else {
+    let Ok(setup) = built_in_setup(rt.alloc(), 1) else {
         return ExitCode::FAILURE;
     };
     let mut reader = StreamSource::new(rt.reader());

@@ -1,6 +1,12 @@
-pub mod VisitLemmas
-pub mod AddressLemmas
 pub mod TextLemmas
-pub mod FirstLemmas
-pub mod ConnectionLemmas
-pub mod HeldLemmas
+pub mod EventLemmas
+pub mod CommandLemmas
+pub mod CommandBooks
+pub mod ClockLemmas
+pub mod GuestLemmas
+pub mod PlaceLemmas
+pub mod ProgressLemmas
+pub mod EndedLemmas
+pub mod TimeLemmas
+pub mod ServedLemmas
+pub mod ServerLemmas

@@ -7,23 +7,32 @@ use Rattle.line_text.specs.Chain.{StopsIn}
 use Rattle.line_text.specs.Number.{number_of}
 use Rattle.line_text.specs.Words.{LineRest, after_word, words_left}
 use Rattle.line_text.specs.declared.words.Blanks.TheVariants.{Spaces}
-use Rattle.stick_key.specs.KeyText.{Reads}
-use Rattle.stick_key.specs.declared.kind.KeyType.TheVariants.{Ip, Ipv6}
-use Rattle.stick_key.specs.declared.sample.Sample.{Sample}
-use Rattle.stick_key.specs.declared.sample.Sample.TheVariants.{V4, V6}
-use Rattle.table_cli.specs.Answers.{Answers, AnswersLine, commands_of}
-use Rattle.script.specs.Connections.{ScriptState, connection_of, without}
-use Rattle.script.specs.Visit.{ArrivesFirst, LeavesFirst}
-use Rattle.script.specs.declared.connections.Connection.{Connection}
-use Rattle.script.specs.declared.visit.Verdict.{Verdict}
-use Rattle.script.specs.declared.visit.Verdict.TheVariants.{Accepted, Rejected}
+use Rattle.shard_book.specs.BooksState.{AreBooks, BooksState, ExtendsAt, IsRefusedAt, live_states}
+use Rattle.address_text.specs.Addresses.{address_of}
+use Rattle.address_text.specs.declared.address.Address.{Address}
+use Rattle.address_text.specs.declared.address.Endpoint.{Endpoint}
+use Rattle.rule_model.specs.declared.sections.Setup.{Setup}
+use Rattle.rule_eval.specs.declared.wants.Samples.{Samples}
+use Rattle.admit_core.specs.Conn.{Stands}
+use Rattle.admit_core.specs.Connection.{Connection, arrived, closed}
+use Rattle.admit_core.specs.declared.conn.Conn.{Conn}
+use Rattle.admit_core.specs.declared.need.Phase.{Phase}
+use Rattle.admit_core.specs.declared.need.Phase.TheVariants.{Admitted, Rejected}
+use Rattle.shard_cli.specs.Answers.{Answers, AnswersLine, commands_of}
+use Rattle.shard_cli.specs.Shards.{Answering, Refusing}
+use Rattle.shard_cli.specs.Tables.{CommandState, Showing}
+use Rattle.world.specs.Moves.{Settles}
+use Rattle.world.specs.Tables.{TableState}
+use Rattle.world.specs.declared.reference.Reference.{Reference}
+use Rattle.script.specs.Guests.{MayBe, ScriptState, guest_of, without}
+use Rattle.script.specs.declared.guests.Guest.{Guest}
 
--- commands at a moment; a connection of an ID opens from an address's text; it closes after so many bytes in and out
+-- commands at a moment; a connection of an ID opens from an address's text and a port; it closes after so many bytes in and out
 pub data Line : Type 0 where
   Empty : Line
   Bad : Line
   Commands : ℕ → List ℕ → Line
-  Open : ℕ → ℕ → List ℕ → Line
+  Open : ℕ → ℕ → List ℕ → ℕ → Line
   Close : ℕ → ℕ → ℕ → ℕ → Line
 
 -- ---- reading a line
@@ -44,7 +53,7 @@ port_of word = number_below (2 ^ 16) word
 
 -- ID ADDRESS PORT
 abbrev pub opening : ℕ → Option ℕ → List ℕ → Option ℕ → Line
-opening moment (Some id) address (Some port) = Open moment id address
+opening moment (Some id) address (Some port) = Open moment id address port
 opening moment (Some id) address None = Bad
 opening moment None address port = Bad
 
@@ -92,14 +101,25 @@ line_of None = Bad
 line_of (Some []) = Empty
 line_of (Some (byte ∷ bytes)) = by_words (words_left (text_of (byte ∷ bytes))) (after_word (after_word (text_of (byte ∷ bytes)))).text
 
--- the text is that of an IPv4 or of an IPv6 address
-abbrev pub IsAddress : List ℕ → Sample → Type 0
-IsAddress text (V4 address) = Reads Ip text address
-IsAddress text (V6 address) = Reads Ipv6 text address
-IsAddress text _ = ⊥
+-- ---- commands
 
-abbrev pub IsNoAddress : List ℕ → Type 0
-IsNoAddress text = (source : Sample) → ¬ (IsAddress text source)
+-- the shards of tables answer and refuse as their books do, and each has its book still
+abbrev pub answering : Answering BooksState
+answering old i event reply new = ExtendsAt old i 0 event reply new × AreBooks new
+
+abbrev pub refusing : Refusing BooksState
+refusing old i event refusal = IsRefusedAt (live_states old) i event refusal
+
+-- the clock of a line stands at its moment
+abbrev pub standing : Showing ℕ
+standing old moment new = (moment ≡ old) × (new ≡ old)
+
+abbrev pub at_moment : ℕ → List TableState → CommandState BooksState ℕ
+at_moment moment tables = record { tables = tables; clock = moment }
+
+-- commands work on the tables alone
+abbrev pub Commanded : ScriptState → ScriptState → Type 0
+Commanded old new = new ≡ record old { tables = new.tables }
 
 -- ---- what a line writes and does
 
@@ -107,53 +127,70 @@ abbrev pub bad_line : List ℕ
 bad_line = codes "bad line\n"
 
 -- open ID accept, or open ID reject
-abbrev pub open_text : ℕ → Verdict → List ℕ
-open_text id (Accepted reference) = codes "open " ++ decimal id ++ codes " accept\n"
-open_text id Rejected = codes "open " ++ decimal id ++ codes " reject\n"
+abbrev pub open_text : ℕ → Phase → List ℕ
+open_text id Admitted = codes "open " ++ decimal id ++ codes " accept\n"
+open_text id phase = codes "open " ++ decimal id ++ codes " reject\n"
 
 abbrev pub close_text : ℕ → List ℕ
 close_text id = codes "close " ++ decimal id ++ codes "\n"
 
--- the open connections and, where it is accepted, one more
-abbrev pub with_accepted : List Connection → ℕ → Verdict → List Connection
-with_accepted connections id (Accepted reference) = connections ++ record { id = id; reference = reference } ∷ []
-with_accepted connections id Rejected = connections
+-- the port that connections come to, 0 where the setup listens nowhere
+abbrev pub port_at : Option Endpoint → ℕ
+port_at None = 0
+port_at (Some bind) = bind.port
 
--- an ID that isn't open opens: the first table judges the connection; or its place is refused, it is rejected and nothing changes
-abbrev pub OpensAt : Option Connection → ℕ → ℕ → Sample → ScriptState → List ℕ → ScriptState → Type 0
-OpensAt (Some connection) moment id source old text new = (text ≡ codes "connection already open\n") × (new ≡ old)
-OpensAt None moment id source old text new =
-    ((verdict : Verdict) × ArrivesFirst old.tables moment source verdict new.tables × (new.connections ≡ with_accepted old.connections id verdict) × (text ≡ open_text id verdict))
-    ⊎ ((text ≡ open_text id Rejected) × (new ≡ old))
+-- what is known of a connection from an address and a port
+abbrev pub samples_of : Setup → Address → ℕ → Samples
+samples_of setup source port = record { src = source; src_port = port; dst_port = port_at setup.bind }
+
+-- the connection, where it was admitted
+abbrev pub admitted : Phase → ℕ → Conn Reference → List Guest
+admitted Admitted id conn = record { id = id; conn = conn } ∷ []
+admitted phase id conn = []
+
+-- the rules of the setup judge a connection, at one moment, until it rests or is ended; where it was admitted, it is open
+abbrev pub IsJudged : ℕ → ℕ → Samples → ScriptState → List ℕ → ScriptState → Type 0
+IsJudged moment id samples old text new =
+    (conn : Conn Reference) × (after : Connection Reference) × Stands conn after × Settles moment old.tables (arrived old.setup samples) new.tables after
+    × (new ≡ record old { tables = new.tables; guests = old.guests ++ admitted after.progress.phase id conn }) × (text ≡ open_text id after.progress.phase)
+
+-- an ID that isn't open opens: its connection is judged; or its place is refused, it is rejected and nothing changes
+abbrev pub OpensAt : Option Guest → ℕ → ℕ → Address → ℕ → ScriptState → List ℕ → ScriptState → Type 0
+OpensAt (Some guest) moment id source port old text new = (text ≡ codes "connection already open\n") × (new ≡ old)
+OpensAt None moment id source port old text new = IsJudged moment id (samples_of old.setup source port) old text new ⊎ ((text ≡ open_text id Rejected) × (new ≡ old))
 
 -- a text that is no address makes a bad line, before the ID is looked for
-abbrev pub Opens : ℕ → ℕ → List ℕ → ScriptState → List ℕ → ScriptState → Type 0
-Opens moment id address old text new =
-    (IsNoAddress address × (text ≡ bad_line) × (new ≡ old))
-    ⊎ ((source : Sample) × IsAddress address source × OpensAt (connection_of id old.connections) moment id source old text new)
+abbrev pub OpensFrom : Option Address → ℕ → ℕ → ℕ → ScriptState → List ℕ → ScriptState → Type 0
+OpensFrom None moment id port old text new = (text ≡ bad_line) × (new ≡ old)
+OpensFrom (Some source) moment id port old text new = OpensAt (guest_of id old.guests) moment id source port old text new
 
--- an ID that is open closes: its connection goes, and is open no more
-abbrev pub ClosesAt : Option Connection → ℕ → ℕ → ℕ → ℕ → ScriptState → List ℕ → ScriptState → Type 0
+abbrev pub Opens : ℕ → ℕ → List ℕ → ℕ → ScriptState → List ℕ → ScriptState → Type 0
+Opens moment id address port old text new = OpensFrom (address_of address) moment id port old text new
+
+-- an open connection is closed: its bytes are counted and its references go back, at one moment, and it is open no more
+abbrev pub ClosesAt : Option Guest → ℕ → ℕ → ℕ → ℕ → ScriptState → List ℕ → ScriptState → Type 0
 ClosesAt None moment id bytes_in bytes_out old text new = (text ≡ codes "no such connection\n") × (new ≡ old)
-ClosesAt (Some connection) moment id bytes_in bytes_out old text new =
-    LeavesFirst old.tables moment connection.reference bytes_in bytes_out new.tables × (new.connections ≡ without id old.connections) × (text ≡ close_text id)
+ClosesAt (Some guest) moment id bytes_in bytes_out old text new =
+    (connection after : Connection Reference) × MayBe old.setup guest connection × Settles moment old.tables (closed connection bytes_in bytes_out) new.tables after
+    × (new ≡ record old { tables = new.tables; guests = without id old.guests }) × (text ≡ close_text id)
 
 abbrev pub Closes : ℕ → ℕ → ℕ → ℕ → ScriptState → List ℕ → ScriptState → Type 0
-Closes moment id bytes_in bytes_out old text new = ClosesAt (connection_of id old.connections) moment id bytes_in bytes_out old text new
+Closes moment id bytes_in bytes_out old text new = ClosesAt (guest_of id old.guests) moment id bytes_in bytes_out old text new
 
 abbrev pub LineSays : Line → ScriptState → List ℕ → ScriptState → Type 0
 LineSays Empty old text new = (text ≡ []) × (new ≡ old)
 LineSays Bad old text new = (text ≡ bad_line) × (new ≡ old)
-LineSays (Commands moment commands) old text new = AnswersLine moment old.tables commands text new.tables × (new.connections ≡ old.connections)
-LineSays (Open moment id address) old text new = Opens moment id address old text new
+LineSays (Commands moment commands) old text new = AnswersLine answering refusing standing (at_moment moment old.tables) commands text (at_moment moment new.tables) × Commanded old new
+LineSays (Open moment id address port) old text new = Opens moment id address port old text new
 LineSays (Close moment id bytes_in bytes_out) old text new = Closes moment id bytes_in bytes_out old text new
 
 -- what a line writes stops behind a front of what it could have written as it led to `new`
 abbrev pub LineStops : Line → ScriptState → List ℕ → ScriptState → Type 0
 LineStops Empty old text new = ⊥
 LineStops Bad old text new = IsPrefix text bad_line × (new ≡ old)
-LineStops (Commands moment commands) old text new = (count : ℕ) × StopsIn (Answers moment) old.tables (commands_of commands) count text new.tables × (new.connections ≡ old.connections)
-LineStops (Open moment id address) old text new = (whole : List ℕ) × Opens moment id address old whole new × IsPrefix text whole
+LineStops (Commands moment commands) old text new =
+    (count : ℕ) × StopsIn (Answers answering refusing standing) (at_moment moment old.tables) (commands_of commands) count text (at_moment moment new.tables) × Commanded old new
+LineStops (Open moment id address port) old text new = (whole : List ℕ) × Opens moment id address port old whole new × IsPrefix text whole
 LineStops (Close moment id bytes_in bytes_out) old text new = (whole : List ℕ) × Closes moment id bytes_in bytes_out old whole new × IsPrefix text whole
 
 -- from `old`, a line may write this text and leave `new`

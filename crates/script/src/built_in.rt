@@ -1,20 +1,23 @@
 //! What is served without a configuration.
 
-ghost use Rattle.std.specs.Prelude.{◌≡◌, IfOk};
+ghost use Rattle.std.specs.Prelude.{◌≡◌, ◌≤◌, IfOk};
+ghost use Rattle.world.specs.Tables.{CanOpen};
 ghost use Rattle.script.specs.BuiltIn.{built_in as specified};
-ghost use Rattle.rule_model.specs.Served.{AreTableSpecs};
 
-use rule_model::{LIFE, MAX_REFS, Setup};
-use sequence::NoMemory;
+use rule_model::{Action, KeyExpression, LIFE, MAX_REFS, Rule, Setup, Slot};
+use sequence::{NoMemory, Sequence};
 use std::alloc::Global;
 use stick_key::KeyType;
 use stick_table::Spec;
 use stored_data::{Column, Datum, StoredSet};
 
-/// The setup of a proxy without a configuration file: one table `t` for 100 IPv4 addresses, which stores gpc0.
-pub fn built_in(alloc: Global) -> Result<Setup, NoMemory>
-    ensures setup { IfOk result (λ setup. setup.tables ≡ specified) }
-    ensures limits { IfOk result (λ setup. AreTableSpecs setup.tables) }
+/// The setup of a proxy without a configuration file: one table `t` for 100 IPv4 addresses, which stores gpc0, and
+/// tracks where connections come from. The table is kept in so many shards.
+pub fn built_in(alloc: Global, shards: u32) -> Result<Setup, NoMemory>
+    requires some { 1 ≤ shards }
+    requires few { shards ≤ 64 }
+    ensures setup { IfOk result (λ setup. setup ≡ specified shards) }
+    ensures opens { IfOk result CanOpen }
 {
     let mut columns = StoredSet::new(alloc);
     columns.add(Column {
@@ -31,5 +34,17 @@ pub fn built_in(alloc: Global) -> Result<Setup, NoMemory>
         life: LIFE,
         seed: 0,
     };
-    Setup::of_table(alloc, b"t", spec)
+    let mut setup = Setup::of_table(alloc, b"t", spec)?;
+    let table = Sequence::from_slice(alloc, b"t")?;
+    setup.rules.push(Rule {
+        action: Action::Track {
+            slot: Slot::Sc0,
+            key: KeyExpression::Source,
+            table,
+        },
+        unless: false,
+        condition: None,
+    })?;
+    setup.shards = shards;
+    Ok(setup)
 }

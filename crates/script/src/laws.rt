@@ -2,8 +2,8 @@
 
 ghost use Rattle.script.specs.Laws.{ReferencesLaw};
 
-/// Wherever the lines of a script lead to from empty tables: in each table the references that are out are exactly
-/// those that open connections hold, each once, and no ID is open twice.
+/// Wherever the lines of a script lead to from empty tables: a reference is out exactly where one open connection holds
+/// it, once, and no ID is open twice.
 pub fn references()
     ensures { ReferencesLaw }
 {}

@@ -2,14 +2,12 @@
 #![tactic(auto)]
 
 mod built_in;
-mod connections;
+mod guests;
 pub mod laws;
 mod line;
 mod replay;
 mod server;
-mod setup;
 mod short_text;
-mod visit;
 
 pub use built_in::built_in as built_in_setup;
 pub use replay::{FaultKind, ReplayFault, replay_script};

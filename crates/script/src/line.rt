@@ -1,13 +1,11 @@
 //! Reading a line of a script.
 
-ghost use Rattle.std.specs.Prelude.{◌≡◌, ◌<◌, ◌^◌, option_map, IfSome, MatchOption};
+ghost use Rattle.std.specs.Prelude.{◌≡◌, ◌<◌, ◌^◌, option_map, IfSome};
 ghost use Rattle.line_text.specs.Words.{words_left};
-ghost use Rattle.script.specs.Script.{IsAddress, IsNoAddress, close_of, id_of, line_of, moment_of, number_below, open_of, port_of};
+ghost use Rattle.script.specs.Script.{close_of, id_of, line_of, moment_of, number_below, open_of, port_of};
 ghost use Rattle.script.specs.Seen.{IsTimely, seen};
 
 use line_text::{Blanks, Words, read_number};
-use std::alloc::Global;
-use stick_key::{KeyType, Sample, read_dotted, read_key};
 
 /// The greatest moment in ms.
 pub const MAX_MOMENT: u64 = (1 << 62) - 1;
@@ -19,11 +17,12 @@ pub enum Line<'a> {
     Bad,
     /// Commands at a moment in ms.
     Commands(u64, &'a [u8]),
-    /// A connection opens, from an address.
+    /// A connection opens, from an address and a port.
     Open {
         moment: u64,
         id: u32,
         address: &'a [u8],
+        port: u16,
     },
     /// A connection closes, after so many bytes from its client and to it.
     Close {
@@ -57,7 +56,7 @@ fn read_port(word: &[u8]) -> Option<u16>
     u16::try_from(read_number(word)?).ok()
 }
 
-/// Reads ID ADDRESS PORT, all but the address.
+/// Reads ID ADDRESS PORT, and leaves the address a text.
 fn read_open(moment: u64, mut rest: Words<'_>) -> Line<'_>
     requires { moment < 2 ^ 62 }
     ensures line { seen result ≡ open_of moment (words_left rest.entry) }
@@ -70,10 +69,11 @@ fn read_open(moment: u64, mut rest: Words<'_>) -> Line<'_>
         return Line::Bad;
     }
     match (read_id(id), read_port(port)) {
-        (Some(id), Some(_)) => Line::Open {
+        (Some(id), Some(port)) => Line::Open {
             moment,
             id,
             address,
+            port,
         },
         _ => Line::Bad,
     }
@@ -133,20 +133,4 @@ pub fn read_line(line: Option<&[u8]>) -> Line<'_>
         return read_close(moment, rest);
     }
     Line::Bad
-}
-
-/// Reads an address, of IPv4 or of IPv6.
-pub fn read_address(alloc: Global, text: &[u8]) -> Option<Sample>
-    ensures { MatchOption result (IsNoAddress text.now) (IsAddress text.now) }
-{
-    if let Ok(address) = read_dotted(text) {
-        return Some(Sample::V4(address));
-    }
-    let Ok(key) = read_key(alloc, KeyType::Ipv6, text) else {
-        return None;
-    };
-    match key.bytes().as_array() {
-        Some(address) => Some(Sample::V6(*address)),
-        None => None,
-    }
 }

@@ -4,18 +4,18 @@ ghost use Rattle.std.specs.Prelude.{◌≡◌, ◌≤◌, ◌⊎◌, ℕ, List, 
 ghost use Rattle.byte_ports.specs.Bytes.{Grows, IsAtEnd, IsOneMore, Takes};
 ghost use Rattle.line_service.specs.Service.{ServesAll, StopsAfter};
 ghost use Rattle.line_service.specs.declared.service.TheConstants.{MAX_TURNS};
-ghost use Rattle.script.specs.Connections.{ScriptState};
+ghost use Rattle.script.specs.Guests.{ScriptState};
 ghost use Rattle.script.specs.Script.{Says, Stops};
-ghost use Rattle.rule_model.specs.Served.{AreTableSpecs};
 ghost use Rattle.script.specs.Start.{start};
+ghost use Rattle.world.specs.Tables.{CanOpen};
 
 use crate::server::ScriptServer;
-use crate::setup::open_tables;
 use byte_ports::{Sink, Source};
 use line_service::{LineFaultKind, serve_lines};
 use rule_model::Setup;
 use std::alloc::Global;
 use stick_table::PlainTable;
+use world::open_tables;
 
 /// Why a replay stopped before the script's end.
 #[derive(Clone, Copy, Debug, PartialEq, Eq)]
@@ -44,14 +44,14 @@ pub fn replay_script<R: Source, W: Sink>(
     reader: &mut R,
     writer: &mut W,
 ) -> Result<(), ReplayFault>
-    requires { AreTableSpecs setup.now.tables }
+    requires { CanOpen setup.now }
     ensures whole { OnOk result ((script output : List ℕ) × (new : ScriptState) × Takes R.tells (R.left reader.old) (R.left reader.new) script
         × Grows W.tells (W.written writer.old) (W.written writer.new) output
-        × ServesAll Says (start setup.now.tables) script output new) }
+        × ServesAll Says (start setup.now) script output new) }
     ensures end { OnOk result (IsAtEnd R.tells (R.left reader.new)) }
     ensures fault { IfErr result (λ fault. (script output : List ℕ) × (new : ScriptState) × Takes R.tells (R.left reader.old) (R.left reader.new) script
         × Grows W.tells (W.written writer.old) (W.written writer.new) output
-        × StopsAfter Says Stops (start setup.now.tables) script fault.done output new) }
+        × StopsAfter Says Stops (start setup.now) script fault.done output new) }
     // Each fault comes only where that failed.
     ensures read { IfErr result (λ fault. fault.kind ≡ FaultKind.ReadFault → (IsOneMore (R.failures reader.old) (R.failures reader.new)
         ⊎ ((script : List ℕ) × Takes R.tells (R.left reader.old) (R.left reader.new) script × (MAX_TURNS ≤ length script)))) }
@@ -70,8 +70,9 @@ pub fn replay_script<R: Source, W: Sink>(
     };
     let mut server = ScriptServer {
         alloc,
+        setup,
         tables,
-        connections: Vec::new(alloc),
+        guests: Vec::new(alloc),
     };
     match serve_lines(&mut server, reader, writer) {
         Ok(()) => Ok(()),

@@ -1,95 +1,157 @@
 //! Serving the lines of a script.
 
-ghost use Rattle.std.specs.Prelude.{◌≡◌, ◌<◌, ◌^◌, OnErr, OnOk};
+ghost use Rattle.std.specs.Prelude.{◌≡◌, ◌<◌, ◌^◌, ℕ, List, OnErr, OnOk};
 ghost use Rattle.byte_ports.specs.Bytes.{Grows, GrowsInPart, IsOneMore};
-ghost use Rattle.script.specs.Connections.{AreHeld, ScriptState, connection_of};
-ghost use Rattle.script.specs.Script.{Closes, Opens, OpensAt, Says, Stops, close_text, open_text};
+ghost use Rattle.script.specs.Guests.{IsServed, ScriptState, guest_of};
+ghost use Rattle.script.specs.Script.{Closes, Commands, LineSays, LineStops, Opens, OpensAt, Says, Stops, close_text, open_text, samples_of as specified_samples};
 ghost use Rattle.script.specs.Seen.{script_state};
 
-use crate::connections::{Connection, add_connection, find_connection, remove_connection};
-use crate::line::{Line, read_address, read_line};
+use crate::guests::{Guest, is_open, take_guest};
+use crate::line::{Line, read_line};
 use crate::short_text::ShortText;
-use crate::visit::{Verdict, arrive_first, leave_first};
+use address_text::{Address, read_address};
+use admit_core::{Conn, Phase};
 use byte_ports::{Failed, Sink, write_all};
 use line_service::LineServer;
+use rule_eval::Samples;
+use rule_model::Setup;
+use shard_book::Books;
+use shard_cli::{Named, StoppedClock, answer};
 use std::alloc::Global;
-use stick_key::Sample;
 use stick_table::Table;
-use table_cli::{Named, answer};
+use world::settle;
 
-/// The tables that a script's lines work on, and the connections that are open.
+/// What is served, the tables that a script's lines work on, and the connections that are open.
 #[derive(Drop)]
-pub struct ScriptServer<T> {
+pub struct ScriptServer<'a, T: Table> {
     pub alloc: Global,
-    pub tables: Vec<Named<T>>,
-    pub connections: Vec<Connection>,
+    pub setup: &'a Setup,
+    pub tables: Vec<Named<Books<T>>>,
+    pub guests: Vec<Guest<'a>>,
 }
 
-impl<T: Table> ScriptServer<T> {
-    /// What an `open` of an ID and an address is answered. All that it changes is changed before.
-    fn open(&mut self, moment: u64, id: u32, address: &[u8]) -> ShortText
-        requires { moment < 2 ^ 62 }
-        ensures { Opens moment id address.now (script_state T.state self.old.tables.items self.old.connections.items) result
-            (script_state T.state self.new.tables.items self.new.connections.items) }
+impl<'a, T: Table> ScriptServer<'a, T> {
+    /// What an `open` of an ID, an address and a port is answered. All that it changes is changed before.
+    fn open(&mut self, moment: u64, id: u32, address: &[u8], port: u16) -> ShortText
+        requires moment { moment < 2 ^ 62 }
+        requires served { IsServed (script_state self.old.setup.now self.old.tables.items self.old.guests.items) }
+        ensures { Opens moment id address.now port (script_state self.old.setup.now self.old.tables.items self.old.guests.items) result
+            (script_state self.new.setup.now self.new.tables.items self.new.guests.items) }
     {
-        match read_address(self.alloc, address) {
-            Some(source) => self.open_from(moment, id, &source),
+        match read_address(address) {
+            Some(source) => self.open_from(moment, id, source, port),
             None => ShortText::of(b"bad line\n"),
         }
     }
 
     /// The same, once the address is read. A place for the connection is reserved first.
-    fn open_from(&mut self, moment: u64, id: u32, source: &Sample) -> ShortText
-        requires { moment < 2 ^ 62 }
-        ensures { OpensAt (connection_of id self.old.connections.items) moment id source.now
-            (script_state T.state self.old.tables.items self.old.connections.items) result
-            (script_state T.state self.new.tables.items self.new.connections.items) }
+    fn open_from(&mut self, moment: u64, id: u32, source: Address, port: u16) -> ShortText
+        requires moment { moment < 2 ^ 62 }
+        requires served { IsServed (script_state self.old.setup.now self.old.tables.items self.old.guests.items) }
+        ensures { OpensAt (guest_of id (script_state self.old.setup.now self.old.tables.items self.old.guests.items).guests) moment id source port
+            (script_state self.old.setup.now self.old.tables.items self.old.guests.items) result
+            (script_state self.new.setup.now self.new.tables.items self.new.guests.items) }
     {
-        if find_connection(&self.connections, id).is_some() {
+        if is_open(self.guests.as_slice(), id) {
             return ShortText::of(b"connection already open\n");
         }
-        if self.connections.reserve(1).is_err() {
-            return opened(id, Verdict::Rejected);
+        if self.guests.reserve(1).is_err() {
+            return opened(id, Phase::Rejected);
         }
-        let verdict = arrive_first(self.alloc, self.tables.as_mut_slice(), moment, source);
-        if let Verdict::Accepted(reference) = verdict {
-            add_connection(&mut self.connections, Connection { id, reference });
+        let samples = samples_of(self.setup, source, port);
+        let mut conn = Conn::new(self.setup, samples);
+        settle(
+            self.alloc,
+            self.tables.as_mut_slice(),
+            &mut conn,
+            self.setup.shards,
+            moment,
+        );
+        match conn.phase() {
+            Phase::Admitted => {
+                self.guests.push_reserved(Guest { id, conn });
+                opened(id, Phase::Admitted)
+            }
+            phase => opened(id, phase),
         }
-        opened(id, verdict)
     }
 
     /// What a `close` is answered. It takes no memory.
     fn close(&mut self, moment: u64, id: u32, bytes_in: u64, bytes_out: u64) -> ShortText
         requires moment { moment < 2 ^ 62 }
-        requires held { AreHeld (script_state T.state self.old.tables.items self.old.connections.items) }
-        ensures { Closes moment id bytes_in bytes_out (script_state T.state self.old.tables.items self.old.connections.items) result
-            (script_state T.state self.new.tables.items self.new.connections.items) }
+        requires served { IsServed (script_state self.old.setup.now self.old.tables.items self.old.guests.items) }
+        ensures { Closes moment id bytes_in bytes_out (script_state self.old.setup.now self.old.tables.items self.old.guests.items) result
+            (script_state self.new.setup.now self.new.tables.items self.new.guests.items) }
     {
-        let Some(connection) = find_connection(&self.connections, id) else {
+        let Some(guest) = take_guest(&mut self.guests, id) else {
             return ShortText::of(b"no such connection\n");
         };
-        leave_first(
+        let mut conn = guest.conn;
+        conn.close(bytes_in, bytes_out);
+        settle(
+            self.alloc,
             self.tables.as_mut_slice(),
+            &mut conn,
+            self.setup.shards,
             moment,
-            connection.reference,
-            bytes_in,
-            bytes_out,
         );
-        remove_connection(&mut self.connections, id);
         closed(id)
+    }
+
+    /// What commands at a moment are answered.
+    fn command<W: Sink>(
+        &mut self,
+        moment: u64,
+        commands: &[u8],
+        writer: &mut W,
+    ) -> Result<(), Failed>
+        requires moment { moment < 2 ^ 62 }
+        requires served { IsServed (script_state self.old.setup.now self.old.tables.items self.old.guests.items) }
+        ensures answer { OnOk result ((text : List ℕ) × LineSays (Commands moment commands.now) (script_state self.old.setup.now self.old.tables.items self.old.guests.items) text
+            (script_state self.new.setup.now self.new.tables.items self.new.guests.items) × Grows W.tells (W.written writer.old) (W.written writer.new) text) }
+        ensures part { OnErr result ((text : List ℕ) × LineStops (Commands moment commands.now) (script_state self.old.setup.now self.old.tables.items self.old.guests.items) text
+            (script_state self.new.setup.now self.new.tables.items self.new.guests.items) × Grows W.tells (W.written writer.old) (W.written writer.new) text) }
+        ensures ok { OnOk result (W.failures writer.new ≡ W.failures writer.old) }
+        ensures err { OnErr result (IsOneMore (W.failures writer.old) (W.failures writer.new)) }
+    {
+        let mut clock = StoppedClock::at(moment);
+        match answer(
+            self.alloc,
+            self.tables.as_mut_slice(),
+            &mut clock,
+            commands,
+            writer,
+        ) {
+            Ok(_) => Ok(()),
+            Err(_) => Err(Failed),
+        }
     }
 }
 
-/// The answer to an `open`.
+/// What is known of a connection from an address and a port.
+fn samples_of(setup: &Setup, source: Address, port: u16) -> Samples
+    ensures { result ≡ specified_samples setup.now source port }
+{
+    Samples {
+        src: source,
+        src_port: port,
+        dst_port: match &setup.bind {
+            Some(bind) => bind.port,
+            None => 0,
+        },
+    }
+}
+
+/// The answer to an `open` whose connection is in this phase.
 #[tactic(auto, using(crate::proofs::TextLemmas::short_decimal))]
-fn opened(id: u32, verdict: Verdict) -> ShortText
-    ensures { result ≡ open_text id verdict }
+fn opened(id: u32, phase: Phase) -> ShortText
+    ensures { result ≡ open_text id phase }
 {
     let mut text = ShortText::of(b"open ");
     text.push_decimal(id);
-    match verdict {
-        Verdict::Accepted(_) => text.push(b" accept\n"),
-        Verdict::Rejected => text.push(b" reject\n"),
+    match phase {
+        Phase::Admitted => text.push(b" accept\n"),
+        _ => text.push(b" reject\n"),
     }
     text
 }
@@ -118,12 +180,12 @@ fn write_text<W: Sink>(writer: &mut W, text: &[u8]) -> Result<(), Failed>
     }
 }
 
-impl<T: Table> LineServer for ScriptServer<T> {
+impl<'a, T: Table> LineServer for ScriptServer<'a, T> {
     ghost State = { ScriptState };
 
-    ghost state = { λ server. script_state T.state server.tables.items server.connections.items };
+    ghost state = { λ server. script_state server.setup.now server.tables.items server.guests.items };
 
-    ghost holds = { AreHeld };
+    ghost holds = { IsServed };
 
     ghost says = { Says };
 
@@ -136,13 +198,7 @@ impl<T: Table> LineServer for ScriptServer<T> {
                 Ok(()) => Ok(()),
                 Err(error) => Err(error),
             },
-            Line::Commands(moment, commands) => match answer(
-                self.alloc,
-                self.tables.as_mut_slice(),
-                moment,
-                commands,
-                writer,
-            ) {
+            Line::Commands(moment, commands) => match self.command(moment, commands, writer) {
                 Ok(()) => Ok(()),
                 Err(error) => Err(error),
             },
@@ -150,8 +206,9 @@ impl<T: Table> LineServer for ScriptServer<T> {
                 moment,
                 id,
                 address,
+                port,
             } => {
-                let text = self.open(moment, id, address);
+                let text = self.open(moment, id, address, port);
                 match write_text(writer, text.as_slice()) {
                     Ok(()) => Ok(()),
                     Err(error) => Err(error),

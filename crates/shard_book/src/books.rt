@@ -90,7 +90,7 @@ impl<T: Table> Books<T> {
 
 impl<T: Table> Keeper for Books<T> {
     ghost use Rattle.std.specs.Prelude.{length};
-    ghost use Rattle.shard_book.specs.BooksState.{BooksState, ExtendsAt, IsRefusedAt, live_states};
+    ghost use Rattle.shard_book.specs.BooksState.{AreBooks, BooksState, ExtendsAt, IsRefusedAt, live_states};
 
     ghost table = { λ table. table.spec };
 
@@ -100,8 +100,8 @@ impl<T: Table> Keeper for Books<T> {
 
     ghost state = { λ table. table };
 
-    // What is asked is recorded for seat 0.
-    ghost answers = { λ old i event reply new. ExtendsAt old i 0 event reply new };
+    // What is asked is recorded for seat 0, and each shard has its book still.
+    ghost answers = { λ old i event reply new. ExtendsAt old i 0 event reply new × AreBooks new };
 
     ghost refuses = { λ old i event refusal. IsRefusedAt (live_states old) i event refusal };
 

@@ -1,18 +1,20 @@
 //! stickd: stick tables whose answers are proved.
 #![tactic(auto)]
 
-ghost use Rattle.std.specs.Prelude.{IfOk, IfSome};
+ghost use Rattle.std.specs.Prelude.{◌≡◌, ◌≤◌, All, IfNone, IfOk, IfSome};
 ghost use Rattle.rule_model.specs.Served.{AreTables, AreTableSpecs};
+ghost use Rattle.world.specs.Tables.{CanOpen};
 
 use byte_ports::{StreamSink, StreamSource};
-use clap::{Arg, ArgMatches, Command, Error};
+use clap::{Arg, ArgMatches, Command, Error, value_parser};
 use rule_config::read_config;
-use rule_model::{Config, Setup};
+use rule_model::{Config, NamedSpec, Setup};
 use script::{FaultKind, ReplayFault, built_in_setup, replay_script};
+use sequence::NoMemory;
 use std::alloc::Global;
 use std::process::ExitCode;
 use std::rt::Files;
-use std::{fs, io};
+use std::{fs, io, str};
 
 fn main(rt: HostRuntime) -> io::Result<ExitCode> {
     let alloc = rt.alloc();
@@ -32,8 +34,14 @@ fn read_command_line<'a>(alloc: Global, words: &'a [String]) -> Result<ArgMatche
         .required(true)
         .help("The configuration");
     let replayed = Arg::new(alloc, "FILE").help(
-        "The configuration whose tables are used [default: one table, t]",
+        "The configuration whose tables and rules are used [default: one table, t]",
     );
+    let shards = Arg::new(alloc, "shards")
+        .long("shards")
+        .value_name("K")
+        .value_parser(value_parser!(u32).range(1..=64))
+        .default_value("1")
+        .help("In how many parts each table is kept, 1 to 64");
     let check = Command::new(alloc, "check")
         .about("Read a configuration, and say what is wrong with it")
         .after_help(
@@ -47,14 +55,17 @@ fn read_command_line<'a>(alloc: Global, words: &'a [String]) -> Result<ArgMatche
         .after_help(
             "Each line is a moment in ms and what is done at it:\n  \
              0 open 1 10.0.0.1 40001     connection 1 opens, from an address and port\n  \
-             5 cmd show table t          commands; also set table and clear table\n  \
+             5 cmd show table t          commands: show table T, show table T data.X OP V,\n  \
+                                         show table T key K, set table, clear table, and\n  \
+                                         show table alone, which tells of all tables\n  \
              9 close 1 420 1337          it closes, after so many bytes in and out\n\
-             The answers are written to standard output. A connection is tracked by its\n\
-             client's address in the first table; it is accepted, also where it can't be\n\
-             tracked. Without FILE there is one table, t, which has keys of type ip, 100\n\
-             entries at most, and stores gpc0.",
+             The answers are written to standard output. A connection is accepted or\n\
+             rejected by the rules of FILE. Without FILE there is one table, t, which has\n\
+             keys of type ip, 100 entries at most, and stores gpc0; each connection is\n\
+             tracked there by its client's address, and accepted.",
         )
-        .arg(replayed)?;
+        .arg(replayed)?
+        .arg(shards)?;
     let command = Command::new(alloc, "stickd")
         .about("Stick tables in HAProxy's language, with answers that are proved")
         .subcommand_required(true)
@@ -71,7 +82,7 @@ fn run<R: Files + Input + Print + Eprint + AllocGlobal>(
 ) -> io::Result<ExitCode> {
     let done = match matches.subcommand() {
         Some(("check", arguments)) => check(rt, arguments.get_str("FILE").unwrap_or(""))?,
-        Some((_, arguments)) => replay(rt, arguments.get_str("FILE"))?,
+        Some((_, arguments)) => replay(rt, arguments.get_str("FILE"), read_shards(arguments))?,
         None => false,
     };
     if done {
@@ -79,6 +90,14 @@ fn run<R: Files + Input + Print + Eprint + AllocGlobal>(
     } else {
         Ok(ExitCode::FAILURE)
     }
+}
+
+/// In how many parts each table is kept. That it is 1 to 64 was seen as the command line was read.
+fn read_shards(arguments: &ArgMatches<'_>) -> u32
+    ensures some { 1 ≤ result }
+    ensures few { result ≤ 64 }
+{
+    arguments.get_one::<u32>("shards").unwrap_or(1).clamp(1, 64)
 }
 
 /// Reads a configuration, and prints a warning for each line that it reads past. None where it can't be read, which is
@@ -114,35 +133,77 @@ fn check<R: Files + Print + Eprint + AllocGlobal>(rt: &R, path: &str) -> io::Res
     Ok(true)
 }
 
-/// What is served by a configuration, or without one. None where that can't be had, which is said on standard error.
-fn open_setup<R: Files + Eprint + AllocGlobal>(
-    rt: &R,
-    path: Option<&str>,
-) -> io::Result<Option<Setup>>
-    ensures { IfOk result (λ opened. IfSome opened (λ setup. AreTableSpecs setup.tables)) }
+/// What is served by a configuration in so many shards.
+#[tactic(auto, unfolding(rule_model::specs::Served::setup_of))]
+fn setup_of(alloc: Global, config: &Config, shards: u32) -> Result<Setup, NoMemory>
+    requires tables { AreTables config.now.sections }
+    requires some { 1 ≤ shards }
+    requires few { shards ≤ 64 }
+    ensures limits { IfOk result (λ setup. AreTableSpecs setup.tables) }
+    ensures shards { IfOk result (λ setup. setup.shards ≡ shards) }
 {
-    let made = match path {
-        Some(path) => match read_file(rt, path)? {
-            Some(config) => config.proxy(rt.alloc(), 1),
-            None => return Ok(None),
-        },
-        None => built_in_setup(rt.alloc()),
-    };
-    match made {
-        Ok(setup) => Ok(Some(setup)),
-        Err(_) => {
-            eprintln!(rt; "stickd: out of memory")?;
-            Ok(None)
+    config.proxy(alloc, shards)
+}
+
+/// The first table that has fewer places than shards.
+fn find_narrow(tables: &[NamedSpec], shards: u32) -> Option<&NamedSpec>
+    ensures { IfNone result (All (λ named. shards ≤ named.spec.size) tables.now) }
+{
+    for named in tables {
+        if named.spec.size < shards {
+            return Some(named);
         }
+    }
+    None
+}
+
+/// Says that a table has fewer places than shards.
+fn report_narrow<R: Eprint>(rt: &R, named: &NamedSpec) -> io::Result<()> {
+    match str::from_utf8(named.name.as_slice()) {
+        Ok(name) => eprintln!(rt; "stickd: table {name} has fewer places than shards"),
+        Err(_) => eprintln!(rt; "stickd: a table has fewer places than shards"),
     }
 }
 
-/// Replays the script on standard input on the tables of a configuration.
+/// What is served by a configuration, or without one, each table in so many shards. None where that can't be had, which
+/// is said on standard error.
+fn open_setup<R: Files + Eprint + AllocGlobal>(
+    rt: &R,
+    path: Option<&str>,
+    shards: u32,
+) -> io::Result<Option<Setup>>
+    requires some { 1 ≤ shards }
+    requires few { shards ≤ 64 }
+    ensures { IfOk result (λ opened. IfSome opened CanOpen) }
+{
+    let made = match path {
+        Some(path) => match read_file(rt, path)? {
+            Some(config) => setup_of(rt.alloc(), &config, shards),
+            None => return Ok(None),
+        },
+        None => built_in_setup(rt.alloc(), shards),
+    };
+    let Ok(setup) = made else {
+        eprintln!(rt; "stickd: out of memory")?;
+        return Ok(None);
+    };
+    if let Some(narrow) = find_narrow(setup.tables.as_slice(), shards) {
+        report_narrow(rt, narrow)?;
+        return Ok(None);
+    }
+    Ok(Some(setup))
+}
+
+/// Replays the script on standard input on the tables of a configuration, each in so many shards.
 fn replay<R: Files + Input + Print + Eprint + AllocGlobal>(
     rt: &R,
     path: Option<&str>,
-) -> io::Result<bool> {
-    let Some(setup) = open_setup(rt, path)? else {
+    shards: u32,
+) -> io::Result<bool>
+    requires some { 1 ≤ shards }
+    requires few { shards ≤ 64 }
+{
+    let Some(setup) = open_setup(rt, path, shards)? else {
         return Ok(false);
     };
     let mut reader = StreamSource::new(rt.reader());

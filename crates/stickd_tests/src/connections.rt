@@ -108,7 +108,7 @@ fn replay(
 ) -> Result<Replayed, AllocError>
     requires { 0 < piece }
 {
-    let setup = built_in_setup(alloc)?;
+    let setup = built_in_setup(alloc, 1)?;
     let mut reader = MemorySource::new(script, piece, None);
     let mut writer = MemorySink::new(alloc, 7, limit);
     let result = replay_script(alloc, &setup, &mut reader, &mut writer);

@@ -2,7 +2,7 @@
 
 ghost use Rattle.std.specs.Prelude.{IfOk};
 ghost use Rattle.table_model.specs.Limits.{IsKeyType};
-ghost use Rattle.rule_model.specs.Served.{AreTableSpecs};
+ghost use Rattle.world.specs.Tables.{CanOpen};
 
 use byte_ports::{MemorySink, MemorySource};
 use script::{LIFE, MAX_REFS, Setup, replay_script};
@@ -15,7 +15,7 @@ use stored_data::StoredSet;
 /// A table t of ten entries with this kind of key, which stores nothing.
 fn setup_of(alloc: Global, kind: KeyType) -> Result<Setup, AllocError>
     requires { IsKeyType kind }
-    ensures { IfOk result (λ setup. AreTableSpecs setup.tables) }
+    ensures { IfOk result CanOpen }
 {
     let spec = Spec {
         kind,

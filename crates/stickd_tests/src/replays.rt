@@ -24,7 +24,7 @@ fn replay(
 ) -> Result<Replayed, AllocError>
     requires { 0 < piece }
 {
-    let setup = built_in_setup(alloc)?;
+    let setup = built_in_setup(alloc, 1)?;
     let mut reader = MemorySource::new(script, piece, read_limit);
     let mut writer = MemorySink::new(alloc, 5, write_limit);
     let result = replay_script(alloc, &setup, &mut reader, &mut writer);
@@ -82,7 +82,7 @@ static SCRIPTS: [(&[u8], &[u8]); 20] = [
     ),
     (
         b"0 cmd show table t;show table;show table t",
-        b"# table: t, type: ip, size:100, used:0\n\nUnknown command.\n\n# table: t, type: ip, size:100, used:0\n\n",
+        b"# table: t, type: ip, size:100, used:0\n\n# table: t, type: ip, size:100, used:0\n\n# table: t, type: ip, size:100, used:0\n\n",
     ),
 ];
 
@@ -120,11 +120,12 @@ static FIRST_FRONTS: [(usize, &[u8]); 8] = [
 ];
 
 /// The same of the second line, behind the first.
-static SECOND_FRONTS: [(usize, &[u8]); 5] = [
+static SECOND_FRONTS: [(usize, &[u8]); 6] = [
     (0, b""),
     (4, b"bad line\n"),
     (6, b""),
-    (17, b"Unknown command.\n\n"),
+    (15, b"Unknown command.\n\n"),
+    (17, b"# table: t, type: ip, size:100, used:1\n\n"),
     (19, LISTING),
 ];
 

@@ -3,10 +3,11 @@
 ghost use Rattle.std.specs.Prelude.{◌≡◌, ◌≤◌, ◌<◌, ◌^◌, IfOk, IfSome};
 ghost use Rattle.stored_data.specs.Data.{is_rate};
 ghost use Rattle.stored_data.specs.Stored.{IsPeriod};
-ghost use Rattle.table_model.specs.Limits.{IsKeyType};
-ghost use Rattle.rule_model.specs.Served.{AreTableSpecs};
+ghost use Rattle.table_model.specs.Limits.{IsKeyType, IsTableSpec};
+ghost use Rattle.world.specs.Tables.{CanOpen};
 
 use byte_ports::{MemorySink, MemorySource};
+use rule_model::{Action, KeyExpression, Rule, Slot};
 use script::{LIFE, MAX_REFS, Setup, replay_script};
 use sequence::Sequence;
 use std::alloc::{AllocError, Global};
@@ -14,6 +15,25 @@ use std::test::Fail;
 use stick_key::KeyType;
 use stick_table::Spec;
 use stored_data::{Column, Datum, StoredSet};
+
+/// A table t, in which the client of each connection is tracked.
+fn track_sources(alloc: Global, spec: Spec) -> Result<Setup, AllocError>
+    requires { IsTableSpec spec }
+    ensures { IfOk result CanOpen }
+{
+    let mut setup = Setup::of_table(alloc, b"t", spec)?;
+    let table = Sequence::from_slice(alloc, b"t")?;
+    setup.rules.push(Rule {
+        action: Action::Track {
+            slot: Slot::Sc0,
+            key: KeyExpression::Source,
+            table,
+        },
+        unless: false,
+        condition: None,
+    })?;
+    Ok(setup)
+}
 
 /// A table t of these words, with as many references and as long a life as the programs give.
 fn setup_of(
@@ -26,7 +46,7 @@ fn setup_of(
     requires kind { IsKeyType kind }
     requires size { (1 ≤ size) × (size ≤ 2 ^ 30) }
     requires expire { IfSome expire (λ ms. (1 ≤ ms) × (ms < 2 ^ 31)) }
-    ensures { IfOk result (λ setup. AreTableSpecs setup.tables) }
+    ensures { IfOk result CanOpen }
 {
     let spec = Spec {
         kind,
@@ -38,7 +58,7 @@ fn setup_of(
         life: LIFE,
         seed: 0,
     };
-    Setup::of_table(alloc, b"t", spec)
+    track_sources(alloc, spec)
 }
 
 /// A table t of IPv4 addresses that stores gpc0, whose references, or whose life, are few.
@@ -52,7 +72,7 @@ fn small_setup(
     requires size { (1 ≤ size) × (size ≤ 2 ^ 30) }
     requires max_refs { (1 ≤ max_refs) × (max_refs ≤ 2 ^ 20) }
     requires life { life ≤ 2 ^ 62 }
-    ensures { IfOk result (λ setup. AreTableSpecs setup.tables) }
+    ensures { IfOk result CanOpen }
 {
     let columns = column(alloc, Datum::Gpc0, 0)?;
     let spec = Spec {
@@ -65,7 +85,7 @@ fn small_setup(
         life,
         seed: 0,
     };
-    Setup::of_table(alloc, b"t", spec)
+    track_sources(alloc, spec)
 }
 
 /// One column.
@@ -97,7 +117,7 @@ fn session_columns(alloc: Global) -> Result<StoredSet, AllocError> {
 
 /// Whether a script on these tables is replayed to its end and writes this.
 fn writes(alloc: Global, setup: &Setup, script: &[u8], wanted: &[u8]) -> Result<bool, AllocError>
-    requires { AreTableSpecs setup.now.tables }
+    requires { CanOpen setup.now }
 {
     let mut reader = MemorySource::new(script, 100, None);
     let mut writer = MemorySink::new(alloc, 100, None);
@@ -197,7 +217,7 @@ fn without_a_table_connections_are_accepted(rt: HostRuntime) -> Result<(), Fail>
     static SCRIPT: &[u8] =
         b"0 open 1 10.0.0.1 80\n0 open 1 ::1 80\n1 close 1 2 3\n1 close 1 2 3\n1 cmd show table\n";
     static WANTED: &[u8] =
-        b"open 1 accept\nconnection already open\nclose 1\nno such connection\nUnknown command.\n\n";
+        b"open 1 accept\nconnection already open\nclose 1\nno such connection\n\n";
     let setup = Setup {
         tables: Sequence::new(rt.alloc()),
         rules: Sequence::new(rt.alloc()),

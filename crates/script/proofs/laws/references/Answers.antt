@@ -1,4 +1,4 @@
-use Rattle.script.proofs.HeldLemmas.{references_law}
+use Rattle.script.proofs.ServedLemmas.{references_law}
 use Rattle.script.proofs.laws.references.Goals as goal
 
 pub returns : goal.returns
