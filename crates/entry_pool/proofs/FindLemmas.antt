@@ -1,45 +1,43 @@
--- What a handle finds, read off the slots.
-use Rattle.std.proofs.Common.{◌≡◌, ◌≢◌, ℕ, ◌-◌, ◌≤◌, Bool, true, false, eqb, cond, List, map, length, set, Option, Some, None, IsSome, refl, sym, ap, subst, ◌∙◌, arith, true≢false, length-append, inl, inr}
+-- What a handle finds, read off the places.
+use Rattle.std.proofs.Common.{◌≡◌, ◌≢◌, ℕ, ◌≤◌, Bool, true, false, eqb, cond, List, map, get_or, set, Option, Some, None, IsSome, refl, sym, ap, subst, ◌∙◌, arith, true≢false, inl, inr}
 use Rattle.std.proofs.lemmas.Bool.Decides.{eqb_tells}
 use Rattle.std.proofs.lemmas.Bool.{eqb-true, eq-eqb}
-use Rattle.std.proofs.lemmas.List.{length-map, length-replicate}
-use Rattle.std.proofs.Common.{replicate}
+use Rattle.std.proofs.lemmas.List.{length-map, map-set}
 use denote.Bor.{Bor}
 use Rattle.std.specs.Prelude.{option_copied, is_some}
-use Rattle.std.specs.List.{slice_get}
 use Rattle.entry_pool.specs.Contents.{Entry, entry, contents, find, value_of_generation, IsPool}
-use Rattle.entry_pool.specs.declared.Slot.{Slot}
-use Rattle.entry_pool.specs.declared.Slot.TheVariants.{Free, Full}
-use Rattle.entry_pool.specs.Slots.{entry_of, shown, refilled, IsSound}
-use Rattle.entry_pool.proofs.SlotLemmas.{entry_in, shown_get, shown_set, get_within}
-
-no_some : {X : Type 0} {x : X} → None ≡ Some x → ⊥
-no_some e = cc
+use Rattle.entry_pool.specs.declared.Live.{Live}
+use Rattle.entry_pool.specs.Slots.{shown, IsSound}
+use Rattle.entry_pool.proofs.SlotLemmas.{none_some, same_some, shown_get}
 
 module _ {T : Type 0} where
-  -- what a handle finds is what its slot holds
-  pub find_at : (slots : List (Slot T)) (capacity newest slot generation : ℕ) (held : Option (Slot T)) → slice_get slots slot ≡ held
-      → find (contents capacity newest (shown slots capacity)) (record { slot = slot; generation = generation }) ≡ value_of_generation generation (entry_in held)
-  find_at slots capacity newest slot generation held is = ap (value_of_generation generation) (shown_get slots capacity slot ∙ ap entry_in is)
+  -- what a handle finds is what its place shows
+  pub find_at : (places : List (Option (Live T))) (capacity newest slot generation : ℕ) (held : Option (Live T)) → get_or places slot None ≡ held
+      → find (contents capacity newest (map shown places)) (record { slot = slot; generation = generation }) ≡ value_of_generation generation (shown held)
+  find_at places capacity newest slot generation held is = ap (value_of_generation generation) (shown_get places slot ∙ ap shown is)
 
-  -- a slot in which a handle finds a value holds it under the handle's generation
-  full_from_value : (held : Option (Slot T)) (generation : ℕ) → IsSome (value_of_generation generation (entry_in held)) → (v : T) × (held ≡ Some (Full generation v))
-  full_from_value None g some = absurd (true≢false (sym some))
-  full_from_value (Some (Free next)) g some = absurd (true≢false (sym some))
-  full_from_value (Some (Full h v)) g some = by_test (eqb h g) refl some
+  -- a place in which a handle finds a value has it under the handle's generation
+  pub record IsLive (places : List (Option (Live T))) (slot generation : ℕ) : Type 0 where
+    pub live : Live T
+    pub there : get_or places slot None ≡ Some live
+    pub dated : live.generation ≡ generation
+
+  pub found_live : (places : List (Option (Live T))) (capacity newest slot generation : ℕ) → IsSome (find (contents capacity newest (map shown places)) (record { slot = slot; generation = generation })) → IsLive places slot generation
+  found_live places capacity newest slot generation some = by_place (get_or places slot None) refl (subst IsSome (find_at places capacity newest slot generation _ refl) some)
     where
-      by_test : (b : Bool) → eqb h g ≡ b → IsSome (cond b (Some v) None) → (w : T) × (Some (Full h v) ≡ Some (Full g w))
-      by_test true is some = (v, ap (λ n. Some (Full n v)) (eqb-true h g is))
-      by_test false is some = absurd (true≢false (sym some))
-
-  pub found_full : (slots : List (Slot T)) (capacity newest slot generation : ℕ) → IsSome (find (contents capacity newest (shown slots capacity)) (record { slot = slot; generation = generation }))
-      → (v : T) × (slice_get slots slot ≡ Some (Full generation v))
-  found_full slots capacity newest slot g some = full_from_value (slice_get slots slot) g (subst IsSome (find_at slots capacity newest slot g _ refl) some)
+      by_place : (held : Option (Live T)) → get_or places slot None ≡ held → IsSome (value_of_generation generation (shown held)) → IsLive places slot generation
+      by_place None is some = absurd (true≢false (sym some))
+      by_place (Some live) is some = by_test (eqb live.generation generation) refl some
+        where
+          by_test : (b : Bool) → eqb live.generation generation ≡ b → IsSome (cond b (Some live.value) None) → IsLive places slot generation
+          by_test true same some = record { live = live; there = is; dated = eqb-true live.generation generation same }
+          by_test false differ some = absurd (true≢false (sym some))
 
   -- and the other way
-  pub find_full : (slots : List (Slot T)) (capacity newest slot generation : ℕ) (v : T) → slice_get slots slot ≡ Some (Full generation v)
-      → find (contents capacity newest (shown slots capacity)) (record { slot = slot; generation = generation }) ≡ Some v
-  find_full slots capacity newest slot g v held = find_at slots capacity newest slot g _ held ∙ ap (λ b. cond b (Some v) None) (eq-eqb g g refl)
+  pub find_live : (places : List (Option (Live T))) (capacity newest slot generation : ℕ) (live : Live T) → get_or places slot None ≡ Some live → live.generation ≡ generation
+      → find (contents capacity newest (map shown places)) (record { slot = slot; generation = generation }) ≡ Some live.value
+  find_live places capacity newest slot generation live there dated =
+      find_at places capacity newest slot generation (Some live) there ∙ ap (λ b. cond b (Some live.value) None) (eq-eqb live.generation generation dated)
 
   -- a value under another generation isn't found
   pub other_generation : (h g : ℕ) (v : T) → h ≢ g → value_of_generation g (Some (entry h v)) ≡ None
@@ -49,19 +47,20 @@ module _ {T : Type 0} where
   some_copied None some = absurd (true≢false (sym some))
   some_copied (Some x) some = refl
 
-  -- a full slot, written through a reference to its value
-  pub rewritten : (slots : List (Slot T)) (capacity slot generation : ℕ) (now : Slot T) (old w : T) → slice_get slots slot ≡ Some now → now ≡ Full generation old
-      → shown (set slots slot (refilled now w)) capacity ≡ set (shown slots capacity) slot (Some (entry generation w))
-  rewritten slots capacity slot g now old w held is = rw is (shown_set slots capacity slot (Full g w) (get_within slots slot now held))
+  -- a value, written through a reference to it
+  pub rewritten : (places : List (Option (Live T))) (slot generation : ℕ) (live : Live T) (w : T) → live.generation ≡ generation
+      → map shown (set places slot (Some (record live { value = w }))) ≡ set (map shown places) slot (Some (entry generation w))
+  rewritten places slot generation live w dated = map-set shown places slot (Some (record live { value = w })) ∙ ap (λ g. set (map shown places) slot (Some (entry g w))) dated
 
   -- a sound pool is as many slots as fit, with no generation above the greatest
-  pub is_pool : (slots : List (Slot T)) (capacity first count newest : ℕ) → IsSound slots capacity first count newest → IsPool (contents capacity newest (shown slots capacity))
-  is_pool slots capacity first count newest s = record {
-    sized = omega (arith, length-append (map entry_of slots) (replicate (capacity - length slots) None), length-map slots entry_of, length-replicate {A = Option (Entry T)} (capacity - length slots) None, s.within);
-    dated = λ slot e there. by_held (slice_get slots slot) e slot refl (sym (shown_get slots capacity slot) ∙ there);
+  pub is_pool : (places : List (Option (Live T))) (links : List ℕ) (capacity first count newest : ℕ) → IsSound places links capacity first count newest → IsPool (contents capacity newest (map shown places))
+  is_pool places links capacity first count newest s = record {
+    sized = length-map places shown ∙ s.sized;
+    dated = λ slot e there. by_place (get_or places slot None) e slot refl (sym (shown_get places slot) ∙ there);
   }
     where
-      by_held : (held : Option (Slot T)) (e : Entry T) (slot : ℕ) → slice_get slots slot ≡ held → entry_in held ≡ Some e → e.generation ≤ newest
-      by_held None e slot is there = absurd (no_some there)
-      by_held (Some (Free next)) e slot is there = absurd (no_some there)
-      by_held (Some (Full g v)) e slot is there = let b = s.dated slot g v is in let same : g ≡ e.generation = cc in omega (arith, b, same)
+      by_place : (held : Option (Live T)) (e : Entry T) (slot : ℕ) → get_or places slot None ≡ held → shown held ≡ Some e → e.generation ≤ newest
+      by_place None e slot is there = absurd (none_some there)
+      by_place (Some live) e slot is there =
+          let b = s.dated slot live is in let same : live.generation ≡ e.generation = ap (λ (x : Entry T). x.generation) (same_some there) in
+          omega (arith, b, same)

@@ -1,12 +1,12 @@
 -- How a block is made of what the allocator answers. Assumes `Logic`.
-use Rattle.std.proofs.Common.{◌≡◌, ℕ, ◌-◌, ◌*◌, ◌^◌, ◌<◌, List, [], ◌∷◌, ◌++◌, refl, sym, ap, ◌∙◌, w64, arith}
+use Rattle.std.proofs.Common.{◌≡◌, ℕ, ◌*◌, ◌^◌, ◌<◌, List, [], ◌∷◌, ◌++◌, refl, ap, ◌∙◌, w64, arith}
 use seplogic.Ra.Ura.{Ura}
 use base.Fml.{Fml, froom, fsep}
 use base.Logic.{ent, sep, emp, never, fst∗}
 use mir.Syntax.{Ty}
 use mir.Val.{Val, vptr, vint, vstruct, vnil, of_list}
 use types.Logic.{Logic, sem}
-use types.Kit.{Item, Goal, Seq, ‵, ◌$◌, ◌∵◌, !, qed, done, move, drop, use0, fsplit, fjoin, fpack, feq_i, rewrite}
+use types.Kit.{Item, Goal, Seq, ‵, ◌$◌, ◌∵◌, !, qed, done, move, drop, use0, use1, fsplit, fjoin, fpack, feq_i}
 use types.Match.{live}
 use denote.Enum.Declared as enum
 use denote.Enum.Enum.{form_of, in_a_row}
@@ -27,12 +27,15 @@ use Rattle.std.specs.contracts.alloc.AllocError as AllocError
 use Rattle.std.specs.declared.result.Result.TheVariants.{Ok, Err}
 use Rattle.entry_pool.specs.declared.block.Block.{Block}
 use Rattle.entry_pool.specs.contracts.block.Block.{the_row, the_type}
-use Rattle.entry_pool.proofs.Memory.{together, less_none, at_first}
+use Rattle.entry_pool.proofs.Memory.{together, rooms_out}
+use Rattle.entry_pool.specs.Owned.{places}
+use Rattle.std.proofs.lemmas.List.{length-replicate}
+use Rattle.std.proofs.Common.{replicate, Option, None}
 use Rattle.entry_pool.proofs.Opened.{word, fields}
 
--- a block with nothing written
+-- a block with nothing in it
 abbrev pub empty_block : {X : Type 0} → ℕ → ℕ → ℕ → Global → Block X
-empty_block b o capacity alloc = record { start = block_ptr b o; capacity = capacity; alloc = alloc; items = [] }
+empty_block b o capacity alloc = record { start = block_ptr b o; capacity = capacity; alloc = alloc; items = replicate capacity None }
 
 -- a block, or want of memory
 abbrev pub Answer : RattleType → RattleType
@@ -49,8 +52,8 @@ module _ {M : Type 1} {𝓤 : Ura M} (𝓛 : Logic 𝓤) (R : RattleType) where
       → ent 𝓤 (sep 𝓤 (𝓛.H.room (array_of R capacity) b o) (sem 𝓛 (ghosts.dealloc_token alloc (array_of R capacity) (block_ptr b o)))) (sem 𝓛 ((the_row R).own_val (empty_block b o capacity alloc) (word b o capacity)))
   block_made b o capacity alloc small bytes =
       qed 𝓛 (‵ (froom (array_of R capacity) b o) ∷ ‵ (ghosts.dealloc_token alloc (array_of R capacity) (block_ptr b o)) ∷ []) ∵
-      rewrite ! 0 (λ (k : ℕ). ‵ (froom (array_of R k) b o)) (sym (less_none capacity)) refl $ rewrite ! 0 (λ (k : ℕ). ‵ (froom (array_of R (capacity - 0)) b k)) (sym (at_first o (type_size R))) refl $
-      nothing ! $ together R (ghosts.dealloc_token alloc) (block_ptr b o) capacity ! [] b o refl bytes (omega arith) $
+      use1 𝓛 (‵ (places R (replicate capacity None) b o)) (rooms_out 𝓛 R capacity b o) $
+      together R (ghosts.dealloc_token alloc) (block_ptr b o) capacity ! (replicate capacity None) b o refl bytes (omega (arith, length-replicate {A = Option R.Denot} capacity None)) $
       use0 𝓛 (‵ ((fields R).own_val (to (the_type R) (empty_block b o capacity alloc)) (word b o capacity))) (fields_made b o capacity alloc (omega arith)) $ fjoin ! $ done !
 
   pub ok_made : (h : Block R.Denot) (u : Val) → ent 𝓤 (sem 𝓛 ((the_row R).own_val h (u ∷ []))) (sem 𝓛 ((Answer R).own_val (Ok h) (live 0 (of_list (u ∷ [])) ∷ [])))

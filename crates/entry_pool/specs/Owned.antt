@@ -1,36 +1,54 @@
 -- What a `Block` owns and lends.
-use Rattle.std.specs.Prelude.{ℕ, ◌+◌, ◌-◌, ◌*◌, ◌^◌, List, length}
-use base.Fml.{Fml, Lft, fsep, flt, ftrue, ffalse}
+use Rattle.std.specs.Prelude.{ℕ, ◌+◌, ◌*◌, ◌^◌, List, length, Option, Some, None}
+use Rattle.std.specs.Coded.{coded_option}
+use base.Fml.{Fml, Lft, Share, fsep, flt, ftrue, ffalse, froom}
 use base.Fraction.{full_share}
 use mir.Syntax.{Ty}
+use mir.Raw.{raw}
 use denote.RattleType.{RattleType}
-use denote.RawPtr.{Ptr, block_ptr, null_ptr, block_of, count_of, in_block, room_for, ◌+ₚ◌}
-use denote.Index.{row}
-use denote.Memory.{each_shared, shared_of}
-use denote.Sharing.{beside, said}
+use denote.RawPtr.{Ptr, block_ptr, null_ptr, block_of, count_of, in_block}
+use denote.Memory.{each_shared, lone, part_at, shared_of}
+use denote.Sharing.{beside, nothing, said}
+use types.SemTy.{SemTy}
+use types.Share.{Parts, parts}
 use Rattle.std.specs.Mem.{type_size}
 use Rattle.std.specs.Allocator.{array_of}
 
--- so many bytes fit a block, and no more values than that have been written
-abbrev pub bounds : (R : RattleType) → ℕ → List R.Denot → Fml
+-- so many bytes fit a block, and no more places than that are in it
+abbrev pub bounds : (R : RattleType) → ℕ → List (Option R.Denot) → Fml
 bounds R capacity xs = fsep (flt (capacity * type_size R) (2 ^ 63)) (flt (length xs) (capacity + 1))
 
--- these values lie side by side from p on
-abbrev pub items_at : (R : RattleType) → Ptr → List R.Denot → Fml
-items_at R (block_ptr b o) xs = row R full_share xs b o
-items_at R null_ptr xs = ffalse
+-- what lies at a place: a value, or room for one
+abbrev pub place_at : (R : RattleType) → Share → Option R.Denot → ℕ → ℕ → Fml
+place_at R q None b o = froom (raw (lone R.mir)) b o
+place_at R q (Some x) b o = part_at R q x b o
 
--- the written values, room for the others, and the right to free the block
-abbrev pub block_owns : (Ty → Ptr → Fml) → (R : RattleType) → Ptr → ℕ → List R.Denot → Fml
-block_owns token R p capacity xs =
-    fsep (bounds R capacity xs)
-    (fsep (items_at R p xs)
-    (fsep (room_for (array_of R (capacity - length xs)) (p +ₚ length xs * type_size R)) (token (array_of R capacity) p)))
+abbrev pub a_place : RattleType → SemTy
+a_place R = record { rep = Option R.Denot; coded = coded_option R.coded; size = type_size R; own_at = place_at R full_share }
 
--- what a `&` to these values holds: a `&` to each
-abbrev pub items_lent : (R : RattleType) → Ptr → List R.Denot → Lft → Fml
-items_lent R p xs = beside (said (in_block p ftrue)) (each_shared xs (shared_of R) (type_size R) (block_of p) (count_of p))
+abbrev pub place_parts : (R : RattleType) → Parts (a_place R)
+place_parts R = record { part = place_at R }
+
+-- these places lie side by side from here on
+abbrev pub places : (R : RattleType) → List (Option R.Denot) → ℕ → ℕ → Fml
+places R = parts (a_place R) (place_parts R) full_share
+
+abbrev pub places_at : (R : RattleType) → Ptr → List (Option R.Denot) → Fml
+places_at R (block_ptr b o) xs = places R xs b o
+places_at R null_ptr xs = ffalse
+
+-- the places, and the right to free the block
+abbrev pub block_owns : (Ty → Ptr → Fml) → (R : RattleType) → Ptr → ℕ → List (Option R.Denot) → Fml
+block_owns token R p capacity xs = fsep (bounds R capacity xs) (fsep (places_at R p xs) (token (array_of R capacity) p))
+
+-- what a `&` to a place holds: a `&` to its value
+abbrev pub place_lent : (R : RattleType) → Option R.Denot → ℕ → ℕ → Lft → Fml
+place_lent R None b o = nothing
+place_lent R (Some x) b o = shared_of R x b o
+
+abbrev pub places_lent : (R : RattleType) → Ptr → List (Option R.Denot) → Lft → Fml
+places_lent R p xs = beside (said (in_block p ftrue)) (each_shared xs (place_lent R) (type_size R) (block_of p) (count_of p))
 
 -- what a `&` to a block holds
-abbrev pub block_lends : (R : RattleType) → Ptr → ℕ → List R.Denot → Lft → Fml
-block_lends R p capacity xs = beside (said (bounds R capacity xs)) (items_lent R p xs)
+abbrev pub block_lends : (R : RattleType) → Ptr → ℕ → List (Option R.Denot) → Lft → Fml
+block_lends R p capacity xs = beside (said (bounds R capacity xs)) (places_lent R p xs)

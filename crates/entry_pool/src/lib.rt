@@ -1,11 +1,11 @@
 //! Slots for values in one block of raw memory, named by handles that never find a later value.
 #![tactic(auto)]
 
-ghost use Rattle.std.specs.Prelude.{◌≡◌, ◌<◌, ◌≤◌, ◌^◌, ◌↔◌, [], length, Some, None, IsSome, IsErr, IfOk, IfErr, IfNone, IsTrue, true, option_copied};
+ghost use Rattle.std.specs.Prelude.{◌≡◌, ℕ, ◌<◌, ◌≤◌, ◌^◌, ◌↔◌, length, replicate, get_or, slice_set, Some, None, IsSome, IsErr, IfOk, IfErr, IfNone, option_copied};
 ghost use Rattle.std.specs.Option.{option_copied_mut};
 ghost use Rattle.std.specs.Borrow.{Lends, sem};
 ghost use Rattle.entry_pool.specs.Contents.{empty, entry_at, find, live_count, IsFull, IsGone, IsPool, with_inserted, without};
-ghost use Rattle.entry_pool.specs.Slots.{is_full};
+ghost use Rattle.entry_pool.specs.Slots.{IsTold, AreAllFree};
 
 mod block;
 pub mod laws;
@@ -15,48 +15,50 @@ use sequence::NoMemory;
 pub use slot_handle::Handle;
 use std::alloc::Global;
 use std::marker::Model;
+use std::snapshot::Snapshot;
 
 /// No slot: the slots are below 2^30.
 const NONE: u32 = u32::MAX;
 
-/// A place of the block: the next free slot, or a value with the generation of its handle.
+/// The link of a slot that has a value.
+const FULL: u32 = u32::MAX - 1;
+
+/// A value, with the generation of its handle.
 #[derive(Drop)]
-enum Slot<T> {
-    Free(u32),
-    Full(u64, T),
+struct Live<T> {
+    generation: u64,
+    value: T,
 }
 
-impl<T> Slot<T> {
-    ghost use Rattle.entry_pool.specs.contracts.Slot.{the_row};
+impl<T> Live<T> {
+    ghost use Rattle.entry_pool.specs.contracts.Live.{the_row};
     ghost use Rattle.entry_pool.specs.Slots.{refilled};
 
     fn value_mut(&mut self) -> &mut T
-        requires { is_full self.old ≡ true }
         ensures* lends { sem 𝓛 (Lends (the_row T.row) T.row self.entry result (refilled self.entry.now)) }
-        ensures value { self.old ≡ refilled self.old result.now }
+        ensures value { result.now ≡ self.old.value }
     {
-        match self {
-            Slot::Full(_, value) => value,
-            Slot::Free(_) => unreachable!(),
-        }
+        &mut self.value
     }
 }
 
 /// Values in the slots of one block. Contracts see a finite map from handles to values, the capacity, and the greatest
 /// generation used. Only `new` takes memory. Each live value is dropped once, by the pool's end at the latest.
 pub struct Pool<T> {
-    // The slots below `touched` were written; from there on the block is raw memory.
-    block: Block<Slot<T>>,
+    // The place of a slot with no value is raw memory, which no call reads or writes.
+    block: Block<Live<T>>,
+    // For each slot: that it has a value, or the next free slot.
+    links: Vec<u32>,
     capacity: u32,
-    touched: u32,
     first_free: u32,
     count: u32,
-    newest: u64,
+    // Clauses alone read it.
+    newest: Snapshot<u64>,
     alloc: Global,
 }
 
 impl<T> Model for Pool<T> {
-    ghost use Rattle.std.specs.Prelude.{◌≡◌, length};
+    ghost use Rattle.std.specs.Prelude.{◌≡◌, map};
     ghost use Rattle.entry_pool.specs.Contents.{Contents, contents, contents_code};
 
     ghost Value = { Contents T };
@@ -65,10 +67,22 @@ impl<T> Model for Pool<T> {
 
     ghost use Rattle.entry_pool.specs.Slots.{shown, IsSound};
 
-    ghost view = { λ p. contents p.capacity p.newest (shown p.block.items p.capacity) };
+    ghost view = { λ p. contents p.capacity p.newest.value (map shown p.block.items) };
 
-    ghost invariant = { λ p. (p.block.capacity ≡ p.capacity) × (p.block.alloc ≡ p.alloc) × (p.touched ≡ length p.block.items)
-        × IsSound p.block.items p.capacity p.first_free p.count p.newest };
+    ghost invariant = { λ p. (p.block.capacity ≡ p.capacity) × (p.block.alloc ≡ p.alloc) × IsSound p.block.items p.links.items p.capacity p.first_free p.count p.newest.value };
+}
+
+// The links of so many free slots: each names the next, and the last names none.
+fn free_links(alloc: Global, capacity: u32) -> Result<Vec<u32>, NoMemory>
+    requires { 0 < capacity }
+    ensures { IfOk result (λ links. AreAllFree links.items capacity) }
+{
+    let mut links = Vec::with_capacity(alloc, capacity as usize)?;
+    for next in 1..capacity {
+        links.push_reserved(next);
+    }
+    links.push_reserved(NONE);
+    Ok(links)
 }
 
 impl<T> Pool<T> {
@@ -80,17 +94,18 @@ impl<T> Pool<T> {
         requires within { capacity ≤ 2 ^ 30 }
         ensures { IfOk result (λ pool. pool ≡ empty capacity) }
     {
-        if !Block::<Slot<T>>::can_hold(capacity as usize) {
+        if !Block::<Live<T>>::can_hold(capacity as usize) {
             return Err(NoMemory);
         }
+        let links = free_links(alloc, capacity)?;
         match Block::allocate(&alloc, capacity as usize) {
             Ok(block) => Ok(Pool {
                 block,
+                links,
                 capacity,
-                touched: 0,
-                first_free: NONE,
+                first_free: 0,
                 count: 0,
-                newest: 0,
+                newest: Snapshot::of(&0),
                 alloc,
             }),
             Err(error) => Err(error),
@@ -122,26 +137,16 @@ impl<T> Pool<T> {
         ensures free { IfOk result (λ handle. (handle.slot < self.old.capacity) × (entry_at self.old handle.slot ≡ None)) }
         ensures inserted { IfOk result (λ handle. self.new ≡ with_inserted self.old handle value) }
     {
-        if self.count == self.capacity {
+        let slot = self.first_free;
+        if slot == NONE {
             return Err(value);
         }
-        let slot = self.first_free;
-        self.newest = generation;
+        let at = slot as usize;
+        self.first_free = self.links[at];
+        self.links[at] = FULL;
+        self.block.write(at, Live { generation, value });
+        self.newest = Snapshot::of(&generation);
         self.count += 1;
-        if slot == NONE {
-            let slot = self.touched;
-            self.touched = slot + 1;
-            self.block
-                .push(slot as usize, Slot::Full(generation, value));
-            return Ok(Handle { slot, generation });
-        }
-        match self
-            .block
-            .replace(slot as usize, Slot::Full(generation, value))
-        {
-            Slot::Free(next) => self.first_free = next,
-            Slot::Full(_, _) => unreachable!(),
-        }
         Ok(Handle { slot, generation })
     }
 
@@ -149,13 +154,18 @@ impl<T> Pool<T> {
     pub fn get(&self, handle: Handle) -> Option<&T>
         ensures { option_copied result ≡ find self.now handle }
     {
-        if handle.slot >= self.touched {
+        let at = handle.slot as usize;
+        if handle.slot >= self.capacity {
             return None;
         }
-        match self.block.get(handle.slot as usize) {
-            Slot::Full(generation, value) if *generation == handle.generation => Some(value),
-            _ => None,
+        if self.links[at] != FULL {
+            return None;
         }
+        let live = self.block.get(at);
+        if live.generation != handle.generation {
+            return None;
+        }
+        Some(&live.value)
     }
 
     /// The value that the handle names, to write to.
@@ -180,30 +190,38 @@ impl<T> Pool<T> {
         if self.get(handle).is_none() {
             return None;
         }
-        match self
-            .block
-            .replace(handle.slot as usize, Slot::Free(self.first_free))
-        {
-            Slot::Full(_, value) => {
-                self.first_free = handle.slot;
-                self.count -= 1;
-                Some(value)
-            }
-            Slot::Free(_) => unreachable!(),
-        }
+        let at = handle.slot as usize;
+        let Live {
+            generation: _,
+            value,
+        } = self.block.take(at);
+        self.links[at] = self.first_free;
+        self.first_free = handle.slot;
+        self.count -= 1;
+        Some(value)
     }
 }
 
-// Drops what the slots that were written hold.
-fn drop_slots<T: Drop>(block: &mut Block<Slot<T>>, written: u32)
-    requires { written ≡ length block.old.items }
+// Drops the value of a slot that has one.
+fn drop_place<T: Drop>(block: &mut Block<Live<T>>, at: usize, link: u32)
+    requires { IsTold link (get_or block.old.items at None) }
     ensures same_block { (block.new.capacity ≡ block.old.capacity) × (block.new.alloc ≡ block.old.alloc) }
-    ensures empty { block.new.items ≡ [] }
+    ensures emptied { block.new.items ≡ slice_set block.old.items at None }
 {
-    let mut left = written;
-    while left > 0 {
-        left -= 1;
-        drop(block.pop(left as usize));
+    if link == FULL {
+        drop(block.take(at));
+    }
+}
+
+// Drops the values of all slots.
+fn drop_places<T: Drop>(block: &mut Block<Live<T>>, links: &[u32])
+    requires sized { length links.now ≡ length block.old.items }
+    requires told { (at : ℕ) → at < length links.now → IsTold (get_or links.now at 0) (get_or block.old.items at None) }
+    ensures same_block { (block.new.capacity ≡ block.old.capacity) × (block.new.alloc ≡ block.old.alloc) }
+    ensures empty { block.new.items ≡ replicate (length links.now) None }
+{
+    for at in 0..links.len() {
+        drop_place(block, at, links[at]);
     }
 }
 
@@ -211,14 +229,14 @@ impl<T: Drop> Drop for Pool<T> {
     fn drop(self) {
         let Pool {
             mut block,
+            links,
             capacity: _,
-            touched,
             first_free: _,
             count: _,
             newest: _,
             alloc,
         } = self;
-        drop_slots(&mut block, touched);
+        drop_places(&mut block, links.as_slice());
         block.free(&alloc);
     }
 }

@@ -9,6 +9,7 @@ ghost use Rattle.std.specs.Int.{bit_at};
 ghost use Rattle.key_index.specs.Chains.{hash_of, IsAmong, IsChain, NamesNext, heads_with_next, nodes_with_next, marks_behind};
 
 mod sip;
+mod words;
 
 use core::hash::keyed_hasher;
 use sequence::NoMemory;
@@ -19,6 +20,7 @@ use std::hash::Hasher;
 use std::marker::Model;
 use std::mem;
 use stick_key::StickKey;
+use words::{is_same_4, is_same_16};
 
 /// No slot: the slots are below 2^30.
 const NONE: u32 = u32::MAX;
@@ -125,7 +127,12 @@ fn forget_marks(marks: &mut Vec<u8>, bucket: usize, first: u32)
 fn is_same(key: &StickKey, other: &StickKey) -> bool
     ensures { IsTrue result ↔ key.now ≡ other.now }
 {
-    key.bytes() == other.bytes()
+    let (bytes, others) = (key.bytes(), other.bytes());
+    match (bytes.len(), others.len()) {
+        (4, 4) => is_same_4(bytes, others),
+        (16, 16) => is_same_16(bytes, others),
+        _ => bytes == others,
+    }
 }
 
 // The slot before this one in the chain that begins at `first`, or none where this one begins it.

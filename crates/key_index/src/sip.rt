@@ -1,8 +1,10 @@
 //! SipHash-1-3 of the bytes of an address, 4 or 16, by whole words. A hasher that takes any bytes goes through the
 //! last of them one by one.
-ghost use Rattle.std.specs.Prelude.{◌≡◌, ◌+◌, ◌<◌, ◌≤◌, length};
-ghost use Rattle.core.specs.Hash.DefaultHasher.{round, write_word, with_keys, with_byte, finish, write};
-ghost use Rattle.key_index.specs.Sip.{state_of, finished_by, half_of, word_of};
+ghost use Rattle.std.specs.Prelude.{◌≡◌, length};
+ghost use Rattle.core.specs.Hash.DefaultHasher.{round, write_word, with_keys, finish, write};
+ghost use Rattle.key_index.specs.Sip.{state_of, finished_by};
+
+use crate::words::{half_word, word};
 
 /// The state of the hash.
 #[derive(Clone, Copy)]
@@ -74,36 +76,6 @@ fn finished(s: Sip, last: u64) -> u64
         v3: mixed.v3,
     })));
     end.v0 ^ end.v1 ^ end.v2 ^ end.v3
-}
-
-// The word, with a byte at so many bits.
-#[inline(always)]
-fn with_byte_at(word: u64, place: u32, byte: u8) -> u64
-    requires { place < 8 }
-    ensures { result ≡ with_byte word place byte }
-{
-    word | u64::from(byte) << (8 * place)
-}
-
-// Four bytes from here on, the lowest first.
-#[inline(always)]
-fn half_word(bytes: &[u8], at: usize) -> u64
-    requires { at + 4 ≤ length bytes.now }
-    ensures { result ≡ half_of bytes.now at }
-{
-    let low = with_byte_at(with_byte_at(0, 0, bytes[at]), 1, bytes[at + 1]);
-    with_byte_at(with_byte_at(low, 2, bytes[at + 2]), 3, bytes[at + 3])
-}
-
-// Eight bytes from here on, the lowest first.
-#[inline(always)]
-fn word(bytes: &[u8], at: usize) -> u64
-    requires { at + 8 ≤ length bytes.now }
-    ensures { result ≡ word_of bytes.now at }
-{
-    let low = with_byte_at(half_word(bytes, at), 4, bytes[at + 4]);
-    let low = with_byte_at(low, 5, bytes[at + 5]);
-    with_byte_at(with_byte_at(low, 6, bytes[at + 6]), 7, bytes[at + 7])
 }
 
 /// The hash of four bytes.

@@ -1,32 +1,25 @@
-use Rattle.std.proofs.Common.{◌≡◌, Some, IsSome, sym, ap, subst, ◌∙◌, inl, length-set}
-use Rattle.entry_pool.specs.declared.Slot.TheVariants.{Full}
-use Rattle.entry_pool.proofs.FindLemmas.{found_full, find_full, rewritten, some_copied}
+use Rattle.std.proofs.Common.{◌≡◌, Some, IsSome, refl, sym, ap, subst, ◌∙◌, inl}
+use Rattle.entry_pool.specs.declared.Live.{Live}
+use Rattle.entry_pool.proofs.FindLemmas.{found_live, find_live, rewritten, some_copied}
+use Rattle.entry_pool.proofs.SlotLemmas.{same_some}
 use Rattle.entry_pool.proofs.SoundLemmas.{sound_rewrite}
 use Rattle.entry_pool.proofs.Pool.get_mut.Goals as goal
 
 pub invariant_of-self-lent : goal.invariant_of-self-lent
 invariant_of-self-lent g c w =
-    let p = c.self.inside in let h = c.args.handle in let i = c.self.invariant in
-    let some = subst IsSome c.get.ensures (some_copied c.get.result c.if-is_none.ensures) in
-    let full = found_full p.block.items p.capacity p.newest h.slot h.generation some in
-    let there = full.1 in let here = c.get_mut.ensures.value in
-    let is : c.get_mut.result.now ≡ Full h.generation full.0 = cc in
-    rw is (
+    let p = c.self.inside in let i = c.self.invariant in let live = c.get_mut.result.now in (
       i.0,
       i.1,
-      i.2 ∙ sym (length-set p.block.items h.slot (Full h.generation w)),
-      sound_rewrite p.block.items p.capacity p.first_free p.count p.newest i.3 h.slot h.generation full.0 w there,
+      sound_rewrite p.block.items p.links.items p.capacity p.first_free p.count p.newest.value i.2 c.args.handle.slot live (record live { value = w }) c.get_mut.ensures.value refl,
     )
 
 pub returns : goal.returns
 returns g c =
-    let p = c.self.inside in let h = c.args.handle in
+    let p = c.self.inside in let h = c.args.handle in let live = c.get_mut.result.now in let there = c.get_mut.ensures.value in
     let some = subst IsSome c.get.ensures (some_copied c.get.result c.if-is_none.ensures) in
-    let full = found_full p.block.items p.capacity p.newest h.slot h.generation some in
-    let there = full.1 in let here = c.get_mut.ensures.value in let value = c.value_mut.ensures.value in
-    let is : c.get_mut.result.now ≡ Full h.generation full.0 = cc in
-    let same : full.0 ≡ c.value_mut.result.now = let refilled = rw is at value in cc in
+    let found = found_live p.block.items p.capacity p.newest.value h.slot h.generation some in
+    let dated : live.generation ≡ h.generation = ap (λ (l : Live g.row.T.Denot). l.generation) (same_some (sym there ∙ found.there)) ∙ found.dated in
     rw (← c.self.view_is) (
-      (λ i. inl (c.value_mut.result.ghost_name, λ w. record { capacity = p.capacity; newest = p.newest; slots = rewritten p.block.items p.capacity h.slot h.generation c.get_mut.result.now full.0 w here is i })),
-      record { writes_back = tt; value = sym (find_full p.block.items p.capacity p.newest h.slot h.generation full.0 there ∙ ap Some same) },
+      (λ i. inl (c.value_mut.result.ghost_name, λ w. record { capacity = p.capacity; newest = p.newest.value; slots = rewritten p.block.items h.slot h.generation live w dated i })),
+      record { writes_back = tt; value = sym (find_live p.block.items p.capacity p.newest.value h.slot h.generation live there dated ∙ ap Some (sym c.value_mut.ensures.value)) },
     )

@@ -1,73 +1,52 @@
-use Rattle.std.proofs.Common.{◌<◌, [], ◌∷◌, Some, refl, sym, ap, ◌∙◌, arith, length-append, length-set, true≢false}
-use Rattle.entry_pool.specs.declared.Slot.TheVariants.{Free, Full}
-use Rattle.entry_pool.proofs.SlotLemmas.{entry_in, get_past, get_within, shown_count, shown_get, shown_more, shown_set}
-use Rattle.entry_pool.proofs.SoundLemmas.{room, chain_head, sound_push, sound_fill}
+use Rattle.std.proofs.Common.{◌<◌, length, Some, refl, sym, ap, ◌∙◌, arith, true≢false}
+use Rattle.std.proofs.lemmas.List.{map-set}
+use Rattle.std.proofs.lemmas.Option.{slice_get_read}
+use Rattle.entry_pool.specs.declared.Live.{Live}
+use Rattle.entry_pool.specs.Slots.{shown}
+use Rattle.entry_pool.proofs.SlotLemmas.{shown_count, shown_get}
+use Rattle.entry_pool.proofs.SoundLemmas.{all_full, head, sound_fill}
 use Rattle.entry_pool.proofs.Pool.insert.Goals as goal
-
-pub invariant_of-self : goal.invariant_of-self
-invariant_of-self g c =
-    let p = c.self.inside in let i = c.self.invariant in let x = Full c.args.generation c.args.value in
-    let more = room p.block.items p.capacity p.first_free p.count p.newest i.3 c.if-slot.true c.if-self.false in
-    let newer : p.newest < c.args.generation = rw (← c.self.view_is) at c.requires in
-    rw c.push.ensures (
-      i.0,
-      i.1,
-      omega (arith, i.2, length-append p.block.items (x ∷ [])),
-      sound_push p.block.items p.capacity p.first_free p.count p.newest i.3 c.args.generation c.args.value c.if-slot.true more newer,
-    )
 
 pub returns-then-slot-clause-refused : goal.returns-then-slot-clause-refused
 returns-then-slot-clause-refused g c =
-    let p = c.self.inside in let sound = c.self.invariant.3 in
-    rw (← c.self.view_is) ((λ never. absurd (true≢false (sym never))), (λ full. absurd (c.if-self.false (sound.counted ∙ sym (shown_count p.block.items p.capacity) ∙ full))))
+    let p = c.self.inside in let sound = c.self.invariant.2 in
+    rw (← c.self.view_is) ((λ _. shown_count p.block.items ∙ sym sound.counted ∙ all_full p.block.items p.links.items p.capacity p.first_free p.count p.newest.value sound c.if-slot.true), (λ _. refl))
 
-pub returns-then-slot-clause-free : goal.returns-then-slot-clause-free
-returns-then-slot-clause-free g c =
-    let p = c.self.inside in let i = c.self.invariant in
-    let more = room p.block.items p.capacity p.first_free p.count p.newest i.3 c.if-slot.true c.if-self.false in
-    rw (← c.self.view_is) (omega (arith, more, i.2), shown_get p.block.items p.capacity p.touched ∙ ap entry_in (get_past p.block.items p.touched (omega (arith, i.2))))
+pub index-requires : goal.index-requires
+index-requires g c =
+    let p = c.self.inside in let sound = c.self.invariant.2 in
+    omega (arith, (head p.block.items p.links.items p.capacity p.first_free p.count p.newest.value sound c.if-slot.false).within, sound.linked, p.links.ok)
 
-pub returns-then-slot-clause-inserted : goal.returns-then-slot-clause-inserted
-returns-then-slot-clause-inserted g c =
-    let p = c.self.inside in let i = c.self.invariant in let x = Full c.args.generation c.args.value in
-    let more = room p.block.items p.capacity p.first_free p.count p.newest i.3 c.if-slot.true c.if-self.false in
-    rw (← c.self.view_is, c.push.ensures, i.2, shown_more p.block.items p.capacity x more) refl
+pub index_mut-requires : goal.index_mut-requires
+index_mut-requires g c =
+    let p = c.self.inside in let sound = c.self.invariant.2 in
+    omega (arith, (head p.block.items p.links.items p.capacity p.first_free p.count p.newest.value sound c.if-slot.false).within, sound.linked, p.links.ok)
 
-pub replace-requires : goal.replace-requires
-replace-requires g c =
-    let p = c.self.inside in let head = chain_head p.block.items p.capacity p.first_free p.count p.newest c.self.invariant.3 c.if-slot.false in
-    get_within p.block.items p.first_free (Free head.0) head.1
+pub write-requires : goal.write-requires
+write-requires g c =
+    let p = c.self.inside in let sound = c.self.invariant.2 in let first = head p.block.items p.links.items p.capacity p.first_free p.count p.newest.value sound c.if-slot.false in
+    (omega (arith, first.within, sound.sized), first.nothing)
 
-pub invariant_of-self-in-Free : goal.invariant_of-self-in-Free
-invariant_of-self-in-Free g c =
-    let p = c.self.inside in let i = c.self.invariant in let x = Full c.args.generation c.args.value in
-    let newer : p.newest < c.args.generation = rw (← c.self.view_is) at c.requires in
-    let found = c.replace.ensures.0 ∙ ap Some c.in-Free.is in
-    rw c.replace.ensures.1 (
-      i.0,
-      i.1,
-      i.2 ∙ sym (length-set p.block.items p.first_free x),
-      sound_fill p.block.items p.capacity p.first_free p.count p.newest i.3 c.in-Free.next c.args.generation c.args.value found newer,
-    )
-
-pub unreachable-requires : goal.unreachable-requires
-unreachable-requires g c =
-    let p = c.self.inside in let head = chain_head p.block.items p.capacity p.first_free p.count p.newest c.self.invariant.3 c.if-slot.false in
-    let free = head.1 in let held = c.replace.ensures.0 in let full = c.in-Full.is in cc
+pub invariant_of-self : goal.invariant_of-self
+invariant_of-self g c =
+    let p = c.self.inside in let i = c.self.invariant in let sound = i.2 in
+    let first = head p.block.items p.links.items p.capacity p.first_free p.count p.newest.value sound c.if-slot.false in
+    let newer : p.newest.value < c.args.generation = rw (← c.self.view_is) at c.requires in
+    let link = slice_get_read p.links.items (length p.links.items) p.first_free c.index.result.now refl (omega (arith, first.within, sound.linked)) c.index.ensures in
+    let live : Live g.row.T.Denot = record { generation = c.args.generation; value = c.args.value } in
+    rw (c.write.ensures, c.of.ensures) (i.0, i.1, sound_fill p.block.items p.links.items p.capacity p.first_free p.count p.newest.value sound live c.index.result.now c.if-slot.false link newer)
 
 pub returns-clause-refused : goal.returns-clause-refused
 returns-clause-refused g c =
-    let p = c.self.inside in let sound = c.self.invariant.3 in
-    rw (← c.self.view_is) ((λ never. absurd (true≢false (sym never))), (λ full. absurd (c.if-self.false (sound.counted ∙ sym (shown_count p.block.items p.capacity) ∙ full))))
+    let p = c.self.inside in let sound = c.self.invariant.2 in let first = head p.block.items p.links.items p.capacity p.first_free p.count p.newest.value sound c.if-slot.false in
+    rw (← c.self.view_is) ((λ never. absurd (true≢false (sym never))), (λ full. absurd (omega (arith, first.room, sound.counted, full, shown_count p.block.items))))
 
 pub returns-clause-free : goal.returns-clause-free
 returns-clause-free g c =
-    let p = c.self.inside in let i = c.self.invariant in
-    let found = c.replace.ensures.0 ∙ ap Some c.in-Free.is in
-    rw (← c.self.view_is) (omega (arith, get_within p.block.items p.first_free (Free c.in-Free.next) found, i.3.within), shown_get p.block.items p.capacity p.first_free ∙ ap entry_in found)
+    let p = c.self.inside in let first = head p.block.items p.links.items p.capacity p.first_free p.count p.newest.value c.self.invariant.2 c.if-slot.false in
+    rw (← c.self.view_is) (first.within, shown_get p.block.items p.first_free ∙ ap shown first.nothing)
 
 pub returns-clause-inserted : goal.returns-clause-inserted
 returns-clause-inserted g c =
-    let p = c.self.inside in let x = Full c.args.generation c.args.value in
-    let found = c.replace.ensures.0 ∙ ap Some c.in-Free.is in
-    rw (← c.self.view_is, c.replace.ensures.1, shown_set p.block.items p.capacity p.first_free x (get_within p.block.items p.first_free (Free c.in-Free.next) found)) refl
+    let p = c.self.inside in let live : Live g.row.T.Denot = record { generation = c.args.generation; value = c.args.value } in
+    rw (← c.self.view_is, c.write.ensures, c.of.ensures, map-set shown p.block.items p.first_free (Some live)) refl

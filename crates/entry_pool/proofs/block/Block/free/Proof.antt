@@ -1,6 +1,6 @@
--- The room of an empty block goes back to the allocator, with the right to free it.
-use Rattle.entry_pool.proofs.Steps.{◌≡◌, ℕ, ◌+◌, ◌*◌, [], ◌∷◌, length, refl, arith, w64, proved, fact, tables, ‵, raw, ◌⊛◌, ◌$◌, ◌∵◌, !, qed, ftrue, flft, named, a_type, dnil, inst_fn, yes, bounded, param, ShrRef, shr_vals, shr_Tells, plain, shr_ref_to, Stays, walk_of, stay_dropped, Goes-dropped, split, drop, heard, move}
-use Rattle.std.proofs.Common.{List, ◌-◌}
+-- The room of a block with nothing goes back to the allocator, with the right to free it.
+use Rattle.entry_pool.proofs.Steps.{◌≡◌, ◌*◌, [], ◌∷◌, refl, arith, w64, proved, fact, tables, ‵, raw, ◌⊛◌, ◌$◌, ◌∵◌, !, qed, ftrue, flft, named, a_type, dnil, inst_fn, yes, bounded, param, ShrRef, shr_vals, shr_Tells, plain, shr_ref_to, Stays, walk_of, stay_dropped, Goes-dropped, split, drop, heard, move}
+use Rattle.std.proofs.Common.{List, replicate, Option, None}
 use contract.BorrowLft.{◌⊑◌}
 use base.Fml.{froom}
 use prog.Wp.{WpFn}
@@ -12,7 +12,8 @@ use types.ByLocal.{get_in}
 use Rattle.std.specs.Mem.{type_size}
 use Rattle.std.specs.Allocator.{array_of}
 use Rattle.std.specs.contracts.impls.GlobalAllocator.TheImpl.{ghosts}
-use Rattle.entry_pool.proofs.Memory.{apart, at_first, less_none, capped_product}
+use Rattle.entry_pool.proofs.Memory.{apart, capped_product, rooms_in}
+use Rattle.entry_pool.specs.Owned.{places}
 use Rattle.entry_pool.proofs.Steps.{vint, vptr, keep, fsplit, fjoin, rewrite, regoal, prop, enter, of_opd, bin, stop, fld, first, blocks, exec, returns, alloc_all, pass_all, free_all, look_at, get, sets, env, at_ret, after, suffices, ends_at}
 use Rattle.std.proofs.Common.{ap}
 use types.Run.{size_word}
@@ -69,14 +70,13 @@ free_spec 𝓤 𝓛 𝓜 𝓡 wired T₀ L =
     let words : Vals ended.signature κs = (low.lowered h ∷ [], (shr_vals r, tt)) in
     let y : W.Ghost = ((κs, qs, bounds, a, words), tt) in
     qed 𝓛 (((‵ (flft κ q) ⊛ ‵ (flft κs.1.0 qs.1.0) ⊛ ‵ ftrue) ⊛ ‵ (B.own_val h (low.lowered h ∷ [])) ⊛ ‵ ((ShrRef (named 0) κ heap).own_val r (shr_vals r)) ⊛ ‵ ftrue)
-    ∷ (raw (fact 𝓤 (κs.1.0 ⊑ T₀.lives)) ⊛ raw (fact 𝓤 ((h.alloc ≡ r.now) × (h.items ≡ [])))) ∷ []) ∵
+    ∷ (raw (fact 𝓤 (κs.1.0 ⊑ T₀.lives)) ⊛ raw (fact 𝓤 ((h.alloc ≡ r.now) × (h.items ≡ replicate h.capacity None)))) ∷ []) ∵
     move ! (1 ∷ []) $ split ! $ drop ! $ heard ! _ (λ given.
     split ! $ split ! $ move ! (2 ∷ []) $ split ! $ move ! (1 ∷ []) $ split ! $ keep ! (2 ∷ 0 ∷ 3 ∷ 4 ∷ []) $ fsplit ! $ drop ! $
     let word = (((the_row_laws E (param_laws 0 T₀ L)).lawful 𝓛).typed h _ are.0).0.1.1.0 in
     -- [what the block owns; the `&` to the allocator; the token of its lifetime; the other tokens]
-    apart E (ghosts.dealloc_token h.alloc) h.start h.capacity ! h.items (λ bs os e bytes few. let product = capped_product h.capacity (type_size E) bytes in drop ! $
-    rewrite ! 0 (λ (xs : List E.Denot). ‵ (froom (array_of E (h.capacity - length xs)) bs (os + length xs * type_size E))) given.1 refl $
-    rewrite ! 0 (λ (k : ℕ). ‵ (froom (array_of E k) bs (os + 0 * type_size E))) (less_none h.capacity) refl $ rewrite ! 0 (λ (k : ℕ). ‵ (froom ty bs k)) (at_first os (type_size E)) refl $
+    apart E (ghosts.dealloc_token h.alloc) h.start h.capacity ! h.items (λ bs os e bytes few. let product = capped_product h.capacity (type_size E) bytes in
+    rewrite ! 0 (λ (xs : List (Option E.Denot)). ‵ (places E xs bs os)) given.1 refl $ use1 𝓛 (‵ (froom ty bs os)) (rooms_in 𝓛 E h.capacity bs os) $
     rewrite ! 1 (λ (z : Global). ‵ (ghosts.dealloc_token z ty h.start)) given.0 refl $
     rewrite ! 1 (λ (p : Ptr). ‵ (ghosts.dealloc_token r.now ty p)) e refl $ fjoin ! $
     regoal ! (λ (p : Ptr). prop (WpFn 𝓤 𝓛.H 𝓣.C 𝓣.Λ F (vstruct (vcons (ptr_val p) (vcons (vint w64 h.capacity) vnil)) ∷ vptr b o ∷ []) (W.post y))) e refl $

@@ -1,19 +1,19 @@
 -- A `&` to a written value: the pointer is read through the `&` to the block, and what is lent of the value goes out.
-use Rattle.entry_pool.proofs.Steps.{◌+◌, ◌*◌, ◌<◌, [], ◌∷◌, length, refl, arith, w64, proved, fact, tables, ‵, raw, ◌⊛◌, ◌$◌, ◌∵◌, !, qed, ftrue, flft, named, a_type, dnil, inst_fn, usize, yes, bounded, param, uint_vals, uint_Tells, ShrRef, shr_vals, shr_Tells, plain, shr_ref_to, Stays, walk_of, stay_dropped, Goes-dropped, split, drop, heard, move}
+use Rattle.entry_pool.proofs.Steps.{◌+◌, ◌*◌, [], ◌∷◌, length, refl, arith, w64, proved, fact, tables, ‵, raw, ◌⊛◌, ◌$◌, ◌∵◌, !, qed, ftrue, flft, named, a_type, dnil, inst_fn, usize, yes, bounded, param, uint_vals, uint_Tells, ShrRef, shr_vals, shr_Tells, plain, shr_ref_to, Stays, walk_of, stay_dropped, Goes-dropped, split, drop, heard, move}
 use Rattle.entry_pool.proofs.Steps.{RawPtr, block_of, count_of, InBlock, use1, keep, fsplit, flt_l}
 use contract.BorrowLft.{◌⊑◌}
 use denote.RawPtr.{ptr_row_laws}
 use denote.SharingLaws.{contraction}
 use Rattle.std.proofs.Words.{pointer_in, pointer_out}
-use Rattle.std.proofs.Common.{List}
+use Rattle.std.proofs.Common.{List, get_or, Some, None, IsSome}
 use mir.Val.{Val}
 use Rattle.entry_pool.proofs.Lent.{before_fits, one_fits}
 use Rattle.entry_pool.proofs.Steps.{vptr, feq_i, fjoin, nothing, join, done, enter, of_opd, size_lit, bin, addr, load, look, stop, fld, first, blocks, exec, returns, alloc_all, pass_all, free_all, look_at, get, through, sets, sets_last, env, at_ret, after, suffices, says, ends_at}
-use denote.Memory.{hidden_shr, shared_of}
+use denote.Memory.{hidden_shr}
 use denote.Struct.Lending.{in_block_says}
 use Rattle.std.specs.Mem.{type_size}
-use Rattle.entry_pool.specs.Owned.{block_lends}
-use Rattle.entry_pool.proofs.Lent.{item_at, item_lent, lent_parts}
+use Rattle.entry_pool.specs.Owned.{block_lends, place_lent}
+use Rattle.entry_pool.proofs.Lent.{held_at, item_lent, lent_parts}
 use Rattle.entry_pool.specs.contracts.block.Block.get as f
 use Rattle.entry_pool.specs.contracts.block.Block.{the_row as R}
 use Rattle.entry_pool.proofs.block.Block.get.Statement.{statement}
@@ -33,16 +33,16 @@ get_spec 𝓤 𝓛 𝓜 𝓡 wired T L =
     (λ κs. (shr_vals, (uint_vals w64, tt))) (λ κs. (shr_Tells (named 0) κs.0 B, (uint_Tells w64, tt))) (λ κs qs bounds a _ are.
     qed 𝓛 (((‵ (flft κs.0 qs.0) ⊛ ‵ (flft κs.1.0 qs.1.0) ⊛ ‵ ftrue)
     ⊛ ‵ ((ShrRef (named 0) κs.0 B).own_val a.0 (shr_vals a.0)) ⊛ ‵ (usize.own_val a.1.0 (uint_vals w64 a.1.0)) ⊛ ‵ ftrue)
-    ∷ (raw (fact 𝓤 (κs.1.0 ⊑ T.lives)) ⊛ raw (fact 𝓤 (a.1.0 < length a.0.now.items))) ∷ []) ∵
-    move ! (1 ∷ []) $ split ! $ drop ! $ heard ! _ (λ inside.
+    ∷ (raw (fact 𝓤 (κs.1.0 ⊑ T.lives)) ⊛ raw (fact 𝓤 (IsSome (get_or a.0.now.items a.1.0 None)))) ∷ []) ∵
+    move ! (1 ∷ []) $ split ! $ drop ! $ heard ! _ (λ full.
     let h = a.0.now in let at = a.1.0 in let b = a.0.ref_ptr.0 in let o = a.0.ref_ptr.1 in let κ = κs.0 in let E = param 0 T in let size = type_size E in
-    let found = item_at h.items at inside in let x = found.0 in
+    let found = held_at h.items at full in let inside = found.within in let x = found.value in
     split ! $ move ! (1 ∷ []) $ split ! $ move ! (2 ∷ []) $ split ! $ keep ! (2 ∷ 0 ∷ 1 ∷ []) $ fsplit ! $ drop ! $
     -- [what lies behind the `&`; the token of its lifetime; the other tokens]
     use1 𝓛 (‵ (hidden_shr RawPtr κ h.start b (o + 0)) ⊛ ‵ (block_lends E h.start h.capacity h.items κ)) (lent_parts 𝓛 E κ h b o) $ split ! $ move ! (1 ∷ []) $
     fsplit ! $ fsplit ! $ flt_l ! (λ bytes. flt_l ! (λ few. fsplit ! $ use1 𝓛 (raw (fact 𝓤 (InBlock h.start))) (in_block_says 𝓛 h.start) $ heard ! _ (λ inb.
     let bs = block_of h.start in let os = count_of h.start in
-    use1 𝓛 (‵ (hidden_shr E κ x bs (at * size + os))) (item_lent 𝓛 (shared_of E) size h.items at x bs os κ found.1) $
+    use1 𝓛 (‵ (hidden_shr E κ x bs (at * size + os))) (item_lent 𝓛 (place_lent E) size h.items at (Some x) None bs os κ inside found.is) $
     let F = inst_fn args code.function in let y : W.Ghost = ((κs, qs, bounds, a, (shr_vals a.0, (uint_vals w64 at, tt))), tt) in
     let small = one_fits h.capacity size at (length h.items) bytes few inside in let below = before_fits h.capacity size at (length h.items) bytes few inside in
     enter ! _ _ _ _ _ $ alloc_all ! (λ l. pass_all ! refl ((tt, tt), ((tt, record { fits = are.1.0.1 }), tt)) $
@@ -57,6 +57,6 @@ get_spec 𝓤 𝓛 𝓜 𝓡 wired T L =
     exec ! 𝓣.C 𝓣.Λ (env F.locals l) (after 1 F.body) (at_ret _ (W.post y)) $
     sets ! (of_opd ! (get ! refl)) refl (tt, tt) $
     returns ! (look_at ! 0 refl) $ free_all ! refl $ keep ! (2 ∷ 0 ∷ 3 ∷ []) $
-    suffices ! _ (ends_at 𝓛 ended stayed c y (vptr bs (at * size + os)) (record { ref_ptr = (bs, at * size + os); now = x }) (tt, (tt, tt)) (tt, (tt, tt))) $ says ! found.1 $
+    suffices ! _ (ends_at 𝓛 ended stayed c y (vptr bs (at * size + os)) (record { ref_ptr = (bs, at * size + os); now = x }) (tt, (tt, tt)) (tt, (tt, tt))) $ says ! found.is $
     feq_i ! (List Val) (vptr bs (at * size + os) ∷ []) (vptr bs (at * size + os) ∷ []) refl $ fjoin ! $
     nothing ! $ nothing ! $ fjoin ! $ nothing ! $ fjoin ! $ move ! (2 ∷ 3 ∷ []) $ join ! $ done !)))))))

@@ -1,16 +1,16 @@
 -- A value is lent from among the others: with any value in its place they are a block again.
-use Rattle.entry_pool.proofs.Steps.{◌+◌, ◌*◌, ◌<◌, [], ◌∷◌, length, refl, arith, w64, proved, fact, tables, ‵, raw, ◌⊛◌, ◌$◌, ◌∵◌, !, qed, ftrue, flft, named, a_type, dnil, inst_fn, usize, yes, bounded, param, uint_vals, uint_Tells, MutRef, mut_vals, mut_Tells, plain, mut_ref_to, Stays, walk_of, stay_dropped, Goes-dropped, split, drop, heard, move}
+use Rattle.entry_pool.proofs.Steps.{◌+◌, ◌*◌, [], ◌∷◌, length, refl, arith, w64, proved, fact, tables, ‵, raw, ◌⊛◌, ◌$◌, ◌∵◌, !, qed, ftrue, flft, named, a_type, dnil, inst_fn, usize, yes, bounded, param, uint_vals, uint_Tells, MutRef, mut_vals, mut_Tells, plain, mut_ref_to, Stays, walk_of, stay_dropped, Goes-dropped, split, drop, heard, move}
 use Rattle.std.specs.Mem.{type_size}
 use Rattle.entry_pool.proofs.Lent.{before_fits, one_fits}
-use Rattle.entry_pool.proofs.Memory.{row_out}
+use Rattle.entry_pool.proofs.Memory.{place_out}
+use Rattle.entry_pool.specs.Owned.{place_parts}
 use Rattle.entry_pool.proofs.Steps.{enter, of_opd, size_lit, bin, load, stop, fld, first, blocks, exec, returns, alloc_all, pass_all, free_all, look_at, get, through, sets, sets_last, env, at_ret, after, suffices, says, ends_at, keep, use1}
 use types.Part.{whole, sub, look_in}
 use Rattle.entry_pool.proofs.Steps.{full_share, fjoin, nothing, join, done}
 use denote.Memory.{part_at}
 use denote.Index.{others}
-use denote.Memory.{shares}
-use Rattle.std.proofs.Common.{set}
-use Rattle.entry_pool.proofs.Lent.{item_at}
+use Rattle.std.proofs.Common.{get_or, set, Some, None, IsSome}
+use Rattle.entry_pool.proofs.Lent.{held_at}
 use Rattle.entry_pool.proofs.Steps.{some, pick}
 use Rattle.entry_pool.specs.Blocks.{with_items}
 use contract.BorrowLft.{◌⊑◌}
@@ -42,27 +42,27 @@ get_mut_spec 𝓤 𝓛 𝓜 𝓡 wired T L =
     let y : W.Ghost = ((κs, qs, bounds, a, (mut_vals a.0, (uint_vals w64 at, tt))), tt) in
     qed 𝓛 (((‵ (flft κ q) ⊛ ‵ (flft κs.1.0 qs.1.0) ⊛ ‵ ftrue)
     ⊛ ‵ ((MutRef (named 0) κ B).own_val a.0 (mut_vals a.0)) ⊛ ‵ (usize.own_val at (uint_vals w64 at)) ⊛ ‵ ftrue)
-    ∷ (raw (fact 𝓤 (κs.1.0 ⊑ T.lives)) ⊛ raw (fact 𝓤 (at < length h.items))) ∷ []) ∵
-    move ! (1 ∷ []) $ split ! $ drop ! $ heard ! _ (λ within.
-    let size = type_size E in let n = length h.items in let found = item_at h.items at within in let x = found.0 in let off = at * size in
+    ∷ (raw (fact 𝓤 (κs.1.0 ⊑ T.lives)) ⊛ raw (fact 𝓤 (IsSome (get_or h.items at None)))) ∷ []) ∵
+    move ! (1 ∷ []) $ split ! $ drop ! $ heard ! _ (λ full.
+    let size = type_size E in let n = length h.items in let found = held_at h.items at full in let within = found.within in let x = found.value in let off = at * size in
     split ! $ move ! (1 ∷ []) $ split ! $ move ! (2 ∷ []) $ split ! $ keep ! (2 ∷ 0 ∷ 1 ∷ []) $
     -- [the `&mut`; the token of its lifetime; the other token]
     enter ! _ _ _ _ _ $ alloc_all ! (λ l. pass_all ! refl ((tt, tt), ((tt, record { fits = are.1.0.1 }), tt)) $
     opened E (named 0) κ q a.0 ! tt (param_laws 0 T L) (λ bs os e bytes few.
     let small = one_fits h.capacity size at n bytes few within in let below = before_fits h.capacity size at n bytes few within in
-    use1 𝓛 (‵ (part_at E full_share x bs (off + os)) ⊛ ‵ (others (shares E) full_share h.items at bs os)) (row_out 𝓛 E h.items at x bs os within found.1) $ split ! $
-    -- [the value; the other values; ..; the block's cell; ..; the other token; the locals]
+    use1 𝓛 (‵ (part_at E full_share x bs (off + os)) ⊛ ‵ (others (place_parts E) full_share h.items at bs os)) (place_out 𝓛 E h.items at (Some x) bs os within found.is) $ split ! $
+    -- [the value; the other places; ..; the block's cell; ..; the other token; the locals]
     first ! $ blocks ! $
-    sets ! (of_opd ! (load ! (through ! refl (fld ! refl (stop !))) (look_in ! 5 (sub ! 0 refl (whole !))))) refl (tt, tt) $
+    sets ! (of_opd ! (load ! (through ! refl (fld ! refl (stop !))) (look_in ! 4 (sub ! 0 refl (whole !))))) refl (tt, tt) $
     sets ! (bin ! (get ! refl) (size_lit ! (record { fits = omega arith })) (record { fits = omega arith })) refl (tt, record { fits = omega arith }) $
     sets ! (bin ! (get ! refl) (get ! refl) tt) refl (tt, tt) $
     sets_last ! (addr ! (through ! refl (stop !))) refl (tt, tt) $
     exec ! 𝓣.C 𝓣.Λ (env F.locals l) (after 1 F.body) (at_ret _ (W.post y)) $
     sets ! (of_opd ! (get ! refl)) refl (tt, tt) $
-    move ! (6 ∷ 7 ∷ 8 ∷ 0 ∷ 1 ∷ 2 ∷ 3 ∷ 4 ∷ 5 ∷ []) $ group ! 9 $
-    use1 𝓛 (later (some (λ (γ' : _). ‵ ((MutRef (named 0) κ E).own_val (record { ref_ptr = (bs, off + os); ghost_name = γ'; now = x }) (vptr bs (off + os) ∷ [])) ⊛ ‵ (flft κ q) ⊛ ‵ (follows B E γ γ' (λ w. with_items h (set h.items at w))))))
-    (lends_Part 𝓛 B E (λ w. with_items h (set h.items at w)) (named 0) κ q b o bs (off + os) γ (⋆ 𝓛 (without_item 𝓤 E h at b o bs os)) (λ w. lent_back 𝓛 E h at w b o bs os e bytes few within) (B.coded.code h) (B.coded.code h) x) $ await ! tt $ pick ! (λ γ'. split3 ! $
+    move ! (5 ∷ 6 ∷ 7 ∷ 0 ∷ 1 ∷ 2 ∷ 3 ∷ 4 ∷ []) $ group ! 8 $
+    use1 𝓛 (later (some (λ (γ' : _). ‵ ((MutRef (named 0) κ E).own_val (record { ref_ptr = (bs, off + os); ghost_name = γ'; now = x }) (vptr bs (off + os) ∷ [])) ⊛ ‵ (flft κ q) ⊛ ‵ (follows B E γ γ' (λ w. with_items h (set h.items at (Some w)))))))
+    (lends_Part 𝓛 B E (λ w. with_items h (set h.items at (Some w))) (named 0) κ q b o bs (off + os) γ (⋆ 𝓛 (without_item 𝓤 E h at b o bs os)) (λ w. lent_back 𝓛 E h at w b o bs os e bytes few within) (B.coded.code h) (B.coded.code h) x) $ await ! tt $ pick ! (λ γ'. split3 ! $
     returns ! (look_at ! 0 refl) $ free_all ! refl $
     -- [the `&mut` to the value; the token of its lifetime; what the block ends as; the other token]
     suffices ! _ (ends_at 𝓛 ended stayed c y (vptr bs (off + os)) (record { ref_ptr = (bs, off + os); ghost_name = γ'; now = x }) (tt, (tt, tt)) (tt, (tt, tt))) $
-    nothing ! $ nothing ! $ fjoin ! $ nothing ! $ fjoin ! $ move ! (2 ∷ 4 ∷ 0 ∷ 1 ∷ 3 ∷ []) $ join ! $ group ! 3 $ frame ! $ says ! found.1 $ done !)))))
+    nothing ! $ nothing ! $ fjoin ! $ nothing ! $ fjoin ! $ move ! (2 ∷ 4 ∷ 0 ∷ 1 ∷ 3 ∷ []) $ join ! $ group ! 3 $ frame ! $ says ! found.is $ done !)))))
