@@ -41,7 +41,7 @@ pub(crate) fn is_live(
 ) -> bool
     ensures { result ≡ stays clock tickets.now entry.now }
 {
-    is_tracked(tickets, &entry.0) || outlives(&entry.1, clock)
+    outlives(&entry.1, clock) || is_tracked(tickets, &entry.0)
 }
 
 /// Drops the untracked records whose date the clock has reached.
@@ -79,7 +79,7 @@ pub(crate) fn find_live<'a>(
     ensures { option_copied result ≡ record_at key.now (filter (stays clock tickets.now) records.now) }
 {
     for entry in records {
-        if is_live(tickets, clock, entry) && is_same(key, &entry.0) {
+        if is_same(key, &entry.0) && is_live(tickets, clock, entry) {
             return Some(&entry.1);
         }
     }

@@ -78,6 +78,14 @@ pub(crate) fn free_slot(tickets: &[(Ticket, StickKey)], max_refs: u32) -> Option
     if tickets.len() >= max_refs as usize {
         return None;
     }
+    // Mostly the slot after the newest's is free, and then it is found in one pass.
+    let next = match tickets.last() {
+        Some(newest) => newest.0.slot.wrapping_add(1),
+        None => 0,
+    };
+    if next < max_refs && is_free(tickets, next) {
+        return Some(next);
+    }
     for slot in 0..max_refs {
         if is_free(tickets, slot) {
             return Some(slot);
