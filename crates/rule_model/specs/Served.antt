@@ -1,5 +1,5 @@
 -- What is served of a configuration.
-use Rattle.std.specs.Prelude.{ℕ, ◌^◌, ◌≤◌, ◌<◌, Bool, true, false, ◌&&◌, List, [], Option, Some, None, IfSome, All}
+use Rattle.std.specs.Prelude.{ℕ, ◌^◌, ◌≤◌, ◌<◌, Bool, true, false, ◌&&◌, ltb, List, [], Option, Some, None, IfSome, All}
 use Rattle.std.specs.List.{find, filter_map}
 use Rattle.std.specs.Option.{option_or, option_map, option_and_then}
 use Rattle.std.specs.Str.{bytes_eq}
@@ -72,3 +72,7 @@ setup_with sections shards (Some proxy) = record { tables = tables_of sections; 
 
 unfoldable pub setup_of : Config → ℕ → Setup
 setup_of config shards = setup_with config.sections shards (proxy_of config.sections)
+
+-- the first table that has fewer places than there are shards
+abbrev pub narrow_table_of : Setup → Option NamedSpec
+narrow_table_of setup = find (λ (named : NamedSpec). ltb named.spec.size setup.shards) setup.tables

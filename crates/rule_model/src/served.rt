@@ -1,12 +1,12 @@
 //! What is served of a configuration.
 
-ghost use Rattle.std.specs.Prelude.{◌≡◌, ◌≤◌, ◌-◌, ◌^◌, ◌∷◌, [], None, IfOk, is_some, length, min};
+ghost use Rattle.std.specs.Prelude.{◌≡◌, ◌≤◌, ◌-◌, ◌^◌, ◌∷◌, [], None, All, IfNone, IfOk, is_some, length, min};
 ghost use Rattle.std.specs.List.{count_by, sum_by};
 ghost use Rattle.std.specs.Option.{option_map, option_and_then};
 ghost use Rattle.table_model.specs.Limits.{IsTableSpec};
 ghost use Rattle.rule_model.specs.declared.sections.Section.{Section};
 ghost use Rattle.rule_model.specs.Served as spec;
-ghost use Rattle.rule_model.specs.Served.{AreTables, AreTableSpecs, backend_named, proxy_of, server_of, setup_of, spec_of, tables_of};
+ghost use Rattle.rule_model.specs.Served.{AreTables, AreTableSpecs, backend_named, narrow_table_of, proxy_of, server_of, setup_of, spec_of, tables_of};
 
 use crate::{Config, Name, NamedSpec, Rule, Section, SectionKind, Setup, TableSpec};
 use address_text::Endpoint;
@@ -158,6 +158,17 @@ impl Setup {
             server: None,
             shards: 1,
         })
+    }
+
+    /// The first table that has fewer places than there are shards. It can't be opened, since each shard has a place.
+    pub fn narrow_table(&self) -> Option<&NamedSpec>
+        ensures first { option_map (λ named. named.now) result ≡ narrow_table_of self.now }
+        ensures wide { IfNone result (All (λ named. self.now.shards ≤ named.spec.size) self.now.tables) }
+    {
+        self.tables
+            .as_slice()
+            .iter()
+            .find(|named| named.spec.size < self.shards)
     }
 }
 

@@ -1,7 +1,7 @@
 //! stickd: stick tables whose answers are proved.
 #![tactic(auto)]
 
-ghost use Rattle.std.specs.Prelude.{◌≡◌, ◌≤◌, All, IfNone, IfOk, IfSome};
+ghost use Rattle.std.specs.Prelude.{◌≡◌, ◌≤◌, IfOk, IfSome};
 ghost use Rattle.rule_model.specs.Served.{AreTables, AreTableSpecs};
 ghost use Rattle.world.specs.Tables.{CanOpen};
 
@@ -17,15 +17,22 @@ use std::rt::Files;
 use std::{fs, io, str};
 
 fn main(rt: HostRuntime) -> io::Result<ExitCode> {
-    let alloc = rt.alloc();
-    let words: Vec<String> = std::env::args(&rt)?.collect(alloc)?;
-    match read_command_line(alloc, words.as_slice()) {
+    let Ok(words) = collect_words(&rt) else {
+        eprintln!(rt; "stickd: out of memory")?;
+        return Ok(ExitCode::FAILURE);
+    };
+    match read_command_line(rt.alloc(), words.as_slice()) {
         Ok(matches) => run(&rt, &matches),
         Err(error) => {
             error.print(&rt)?;
             Ok(ExitCode::from(error.exit_code() as u8))
         }
     }
+}
+
+/// The words of the command line.
+fn collect_words(rt: &HostRuntime) -> io::Result<Vec<String>> {
+    Ok(std::env::args(rt)?.collect(rt.alloc())?)
 }
 
 /// What the program can be asked.
@@ -145,18 +152,6 @@ fn setup_of(alloc: Global, config: &Config, shards: u32) -> Result<Setup, NoMemo
     config.proxy(alloc, shards)
 }
 
-/// The first table that has fewer places than shards.
-fn find_narrow(tables: &[NamedSpec], shards: u32) -> Option<&NamedSpec>
-    ensures { IfNone result (All (λ named. shards ≤ named.spec.size) tables.now) }
-{
-    for named in tables {
-        if named.spec.size < shards {
-            return Some(named);
-        }
-    }
-    None
-}
-
 /// Says that a table has fewer places than shards.
 fn report_narrow<R: Eprint>(rt: &R, named: &NamedSpec) -> io::Result<()> {
     match str::from_utf8(named.name.as_slice()) {
@@ -187,7 +182,7 @@ fn open_setup<R: Files + Eprint + AllocGlobal>(
         eprintln!(rt; "stickd: out of memory")?;
         return Ok(None);
     };
-    if let Some(narrow) = find_narrow(setup.tables.as_slice(), shards) {
+    if let Some(narrow) = setup.narrow_table() {
         report_narrow(rt, narrow)?;
         return Ok(None);
     }
