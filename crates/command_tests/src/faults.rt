@@ -2,9 +2,9 @@
 
 use crate::session::{Devices, Session, serve, sound};
 use crate::written::{Answered, Joined, is_wanted, join};
-use shard_cli::{CliFault, CliFaultKind};
 use std::alloc::{AllocError, Global};
 use std::test::Fail;
+use table_cli::{CliFault, CliFaultKind};
 
 /// A session with answers of every kind, a command a line.
 static SESSION: [Answered; 8] = [

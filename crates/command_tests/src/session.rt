@@ -7,11 +7,11 @@ ghost use Rattle.table_model.specs.Limits.{IsTableSpec};
 use byte_ports::{MemorySink, MemorySource};
 use sequence::Sequence;
 use shard_book::{Books, Keeper};
-use shard_cli::{CliFault, CommandService, Named, StoppedClock};
 use std::alloc::{AllocError, Global};
 use stick_key::{KeyType, StickKey, read_key, shard_of};
 use stick_table::{Event, PlainTable, Reply, Spec};
 use stored_data::{Column, Datum, StoredSet};
+use table_cli::{CliFault, CommandService, Named, StoppedClock};
 
 /// Tables in shards, by name.
 type Tables = Vec<Named<Books<PlainTable>>>;

@@ -2,8 +2,8 @@
 use Rattle.std.proofs.Common.{◌≡◌, ℕ, ap, subst, ◌∙◌, List, [], ◌∷◌}
 use Rattle.line_text.specs.Chain.{Chain, StopsIn}
 use Rattle.shard_book.specs.BooksState.{BooksState}
-use Rattle.shard_cli.specs.Answers.{Answers, AnswersLine, commands_of}
-use Rattle.shard_cli.specs.Tables.{CommandState}
+use Rattle.table_cli.specs.Answers.{Answers, AnswersLine, commands_of}
+use Rattle.table_cli.specs.Tables.{CommandState}
 use Rattle.world.specs.Tables.{TableState}
 use Rattle.script.specs.Script.{answering, at_moment, refusing, standing}
 

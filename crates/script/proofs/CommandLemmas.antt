@@ -18,9 +18,9 @@ use Rattle.shard_book.specs.BooksState.{BooksState, ExtendsAt}
 use Rattle.command_text.specs.Form.{Form, Request, Nothing, Unknown, Tables, Of, form_of}
 use Rattle.command_text.specs.Seen.{words_of}
 use Rattle.command_text.specs.declared.message.Message.{Message}
-use Rattle.shard_cli.specs.Answers.{Answers, AsksOf, Does, HeadAt, Says as SaysForm, ShowsTables, place_of}
-use Rattle.shard_cli.specs.Shards.{AsksInTurn, shards_of}
-use Rattle.shard_cli.specs.Tables.{CommandState}
+use Rattle.table_cli.specs.Answers.{Answers, AsksOf, Does, HeadAt, Says as SaysForm, ShowsTables, place_of}
+use Rattle.table_cli.specs.Shards.{AsksInTurn, shards_of}
+use Rattle.table_cli.specs.Tables.{CommandState}
 use Rattle.world.specs.Balance.{times_of, times_out}
 use Rattle.world.specs.Tables.{TableState, shard_of}
 use Rattle.world.specs.declared.reference.Reference.{Reference}

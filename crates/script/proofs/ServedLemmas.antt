@@ -21,7 +21,7 @@ use Rattle.admit_core.specs.declared.conn.Conn.{Conn}
 use Rattle.admit_core.specs.declared.need.Need.TheVariants.{Rest}
 use Rattle.admit_core.specs.declared.need.Phase.TheVariants.{Admitted, Ended}
 use Rattle.shard_book.specs.BooksState.{AreBooks}
-use Rattle.shard_cli.specs.Answers.{commands_of}
+use Rattle.table_cli.specs.Answers.{commands_of}
 use Rattle.world.specs.Balance.{IsCovered, times_by, times_out}
 use Rattle.world.specs.Lived.{IsLived}
 use Rattle.world.specs.Moves.{Settles}

@@ -18,9 +18,9 @@ use Rattle.admit_core.specs.Connection.{Connection, arrived, closed}
 use Rattle.admit_core.specs.declared.conn.Conn.{Conn}
 use Rattle.admit_core.specs.declared.need.Phase.{Phase}
 use Rattle.admit_core.specs.declared.need.Phase.TheVariants.{Admitted, Rejected}
-use Rattle.shard_cli.specs.Answers.{Answers, AnswersLine, commands_of}
-use Rattle.shard_cli.specs.Shards.{Answering, Refusing}
-use Rattle.shard_cli.specs.Tables.{CommandState, Showing}
+use Rattle.table_cli.specs.Answers.{Answers, AnswersLine, commands_of}
+use Rattle.table_cli.specs.Shards.{Answering, Refusing}
+use Rattle.table_cli.specs.Tables.{CommandState, Showing}
 use Rattle.world.specs.Moves.{Settles}
 use Rattle.world.specs.Tables.{TableState}
 use Rattle.world.specs.declared.reference.Reference.{Reference}

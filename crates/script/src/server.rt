@@ -16,9 +16,9 @@ use line_service::LineServer;
 use rule_eval::Samples;
 use rule_model::Setup;
 use shard_book::Books;
-use shard_cli::{Named, StoppedClock, answer};
 use std::alloc::Global;
 use stick_table::Table;
+use table_cli::{Named, StoppedClock, answer};
 use world::settle;
 
 /// What is served, the tables that a script's lines work on, and the connections that are open.

@@ -6,7 +6,7 @@ use std::marker::Model;
 
 /// A text of at most 32 bytes, kept on the stack. Contracts see its bytes.
 #[derive(Drop)]
-pub struct ShortText {
+pub(crate) struct ShortText {
     bytes: [u8; 32],
     len: usize,
 }
@@ -23,7 +23,7 @@ impl Model for ShortText {
 
 impl ShortText {
     /// The empty text.
-    pub fn new() -> ShortText
+    pub(crate) fn new() -> ShortText
         ensures { result ≡ [] }
     {
         ShortText {
@@ -33,7 +33,7 @@ impl ShortText {
     }
 
     /// The text of these bytes.
-    pub fn of(bytes: &[u8]) -> ShortText
+    pub(crate) fn of(bytes: &[u8]) -> ShortText
         requires { length bytes.now ≤ 32 }
         ensures { result ≡ bytes.now }
     {
@@ -43,7 +43,7 @@ impl ShortText {
     }
 
     /// Adds bytes at the end.
-    pub fn push(&mut self, bytes: &[u8])
+    pub(crate) fn push(&mut self, bytes: &[u8])
         requires { length self.old + length bytes.now ≤ 32 }
         ensures { self.new ≡ self.old ++ bytes.now }
     {
@@ -53,7 +53,7 @@ impl ShortText {
     }
 
     /// Adds the decimal text of a number, without leading zeros.
-    pub fn push_decimal(&mut self, number: u32)
+    pub(crate) fn push_decimal(&mut self, number: u32)
         requires { length self.old + length (decimal number) ≤ 32 }
         ensures { self.new ≡ self.old ++ decimal number }
     {
@@ -66,7 +66,7 @@ impl ShortText {
     }
 
     /// The bytes.
-    pub fn as_slice(&self) -> &[u8]
+    pub(crate) fn as_slice(&self) -> &[u8]
         ensures { result.now ≡ self.now }
     {
         &self.bytes[..self.len]

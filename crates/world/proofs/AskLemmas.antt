@@ -11,8 +11,8 @@ use Rattle.table_model.specs.declared.replies.Refusal.{Refusal}
 use Rattle.table_model.specs.declared.replies.Reply.{Reply}
 use Rattle.shard_book.specs.BookState.{BookState}
 use Rattle.shard_book.specs.BooksState.{BooksState, ExtendsAt, IsOutAt, IsRefusedAt, LivesAt, live_states}
-use Rattle.shard_cli.specs.Tables.{state_of}
-use Rattle.shard_cli.specs.declared.named.Named.{Named}
+use Rattle.table_cli.specs.Tables.{state_of}
+use Rattle.table_cli.specs.declared.named.Named.{Named}
 use Rattle.world.specs.Calls.{AnswersAt, IsOutNow, connections_seat}
 use Rattle.world.specs.Tables.{HasShard, TableState, shard_at, shard_of, table_states}
 use Rattle.world.specs.declared.call.Call.{Call}

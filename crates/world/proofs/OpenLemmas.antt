@@ -6,7 +6,7 @@ use Rattle.rule_model.specs.declared.sections.NamedSpec.{NamedSpec}
 use Rattle.shard_book.specs.BookState.{opened}
 use Rattle.shard_book.specs.BooksState.{BooksState, opened_books}
 use Rattle.shard_book.specs.Keeping.{part_of}
-use Rattle.shard_cli.specs.declared.named.Named.{Named}
+use Rattle.table_cli.specs.declared.named.Named.{Named}
 use Rattle.world.specs.Tables.{empty_table_of, table_states}
 use Rattle.world.proofs.AskLemmas.{seen}
 

@@ -3,7 +3,7 @@ use Rattle.std.proofs.Common.{◌≡◌, ℕ, zero, suc, ◌<◌, refl, sym, ap,
 use Rattle.std.proofs.lemmas.Option.{slice_get-get_or}
 use Rattle.rule_model.specs.declared.sections.Setup.{Setup}
 use Rattle.shard_book.specs.BooksState.{BooksState}
-use Rattle.shard_cli.specs.declared.named.Named.{Named}
+use Rattle.table_cli.specs.declared.named.Named.{Named}
 use Rattle.admit_core.specs.Conn.{judged_by, progress_of, Stands}
 use Rattle.admit_core.specs.Connection.{Connection, Progress}
 use Rattle.admit_core.specs.declared.conn.Conn.{Conn}

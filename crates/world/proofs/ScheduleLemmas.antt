@@ -4,7 +4,7 @@ use Rattle.std.proofs.lemmas.List.Elements.{All-push}
 use Rattle.std.proofs.lemmas.Option.{slice_get-get_or}
 use Rattle.rule_model.specs.declared.sections.Setup.{Setup}
 use Rattle.shard_book.specs.BooksState.{BooksState}
-use Rattle.shard_cli.specs.declared.named.Named.{Named}
+use Rattle.table_cli.specs.declared.named.Named.{Named}
 use Rattle.admit_core.specs.Conn.{progress_of, Stands}
 use Rattle.admit_core.specs.Connection.{Connection, arrived}
 use Rattle.world.specs.Tables.{CanOpen, HasShard, TableState, empty_tables, table_states}

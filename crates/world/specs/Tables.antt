@@ -7,8 +7,8 @@ use Rattle.rule_model.specs.declared.sections.NamedSpec.{NamedSpec}
 use Rattle.rule_model.specs.declared.sections.Setup.{Setup}
 use Rattle.shard_book.specs.BookState.{BookState}
 use Rattle.shard_book.specs.BooksState.{AreBooks, BooksState, opened_books}
-use Rattle.shard_cli.specs.Tables.{NamedState, states_of}
-use Rattle.shard_cli.specs.declared.named.Named.{Named}
+use Rattle.table_cli.specs.Tables.{NamedState, states_of}
+use Rattle.table_cli.specs.declared.named.Named.{Named}
 
 -- a table's name, what it was made with, and the books of its shards
 abbrev pub TableState : Type 0

@@ -2,7 +2,7 @@
 use Rattle.std.specs.Prelude.{◌≡◌, ℕ, List, [], ◌∷◌, length}
 use Rattle.rule_model.specs.declared.sections.Setup.{Setup}
 use Rattle.shard_book.specs.BooksState.{BooksState}
-use Rattle.shard_cli.specs.declared.named.Named.{Named}
+use Rattle.table_cli.specs.declared.named.Named.{Named}
 use Rattle.admit_core.specs.Conn.{Stands}
 use Rattle.admit_core.specs.Connection.{Connection}
 use Rattle.world.specs.Tables.{CanOpen, table_states}

@@ -20,10 +20,10 @@ use crate::call::Call;
 use admit_core::{Conn, Need};
 use rule_eval::Answer;
 use shard_book::Books;
-use shard_cli::Named;
 use std::alloc::Global;
 use stick_key::shard_of;
 use stick_table::{Event, Refusal, Reply, Table};
+use table_cli::Named;
 
 /// The seat for which connections are recorded. That of commands is 0.
 const CONNECTIONS: u32 = 1;

@@ -6,9 +6,9 @@ ghost use Rattle.world.specs.Tables.{AreTablesOf, CanOpen, empty_tables, table_s
 use rule_model::Setup;
 use sequence::NoMemory;
 use shard_book::Books;
-use shard_cli::Named;
 use std::alloc::Global;
 use stick_table::Table;
+use table_cli::Named;
 
 /// The tables of a setup, in order of declaration, each in the setup's number of empty shards.
 pub fn open_tables<T: Table>(alloc: Global, setup: &Setup) -> Result<Vec<Named<Books<T>>>, NoMemory>

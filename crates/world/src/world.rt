@@ -18,9 +18,9 @@ use admit_core::{Conn, Phase};
 use rule_model::{Setup, Slot};
 use sequence::NoMemory;
 use shard_book::{Book, Books};
-use shard_cli::Named;
 use std::alloc::Global;
 use stick_table::Table;
+use table_cli::Named;
 
 /// Connections that share the tables of a setup, on one thread: each goes on by one event or one change of phase, in any
 /// order.

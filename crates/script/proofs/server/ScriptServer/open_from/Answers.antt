@@ -3,7 +3,7 @@ use Rattle.std.proofs.lemmas.Grind.{common_steps}
 use Rattle.admit_core.specs.Connection.{Connection, arrived}
 use Rattle.rule_model.specs.declared.sections.Setup.{Setup}
 use Rattle.shard_book.specs.BooksState.{BooksState}
-use Rattle.shard_cli.specs.declared.named.Named.{Named}
+use Rattle.table_cli.specs.declared.named.Named.{Named}
 use Rattle.world.specs.Moves.{Settles}
 use Rattle.world.specs.Tables.{AreTablesOf, table_states}
 use Rattle.world.specs.declared.reference.Reference.{Reference}

@@ -1,5 +1,0 @@
-use Rattle.byte_ports.proofs.Pieces.{in_front}
-use Rattle.shard_cli.proofs.service.CommandService.serve_long.Goals as goal
-
-pub returns-in-Err-clause-part : goal.returns-in-Err-clause-part
-returns-in-Err-clause-part g c = in_front _ _ _ _ _ _ c.bytes.ensures c.in-Err.ensures.front

@@ -1,0 +1,82 @@
+use Rattle.std.proofs.Common.{◌<◌, ◌^◌, ◌++◌, [], ◌∷◌, Some, None, append-nil, refl, sym, ◌∙◌, ap, subst, rules, arith}
+use Rattle.table_model.specs.declared.events.Event.{Event}
+use Rattle.shard_book.specs.Keeping.{IsAnswer}
+use Rattle.table_cli.specs.Shards.{Ends}
+use Rattle.command_text.specs.declared.message.Message.TheVariants.{OutOfMemory}
+use Rattle.table_cli.proofs.ShardLemmas.{counted, counted-more, later, ends_all, ends_here, ends_in_memory, goes_more, range-more, range-none, so_far_of, so_far-more, so_far-none, so_far-total}
+use Rattle.table_cli.proofs.shards.ask_all.Goals as goal
+
+pub returns-in-Err-clause-asks : goal.returns-in-Err-clause-asks
+returns-in-Err-clause-asks g c =
+    let K = g.K.Keeper in
+    let asked = c.loop-shard.invariant.asked in
+    (asked.0 ++ [], Some OutOfMemory, asked.2 [] (Some OutOfMemory) _ (ends_in_memory K.answers K.refuses c.args.event.now _ _), refl)
+
+pub returns-in-Err-ask_shard-clause-asks : goal.returns-in-Err-ask_shard-clause-asks
+returns-in-Err-ask_shard-clause-asks g c =
+    let K = g.K.Keeper in
+    let here = c.loop-shard.invariant in
+    let failed = c.in-Err-ask_shard.ensures in
+    let below : c.loop-shard.shard < K.parts c.args.keeper.now = omega (arith, here.end, c.loop-shard-test.true) in
+    let ends = subst (λ (event : Event). Ends K.refuses (K.state c.loop-shard.keeper) c.loop-shard.shard event c.in-Err-ask_shard.message) c.in-Ok.ensures failed.ends in (
+      here.asked.0 ++ [],
+      Some c.in-Err-ask_shard.message,
+      rw failed.err (here.asked.2 [] _ _ (ends_here K.answers K.refuses c.args.event.now _ _ _ c.loop-shard.shard _ (range-more _ _ below) ends)),
+      refl,
+    )
+
+pub added-requires-clause-reply : goal.added-requires-clause-reply
+added-requires-clause-reply g c =
+    later (2 ^ 30) (2 ^ 62) _ (omega arith) (counted c.args.event.now _ c.requires.asked (subst (λ (event : Event). IsAnswer event c.in-Ok-ask_shard.reply) c.in-Ok.ensures c.in-Ok-ask_shard.ensures.answer))
+
+pub returns-in-Err-added-clause-asks : goal.returns-in-Err-added-clause-asks
+returns-in-Err-added-clause-asks g c =
+    let K = g.K.Keeper in
+    let here = c.loop-shard.invariant in
+    let below : c.loop-shard.shard < K.parts c.args.keeper.now = omega (arith, here.end, c.loop-shard-test.true) in
+    let answered = subst (λ (event : Event). K.answers (K.state c.loop-shard.keeper) c.loop-shard.shard event c.in-Ok-ask_shard.reply (K.state c.ask_shard.new.keeper)) c.in-Ok.ensures c.in-Ok-ask_shard.ensures.ok in
+    let more = goes_more K.answers K.refuses c.args.event.now _ _ _ _ _ _ c.loop-shard.shard here.asked.0 c.in-Ok-ask_shard.reply (range-more _ _ below) here.asked.2 answered in
+    (_, Some OutOfMemory, more [] (Some OutOfMemory) _ (ends_in_memory K.answers K.refuses c.args.event.now _ _), ap Some (sym c.in-Err-added.ensures.memory))
+
+pub loop-shard-preserved : goal.loop-shard-preserved
+loop-shard-preserved g c =
+    let K = g.K.Keeper in
+    let here = c.loop-shard.invariant in
+    let below : c.loop-shard.shard < K.parts c.args.keeper.now = omega (arith, here.end, c.loop-shard-test.true) in
+    let now = c.in-Ok-ask_shard.ensures in
+    let answered = subst (λ (event : Event). K.answers (K.state c.loop-shard.keeper) c.loop-shard.shard event c.in-Ok-ask_shard.reply (K.state c.ask_shard.new.keeper)) c.in-Ok.ensures now.ok in
+    let told = subst (λ (event : Event). IsAnswer event c.in-Ok-ask_shard.reply) c.in-Ok.ensures now.answer in
+    record {
+      asked = (
+        here.asked.0 ++ c.in-Ok-ask_shard.reply ∷ [],
+        so_far-more here.asked.0 c.loop-shard.so_far c.in-Ok-ask_shard.reply c.in-Ok-added.all here.asked.1 c.in-Ok-added.ensures.added,
+        goes_more K.answers K.refuses c.args.event.now _ _ _ _ _ _ c.loop-shard.shard here.asked.0 c.in-Ok-ask_shard.reply (range-more _ _ below) here.asked.2 answered,
+      );
+      counted = rw c.in-Ok-added.ensures.added (counted-more c.loop-shard.shard c.loop-shard.so_far _ here.counted (counted c.args.event.now _ c.requires.asked told));
+      table = search rules;
+      parts = search rules;
+      end = here.end;
+      few = here.few;
+    }
+
+pub returns-in-Some-clause-asks : goal.returns-in-Some-clause-asks
+returns-in-Some-clause-asks g c =
+    let K = g.K.Keeper in
+    let here = c.loop-shard.invariant in
+    let replies = here.asked.0 in (
+      replies ++ [],
+      None,
+      here.asked.2 [] None _ (ends_all K.answers K.refuses c.args.event.now _ _ (range-none _ _ (omega (arith, here.end, c.loop-shard-test.false)))),
+      (refl, so_far-total _ _ (ap so_far_of (append-nil replies) ∙ here.asked.1 ∙ c.in-Some.is)),
+    )
+
+pub returns-in-None-clause-asks : goal.returns-in-None-clause-asks
+returns-in-None-clause-asks g c =
+    let K = g.K.Keeper in
+    let here = c.loop-shard.invariant in
+    let replies = here.asked.0 in (
+      replies ++ [],
+      None,
+      here.asked.2 [] None _ (ends_all K.answers K.refuses c.args.event.now _ _ (range-none _ _ (omega (arith, here.end, c.loop-shard-test.false)))),
+      (refl, sym (so_far-none _ (ap so_far_of (append-nil replies) ∙ here.asked.1 ∙ c.in-None.is))),
+    )

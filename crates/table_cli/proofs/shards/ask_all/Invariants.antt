@@ -1,0 +1,21 @@
+use Rattle.std.proofs.Common.{◌≡◌, ◌≤◌, ◌-◌, ◌*◌, ◌^◌, List, IfSome}
+use Rattle.std.specs.List.{range_with_len}
+use Rattle.table_model.specs.declared.replies.Reply.{Reply}
+use Rattle.table_cli.specs.Counted.{IsCounted}
+use Rattle.table_cli.proofs.ShardLemmas.{GoesOn, so_far_of}
+use Rattle.table_cli.proofs.shards.ask_all.Given as goal
+
+-- the shards so far are asked, and what the others answer is what all answer
+abbrev pub invariant-loop-shard : goal.invariant-loop-shard
+invariant-loop-shard g l =
+    let K = g.K.Keeper in
+    let shards = K.parts l.fn.keeper in
+    record {
+      asked : (replies : List Reply) × (so_far_of replies ≡ l.so_far)
+          × GoesOn K.answers K.refuses l.event (range_with_len 0 shards) (K.state l.fn.keeper) (range_with_len l.shard (shards - l.shard)) (K.state l.keeper) replies;
+      counted : IfSome l.so_far (IsCounted (l.shard * 2 ^ 30));
+      table : K.table l.keeper ≡ K.table l.fn.keeper;
+      parts : K.parts l.keeper ≡ shards;
+      end : l.shard-end ≡ shards;
+      few : shards ≤ 64;
+    }

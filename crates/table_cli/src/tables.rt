@@ -1,0 +1,81 @@
+//! The headers of all tables, `show table` alone.
+
+ghost use Rattle.std.specs.Prelude.{◌≡◌, ◌<◌, ◌^◌, ◌++◌, List, Option, Some, None, MatchResult};
+ghost use Rattle.std.specs.List.{range_with_len};
+ghost use Rattle.table_text.specs.Text.{header_text};
+ghost use Rattle.table_model.specs.declared.events.Event.TheVariants.{List as ListRows};
+ghost use Rattle.table_model.specs.declared.filters.Filter.TheVariants as filters;
+ghost use Rattle.table_model.specs.declared.replies.Reply.{Reply as ItsReply};
+ghost use Rattle.table_cli.specs.Answers.{ShowsTables, used_of as specified_used};
+ghost use Rattle.table_cli.specs.Shards.{AsksInTurn, total};
+ghost use Rattle.table_cli.specs.Tables.{states_of};
+ghost use Rattle.command_text.specs.Bytes.{bytes_of};
+ghost use Rattle.command_text.specs.declared.message.Message.{Message as ItsMessage};
+
+use crate::Named;
+use crate::shards::ask;
+use command_text::{Answer, Message};
+use shard_book::Keeper;
+use std::alloc::Global;
+use table_model::{Event, Filter, Reply};
+use table_text::push_header;
+
+/// How many entries a listing tells.
+fn used_of(reply: &Reply) -> u64
+    ensures { result ≡ specified_used reply.now }
+{
+    match reply {
+        Reply::Rows { used, .. } => *used,
+        _ => 0,
+    }
+}
+
+/// Asks all shards of a table how many entries they have, and appends its header.
+fn push_head<K: Keeper>(
+    named: &mut Named<K>,
+    moment: u64,
+    text: &mut Vec<u8>,
+) -> Result<(), Message>
+    requires { moment < 2 ^ 62 }
+    ensures name { named.new.name ≡ named.old.name }
+    ensures table { K.table named.new.keeper ≡ K.table named.old.keeper }
+    ensures parts { K.parts named.new.keeper ≡ K.parts named.old.keeper }
+    ensures asks { (replies : List ItsReply) × (end : Option ItsMessage)
+        × AsksInTurn K.answers K.refuses (ListRows moment filters.Nothing) (range_with_len 0 (K.parts named.old.keeper)) (K.state named.old.keeper) replies end (K.state named.new.keeper)
+        × MatchResult result (λ _. (end ≡ None) × (text.new.items ≡ text.old.items ++ header_text named.old.name (K.table named.old.keeper).kind (K.table named.old.keeper).size (specified_used (total replies))))
+        (λ message. end ≡ Some message) }
+{
+    let used = match ask(&mut named.keeper, Event::List(moment, Filter::Nothing)) {
+        Ok(reply) => used_of(&reply),
+        Err(message) => return Err(message),
+    };
+    let spec = named.keeper.spec();
+    match push_header(
+        text,
+        named.name.as_slice(),
+        spec.kind,
+        u64::from(spec.size),
+        used,
+    ) {
+        Ok(()) => Ok(()),
+        Err(_) => Err(Message::OutOfMemory),
+    }
+}
+
+/// The headers of all tables. Where a table ends it, those behind it aren't asked.
+pub(crate) fn show_tables<K: Keeper>(alloc: Global, tables: &mut [Named<K>], moment: u64) -> Answer
+    requires { moment < 2 ^ 62 }
+    ensures { ShowsTables K.answers K.refuses moment (states_of K.table K.parts K.state tables.old) (bytes_of result) (states_of K.table K.parts K.state tables.new) }
+{
+    let mut text = Vec::new(alloc);
+    for place in 0..tables.len() {
+        match push_head(&mut tables[place], moment, &mut text) {
+            Ok(()) => {}
+            Err(message) => return Answer::Message(message),
+        }
+    }
+    match text.extend_from_slice(b"\n") {
+        Ok(()) => Answer::Listing(text),
+        Err(_) => Answer::Message(Message::OutOfMemory),
+    }
+}
