@@ -2,7 +2,7 @@
 //! each. What the scripts are answered was written by hand, by the manual's words on what the rules use.
 #![tactic(auto)]
 
-ghost use Rattle.std.specs.Prelude.{◌≡◌, ◌≤◌, All, IfNone, IfOk};
+ghost use Rattle.std.specs.Prelude.{◌≡◌, IfOk};
 ghost use Rattle.rule_model.specs.Served.{AreTables, AreTableSpecs};
 
 #[cfg(test)]
@@ -16,7 +16,7 @@ mod rows;
 
 use byte_ports::{MemorySource, StreamSink};
 use rule_config::read_config;
-use rule_model::{Config, NamedSpec, Setup};
+use rule_model::{Config, Setup};
 use script::replay_script;
 use sequence::NoMemory;
 use std::alloc::Global;
@@ -33,18 +33,6 @@ fn setup_of(alloc: Global, config: &Config) -> Result<Setup, NoMemory>
     config.proxy(alloc, 1)
 }
 
-/// The first table that has fewer places than shards.
-fn find_narrow(tables: &[NamedSpec], shards: u32) -> Option<&NamedSpec>
-    ensures { IfNone result (All (λ named. shards ≤ named.spec.size) tables.now) }
-{
-    for named in tables {
-        if named.spec.size < shards {
-            return Some(named);
-        }
-    }
-    None
-}
-
 /// Replays a script on the tables and by the rules of a configuration, and prints what it is answered.
 fn replay<R: Files + Print + AllocGlobal>(rt: &R, config: &Config, path: &str) -> io::Result<()>
     requires { AreTables config.now.sections }
@@ -53,7 +41,7 @@ fn replay<R: Files + Print + AllocGlobal>(rt: &R, config: &Config, path: &str) -
     let Ok(setup) = setup_of(rt.alloc(), config) else {
         return println!(rt; "out of memory");
     };
-    if find_narrow(setup.tables.as_slice(), 1).is_some() {
+    if setup.narrow_table().is_some() {
         return println!(rt; "a table has no place");
     }
     let mut reader = MemorySource::new(script.as_slice(), 100, None);

@@ -5,8 +5,8 @@ ghost use Rattle.table_model.specs.Limits.{IsTableEvent};
 ghost use Rattle.table_model.specs.declared.rows.Cell.{Cell};
 
 use crate::answers::KEYS;
-use crate::random::Random;
 use crate::reckoning::{Limits, Reckoning};
+use random_numbers::Random;
 use sequence::Sequence;
 use std::alloc::{AllocError, Global};
 use stick_key::{KeyType, Sample, StickKey, convert};

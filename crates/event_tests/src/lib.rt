@@ -6,8 +6,6 @@ mod answers;
 #[cfg(test)]
 mod draws;
 #[cfg(test)]
-mod random;
-#[cfg(test)]
 mod reckoning;
 #[cfg(test)]
 mod stored;

@@ -4,8 +4,8 @@ ghost use Rattle.stored_data.specs.Data.{is_rate};
 ghost use Rattle.stored_data.specs.Stored.{IsPeriod};
 
 use crate::draws;
-use crate::random::Random;
 use crate::reckoning::{Limits, Reckoning};
+use random_numbers::Random;
 use std::alloc::{AllocError, Global};
 use std::test::Fail;
 use stick_key::KeyType;

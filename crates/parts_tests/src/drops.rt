@@ -1,8 +1,8 @@
 //! Each value that is given to a pool is dropped once: by who gets it back, or at the end of the pool.
 ghost use Rattle.std.specs.Prelude.{◌≤◌, ◌<◌};
 
-use crate::random::Random;
 use entry_pool::{Handle, Pool};
+use random_numbers::Random;
 use std::alloc::{AllocError, Global};
 use std::cell::Cell;
 use std::rc::Rc;
@@ -86,7 +86,7 @@ impl Watched {
 
 #[test]
 fn each_value_is_dropped_once(rt: HostRuntime) -> Result<(), Fail> {
-    let mut random = Random { state: 4 };
+    let mut random = Random::new(4);
     let mut watched = Watched::new(rt.alloc(), 20)?;
     for _turn in 0..1000 {
         watched.insert(rt.alloc())?;

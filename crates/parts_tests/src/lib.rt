@@ -5,8 +5,6 @@
 #[cfg(test)]
 mod drops;
 #[cfg(test)]
-mod random;
-#[cfg(test)]
 mod random_index;
 #[cfg(test)]
 mod random_order;

@@ -1,8 +1,8 @@
 //! An index beside a plain map from keys to handles, over random calls.
 ghost use Rattle.std.specs.Prelude.{◌≡◌, ◌<◌, map, is_some, vec_len};
 
-use crate::random::Random;
 use key_index::{Handle, Index};
+use random_numbers::Random;
 use std::alloc::{AllocError, Global};
 use std::collections::BTreeMap;
 use std::test::Fail;
@@ -84,7 +84,7 @@ impl Compared {
 
 #[test]
 fn an_index_is_a_plain_map(rt: HostRuntime) -> Result<(), Fail> {
-    let mut random = Random { state: 2 };
+    let mut random = Random::new(2);
     let mut compared = Compared::new(rt.alloc())?;
     for call in 0..CALLS {
         let slot = random.below(SLOTS);

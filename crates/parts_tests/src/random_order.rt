@@ -1,8 +1,8 @@
 //! An order beside a plain list, over random calls.
 ghost use Rattle.std.specs.Prelude.{◌≡◌, ◌<◌};
 
-use crate::random::Random;
 use expiry_order::Order;
+use random_numbers::Random;
 use std::alloc::{AllocError, Global};
 use std::test::Fail;
 
@@ -49,7 +49,7 @@ impl Compared {
 
 #[test]
 fn an_order_is_a_plain_list(rt: HostRuntime) -> Result<(), Fail> {
-    let mut random = Random { state: 3 };
+    let mut random = Random::new(3);
     let mut compared = Compared {
         order: Order::new(rt.alloc(), SLOTS)?,
         slots: Vec::new(rt.alloc()),

@@ -1,8 +1,8 @@
 //! A pool beside a plain list of what its slots hold, over random calls.
 ghost use Rattle.std.specs.Prelude.{◌≤◌};
 
-use crate::random::Random;
 use entry_pool::{Handle, Pool};
+use random_numbers::Random;
 use std::test::Fail;
 
 const SLOTS: u32 = 40;
@@ -140,7 +140,7 @@ impl Compared {
 
 #[test]
 fn a_pool_is_a_plain_list(rt: HostRuntime) -> Result<(), Fail> {
-    let mut random = Random { state: 1 };
+    let mut random = Random::new(1);
     let mut compared = Compared {
         pool: Pool::new(rt.alloc(), SLOTS)?,
         generation: 0,

@@ -4,47 +4,14 @@
 ghost use Rattle.std.specs.Prelude.{◌≡◌, ◌≤◌, ◌<◌, ◌^◌, length};
 ghost use Rattle.world.specs.WorldCode.{IsReached};
 
-use crate::random::Random;
+use crate::counts::{admitted, element, held, out, visit};
 use crate::setups::limiting;
-use address_text::Address;
 use admit_core::Phase;
-use rule_eval::Samples;
+use random_numbers::Random;
 use rule_model::Slot;
 use std::alloc::Global;
-use stick_table::{Event, Filter, PlainTable, Reply, Table};
-use world::{Visit, World};
-
-/// A connection of 100 bytes in and 200 out, from 10.0.0.HOST.
-fn visit(host: u8) -> Visit {
-    Visit {
-        samples: Samples {
-            src: Address::V4([10, 0, 0, host]),
-            src_port: 5000,
-            dst_port: 0,
-        },
-        bytes_in: 100,
-        bytes_out: 200,
-    }
-}
-
-/// How many references a shard has out, as its table lists them.
-fn out(alloc: Global, world: &World<'_, PlainTable>, shard: u32) -> Option<u32>
-    requires table { length world.now.setup.now.tables ≡ 1 }
-    requires shard { shard < world.now.setup.now.shards }
-    requires reached { IsReached world.now.setup.now world.now.tables.items world.now.guests.items }
-{
-    let Ok(mut copy) = world.book(0, shard).live().to_plain() else {
-        return None;
-    };
-    match copy.step(&Event::List(0, Filter::Everything)) {
-        Ok(Reply::Rows { rows, .. }) => Some(
-            rows.as_slice()
-                .iter()
-                .fold(0u32, |sum, row| sum.saturating_add(row.refs)),
-        ),
-        _ => None,
-    }
-}
+use stick_table::PlainTable;
+use world::World;
 
 fn is_ended(world: &World<'_, PlainTable>, number: u32) -> bool
     requires { number < length world.now.guests.items }
@@ -82,25 +49,6 @@ fn two_judged_at_once_are_both_refused(rt: HostRuntime) {
 
 // ---- in random order
 
-/// An element of a schedule: one of four connections, and a moment.
-fn element(random: &mut Random) -> (u32, u64)
-    ensures number { result.0 < 4 }
-    ensures moment { result.1 < 2 ^ 62 }
-{
-    let number = random.below(4);
-    (number, u64::from(random.below(1000)))
-}
-
-/// Whether a connection holds a reference of a shard.
-fn holds(world: &World<'_, PlainTable>, number: u32, shard: u32) -> bool
-    requires { number < length world.now.guests.items }
-{
-    match world.held(number, Slot::Sc0) {
-        Some((_, reference)) => reference.shard == shard,
-        None => false,
-    }
-}
-
 /// Whether a shard has as many references out as the four connections hold.
 fn is_balanced(alloc: Global, world: &World<'_, PlainTable>, shard: u32) -> bool
     requires count { length world.now.guests.items ≡ 4 }
@@ -108,29 +56,7 @@ fn is_balanced(alloc: Global, world: &World<'_, PlainTable>, shard: u32) -> bool
     requires shard { shard < world.now.setup.now.shards }
     requires reached { IsReached world.now.setup.now world.now.tables.items world.now.guests.items }
 {
-    let mut held = 0u32;
-    for number in 0..4u32 {
-        if holds(world, number, shard) {
-            held = held.saturating_add(1);
-        }
-    }
-    out(alloc, world, shard) == Some(held)
-}
-
-/// How many of the four connections are admitted, hold a reference and come from a host.
-fn admitted(world: &World<'_, PlainTable>, hosts: [u8; 4], host: u8) -> u32
-    requires { length world.now.guests.items ≡ 4 }
-{
-    let mut admitted = 0u32;
-    for number in 0..4u32 {
-        if hosts[number as usize] == host
-            && world.phase(number) == Phase::Admitted
-            && world.held(number, Slot::Sc0).is_some()
-        {
-            admitted = admitted.saturating_add(1);
-        }
-    }
-    admitted
+    out(alloc, world, shard) == Some(held(world, shard))
 }
 
 fn host(random: &mut Random) -> u8 {

@@ -1,5 +1,7 @@
-//! Random numbers, the same in every run.
-ghost use Rattle.std.specs.Prelude.{◌≤◌, ◌<◌};
+//! Numbers that look random and are the same in every run, for tests and benchmarks.
+#![tactic(auto)]
+
+ghost use Rattle.std.specs.Prelude.{◌≡◌, ◌≤◌, ◌<◌};
 
 /// A linear congruential generator with the constants of Knuth's MMIX.
 #[derive(Drop)]
@@ -9,7 +11,9 @@ pub struct Random {
 
 impl Random {
     /// The numbers of a seed.
-    pub fn new(seed: u64) -> Random {
+    pub fn new(seed: u64) -> Random
+        ensures { result.state ≡ seed }
+    {
         Random { state: seed }
     }
 
