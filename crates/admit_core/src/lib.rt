@@ -6,8 +6,6 @@
 mod conn;
 mod held;
 pub mod laws;
-#[cfg(test)]
-mod lives;
 mod need;
 
 pub use conn::Conn;

@@ -5,15 +5,11 @@
 #![tactic(auto)]
 
 mod case;
-#[cfg(test)]
-mod cases;
 mod evaluation;
 pub mod laws;
 mod measures;
 mod questions;
 mod readings;
-#[cfg(test)]
-mod rows;
 mod scan;
 mod slots;
 mod tables;
