@@ -71,6 +71,3 @@ pub trait Sink {
         ensures err { OnErr result (IsOneMore (failures self.old) (failures self.new)) }
         ensures kept { OnErr result (Grows tells (written self.old) (written self.new) []) };
 }
-
-#[cfg(test)]
-mod tests;

@@ -19,6 +19,3 @@ pub use line::{LINE_LIMIT, LineSoFar, without_cr};
 pub use number::{push_decimal, read_number};
 pub use parts::Parts;
 pub use words::{Blanks, Words};
-
-#[cfg(test)]
-mod tests;

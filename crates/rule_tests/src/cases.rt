@@ -4,8 +4,8 @@ use crate::rows::{
     CASES, CONDITIONS, Case, Clause, Condition, Deed, FOUR, Key, Line, MAPPED, MAPPED_CASES,
     MAPPED_CONDITIONS, SIX, SIX_CASES, SIX_CONDITIONS, Test, Told,
 };
-use rule_eval::{Answer, Eval, Samples, Verdict, Want};
 use address_text::{Address, Network};
+use rule_eval::{Answer, Eval, Samples, Verdict, Want};
 use rule_model::{
     Action, Criterion, KeyExpression, Measure, NamedSpec, Pattern, Rule, Setup, Slot, Term,
 };

@@ -4,8 +4,8 @@
 ghost use Rattle.std.specs.Prelude.{◌≡◌, false, is_some};
 ghost use Rattle.admit_core.specs.Conn.{progress_of};
 
-use admit_core::{Conn, Need, Phase};
 use address_text::Address;
+use admit_core::{Conn, Need, Phase};
 use rule_eval::{Answer, Samples};
 use rule_model::{Action, KeyExpression, NamedSpec, Rule, Setup, Slot};
 use sequence::{NoMemory, Sequence};

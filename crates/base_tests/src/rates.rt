@@ -1,5 +1,5 @@
 //! Rates against a plain sum over all counts, and worked values.
-use crate::Meter;
+use rate_window::Meter;
 use std::test::Fail;
 
 /// The greatest moment that a table counts at, in ms.

@@ -3,9 +3,9 @@ ghost use Rattle.std.specs.Prelude.{◌≡◌, ◌≤◌, ◌<◌, ◌^◌};
 ghost use Rattle.stored_data.specs.Data.{is_rate};
 ghost use Rattle.stored_data.specs.Stored.{IsPeriod};
 
-use crate::{Act, Column, Datum, StoredSet, Values, in_range, name, read_datum, settable};
 use std::alloc::Global;
 use std::test::Fail;
+use stored_data::{Act, Column, Datum, StoredSet, Values, in_range, name, read_datum, settable};
 
 /// The greatest value of a number of 32 bits, and of one of 64.
 const GREATEST_32: u64 = 4_294_967_295;

@@ -1,6 +1,8 @@
 //! Worked rows on words, parts, lines and numbers.
 
-use crate::{Blanks, LINE_LIMIT, LineSoFar, Parts, Words, push_decimal, read_number, without_cr};
+use line_text::{
+    Blanks, LINE_LIMIT, LineSoFar, Parts, Words, push_decimal, read_number, without_cr,
+};
 use std::test::Fail;
 
 #[test]

@@ -1,6 +1,6 @@
 //! What no contract says: when the ports in memory fail, and what a stream passes on.
 
-use crate::{
+use byte_ports::{
     Failed, MemorySink, MemorySource, Sink, Source, Stopped, StreamSink, StreamSource, write_all,
 };
 use std::io;
