@@ -1,5 +1,5 @@
 -- A datum is found by its name.
-use Rattle.std.proofs.Common.{◌≡◌, ◌≢◌, ℕ, Bool, true, false, cond, Option, Some, None, List, [], ◌∷◌, refl, sym, ap, ◌∙◌}
+use Rattle.std.proofs.Common.{◌≡◌, ◌≢◌, ℕ, Bool, true, false, cond, Some, None, List, [], ◌∷◌, refl, sym, ap, ◌∙◌}
 use Rattle.std.specs.List.{find}
 use Rattle.std.specs.Str.{bytes_eq}
 use Rattle.std.specs.Bool.{Decides}
