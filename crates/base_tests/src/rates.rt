@@ -1,4 +1,5 @@
 //! Rates against a plain sum over all counts, and worked values.
+use random_numbers::Random;
 use rate_window::Meter;
 use std::test::Fail;
 
@@ -7,31 +8,12 @@ const GREATEST_MOMENT: u64 = (1 << 62) - 1;
 /// The longest period, in ms.
 const GREATEST_PERIOD: u64 = 2_147_483_647;
 
-/// A linear congruential generator with the constants of Knuth's MMIX.
-#[derive(Drop)]
-struct Random {
-    state: u64,
-}
-
-impl Random {
-    /// The next 32 bits.
-    fn next_half(&mut self) -> u64 {
-        self.state = self
-            .state
-            .wrapping_mul(6_364_136_223_846_793_005)
-            .wrapping_add(1_442_695_040_888_963_407);
-        self.state >> 32
-    }
-
-    /// A number of up to 64 bits, its length as random as its bits.
-    fn next_number(&mut self) -> u64 {
-        let number = self
-            .next_half()
-            .wrapping_mul(1 << 32)
-            .wrapping_add(self.next_half());
-        let length = self.next_half() % 64;
-        number >> length
-    }
+/// A number of up to 64 bits, its length as random as its bits.
+fn next_number(random: &mut Random) -> u64 {
+    let number = u64::from(random.below(u32::MAX))
+        .wrapping_mul(1 << 32)
+        .wrapping_add(u64::from(random.below(u32::MAX)));
+    number >> random.below(64)
 }
 
 /// A count that was made: its moment in ms, and its amount.
@@ -73,28 +55,28 @@ fn plain_rate(counts: &[Counted], period: u64, now: u64) -> u64 {
 /// met again, follow one another, and are left out.
 #[test]
 fn rates_are_plain_sums(rt: HostRuntime) -> Result<(), Fail> {
-    let mut random = Random { state: 2026 };
+    let mut random = Random::new(2026);
     for round in 0..1000u64 {
         let period = match round {
             0 => 1,
             1 => GREATEST_PERIOD,
-            _ => (random.next_number() % GREATEST_PERIOD) + 1,
+            _ => (next_number(&mut random) % GREATEST_PERIOD) + 1,
         };
         let mut now = match round % 8 {
             0 => GREATEST_MOMENT.saturating_sub(period.saturating_mul(12)),
             1 => 0,
-            _ => random.next_number() % GREATEST_MOMENT,
+            _ => next_number(&mut random) % GREATEST_MOMENT,
         };
         let mut meter = Meter::new((period as u32).max(1).min(2_147_483_647));
         let mut counts = Vec::new(rt.alloc());
         for step in 0..10u64 {
-            let amount = random.next_number() >> (round % 3 * 16);
+            let amount = next_number(&mut random) >> (round % 3 * 16);
             meter.count(now, amount);
             counts.push(Counted {
                 moment: now,
                 amount,
             })?;
-            let ahead = period.saturating_mul(random.next_half() % 5) / 2;
+            let ahead = period.saturating_mul(u64::from(random.below(5))) / 2;
             let asked = now.saturating_add(ahead).min(GREATEST_MOMENT);
             let plain = plain_rate(counts.as_slice(), period, asked);
             assert_eq!(rt;
@@ -103,9 +85,9 @@ fn rates_are_plain_sums(rt: HostRuntime) -> Result<(), Fail> {
                 "round {round}, step {step}: {period} ms, at {asked}"
             );
             now = now
-                .saturating_add(random.next_number() % period)
+                .saturating_add(next_number(&mut random) % period)
                 .min(GREATEST_MOMENT);
-            if random.next_half() % 4 == 0 {
+            if random.below(4) == 0 {
                 now = asked.max(now);
             }
         }
