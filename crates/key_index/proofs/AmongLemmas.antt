@@ -1,7 +1,7 @@
 -- Slots among others in a list.
-use Rattle.std.proofs.Common.{◌≡◌, ◌≢◌, ◌⊎◌, inl, inr, ℕ, eqb, List, [], ◌∷◌, ◌++◌, refl, sym, ap, subst}
-use Rattle.std.proofs.lemmas.Bool.{eqb-false, ne_eqb}
-use Rattle.std.specs.List.{IsDistinct}
+use Rattle.std.proofs.Common.{◌≡◌, ◌≢◌, ◌⊎◌, inl, inr, ℕ, ◌||◌, Bool, true, false, true≢false, eqb, List, [], ◌∷◌, ◌++◌, refl, sym, ap, subst}
+use Rattle.std.proofs.lemmas.Bool.{eqb-true, eqb-false, ne_eqb}
+use Rattle.std.specs.List.{IsDistinct, list_any}
 use Rattle.slot_handle.proofs.DistinctSlots.{Off, Cut}
 use Rattle.key_index.specs.Chains.{IsAmong}
 
@@ -17,9 +17,17 @@ cut_among slot (s ∷ slots) there = by_case (λ later. cut_among slot slots lat
     by_case on (inl same) = record { front = []; back = slots; is = ap (λ k. k ∷ slots) (sym same) }
     by_case on (inr later) = let cut = on later in record { front = s ∷ cut.front; back = cut.back; is = ap (λ l. s ∷ l) cut.is }
 
-pub among_behind : (front : List ℕ) (first slot : ℕ) (back : List ℕ) → IsAmong slot (front ++ first ∷ (slot ∷ back))
-among_behind [] first slot back = inr (inl refl)
-among_behind (x ∷ front) first slot back = inr (among_behind front first slot back)
+pub among_at : (front : List ℕ) (slot : ℕ) (back : List ℕ) → IsAmong slot (front ++ slot ∷ back)
+among_at [] slot back = inl refl
+among_at (x ∷ front) slot back = inr (among_at front slot back)
+
+pub among_any : (slot : ℕ) (slots : List ℕ) → list_any (eqb slot) slots ≡ true → IsAmong slot slots
+among_any slot [] there = absurd (true≢false (sym there))
+among_any slot (s ∷ slots) there = by_test (λ later. among_any slot slots later) (eqb slot s) refl there
+  where
+    by_test : (list_any (eqb slot) slots ≡ true → IsAmong slot slots) → (b : Bool) → eqb slot s ≡ b → (b || list_any (eqb slot) slots) ≡ true → (slot ≡ s) ⊎ IsAmong slot slots
+    by_test on true same there = inl (eqb-true slot s same)
+    by_test on false other there = inr (on there)
 
 -- one that is there and is not the one left out is still there
 pub among_rest : (slot out : ℕ) (front back : List ℕ) → IsAmong slot (front ++ out ∷ back) → slot ≢ out → IsAmong slot (front ++ back)

@@ -5,11 +5,12 @@ use Rattle.std.proofs.lemmas.Bool.{eqb-true, cases_lt}
 use Rattle.std.proofs.lemmas.List.{get_or-set_same, get_or-set_other, get_or-replicate, length-replicate, get_or_past}
 use Rattle.std.proofs.lemmas.Nat.Bits.{bit_at_or, bit_at-lt, bit_at-pow_same}
 use Rattle.std.proofs.Permutation.{which}
-use Rattle.key_index.specs.Chains.{bucket_of, mark_of, HasNode, IsSound, IsMarked, marks_behind}
+use Rattle.key_index.specs.Chains.{bucket_of, mark_of, HasNode, HoldsKey, LeadsTo, IsSound, IsMarked, marks_behind}
 use Rattle.key_index.specs.declared.Node.{Node}
+use Rattle.key_index.specs.declared.Link.{Link}
 use Rattle.key_index.specs.declared.TheConstants.{NONE}
 use Rattle.key_index.proofs.ChainLemmas.{bucket-inside}
-use Rattle.key_index.proofs.SearchLemmas.{Seeks, seeks_end}
+use Rattle.key_index.proofs.SearchLemmas.{leads_end}
 
 pub marked_or : (marks mark : ℕ) → bit_at (bit_or marks (2 ^ mark)) mark ≡ 1
 marked_or marks mark = omega (arith, bit_at_or marks (2 ^ mark) mark, bit_at-pow_same mark, bit_at-lt marks mark)
@@ -17,15 +18,15 @@ marked_or marks mark = omega (arith, bit_at_or marks (2 ^ mark) mark, bit_at-pow
 pub kept_or : (marks bit other : ℕ) → bit_at marks other ≡ 1 → bit_at (bit_or marks bit) other ≡ 1
 kept_or marks bit other is = omega (arith, is, bit_at_or marks bit other, bit_at-lt bit other)
 
--- the search of a key begins at the head of its bucket
-pub seeks_all : (nodes : List (Option Node)) (heads : List ℕ) (seed : ℕ) (key : List ℕ) → IsSound nodes heads seed → Seeks nodes (get_or heads (bucket_of seed (length heads) key) NONE) key
-seeks_all nodes heads seed key sound =
+-- the chain of its bucket leads to a key
+pub leads_all : (links : List Link) (nodes : List (Option Node)) (heads : List ℕ) (seed : ℕ) (key : List ℕ) → IsSound links nodes heads seed → LeadsTo links nodes (get_or heads (bucket_of seed (length heads) key) NONE) key
+leads_all links nodes heads seed key sound =
     let chain = sound.chains (bucket_of seed (length heads) key) (bucket-inside seed (length heads) key sound.some) in
     record {
       slots = chain.slots;
       linked = chain.linked;
       distinct = chain.distinct;
-      left = λ slot node has same. chain.complete slot node has (ap (bucket_of seed (length heads)) same);
+      complete = λ slot holds. chain.complete slot holds.0 holds.1 (ap (bucket_of seed (length heads)) holds.2);
     }
 
 -- the mark of the key is among those of its bucket
@@ -34,8 +35,8 @@ IsMarkedKey marks seed buckets key = bit_at (get_or marks (bucket_of seed bucket
 
 -- a key whose mark is missing is in no slot
 pub absent_unmarked : (nodes : List (Option Node)) (heads marks : List ℕ) (seed : ℕ) (key : List ℕ) → IsMarked nodes heads marks seed → (IsMarkedKey marks seed (length heads) key → ⊥)
-    → (slot : ℕ) (node : Node) → HasNode nodes slot node → node.key ≡ key → ⊥
-absent_unmarked nodes heads marks seed key m missing slot node has same = missing (subst (IsMarkedKey marks seed (length heads)) same (m.marked slot node has))
+    → (slot : ℕ) → HoldsKey nodes slot key → ⊥
+absent_unmarked nodes heads marks seed key m missing slot holds = missing (subst (IsMarkedKey marks seed (length heads)) holds.2 (m.marked slot holds.0 holds.1))
 
 module _ (nodes later : List (Option Node)) (heads heads' marks : List ℕ) (seed bucket : ℕ) (m : IsMarked nodes heads marks seed) (longh : length heads' ≡ length heads) (inside : bucket < length heads) where
   inside_marks : bucket < length marks
@@ -70,18 +71,19 @@ module _ (nodes later : List (Option Node)) (heads heads' marks : List ℕ) (see
       ]
 
   -- a slot leaves, and the marks of its bucket where no other is in its chain
-  pub marked-without : (first : ℕ) → IsSound later heads' seed → ((q : ℕ) (n : Node) → HasNode later q n → (before : Node) × HasNode nodes q before × (before.key ≡ n.key))
+  pub marked-without : (links : List Link) (first : ℕ) → IsSound links later heads' seed → ((q : ℕ) (n : Node) → HasNode later q n → HasNode nodes q n)
       → first ≡ get_or heads' bucket NONE → IsMarked later heads' (marks_behind marks bucket first) seed
-  marked-without first sound kept head = by_test (eqb first NONE) refl
+  marked-without links first sound kept head = by_test (eqb first NONE) refl
     where
       was : (q : ℕ) (n : Node) → HasNode later q n → IsMarkedKey marks seed (length heads) n.key
-      was q n hasq = let before = kept q n hasq in subst (IsMarkedKey marks seed (length heads)) before.2 (m.marked q before.0 before.1)
+      was q n hasq = m.marked q n (kept q n hasq)
 
       ended : first ≡ NONE → (q : ℕ) (n : Node) → HasNode later q n → bucket_of seed (length heads) n.key ≡ bucket → ⊥
       ended none q n hasq at =
           let home : bucket_of seed (length heads') n.key ≡ bucket = ap (λ k. bucket_of seed k n.key) longh ∙ at in
           let start : get_or heads' (bucket_of seed (length heads') n.key) NONE ≡ NONE = ap (λ b. get_or heads' b NONE) home ∙ sym head ∙ none in
-          seeks_end later n.key sound.small (subst (λ k. Seeks later k n.key) start (seeks_all later heads' seed n.key sound)) q n hasq refl
+          let small = sound.small in let long = sound.long in
+          leads_end links later n.key (omega arith) (subst (λ k. LeadsTo links later k n.key) start (leads_all links later heads' seed n.key sound)) q (n, hasq, refl)
 
       by_test : (b : Bool) → eqb first NONE ≡ b → IsMarked later heads' (cond b (set marks bucket 0) marks) seed
       by_test true none = record {

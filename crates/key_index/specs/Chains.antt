@@ -1,11 +1,12 @@
 -- How an `Index` lays out its chains. No public clause cites this module.
-use Rattle.std.specs.Prelude.{◌≡◌, ℕ, zero, suc, ◌^◌, ◌<◌, ◌≤◌, ◌⊎◌, ◌==◌, if◌then◌else◌, List, [], ◌∷◌, length, get_or, slice_set, Option, Some, None, eqb}
+use Rattle.std.specs.Prelude.{◌≡◌, ℕ, zero, suc, ◌^◌, ◌<◌, ◌≤◌, ◌⊎◌, ◌==◌, if◌then◌else◌, List, [], ◌∷◌, ◌++◌, length, get_or, slice_set, Option, Some, None, eqb}
 use Rattle.std.specs.Prelude.{bit_and, ◌-◌, ◌/◌}
 use Rattle.std.specs.Int.{bit_at}
 use Rattle.core.specs.Hash.DefaultHasher.{finish, write, with_keys}
 use Rattle.std.specs.List.{IsDistinct}
 use Rattle.key_index.specs.Keys.{Entry, entry}
 use Rattle.key_index.specs.declared.Node.{Node}
+use Rattle.key_index.specs.declared.Link.{Link}
 use Rattle.key_index.specs.declared.TheConstants.{NONE}
 
 -- SipHash-1-3 of the bytes, under the seed for both keys
@@ -19,6 +20,10 @@ bucket_of seed buckets key = bit_and (hash_of seed key) (buckets - 1)
 -- the mark of a key: the three highest bits of its hash
 abbrev pub mark_of : ℕ → List ℕ → ℕ
 mark_of seed key = hash_of seed key / 2 ^ 61
+
+-- the tag of a key: the higher half of its hash
+abbrev pub tag_of : ℕ → List ℕ → ℕ
+tag_of seed key = hash_of seed key / 2 ^ 32
 
 -- the marks, where a bucket whose chain has no first slot has none
 abbrev pub marks_behind : List ℕ → ℕ → ℕ → List ℕ
@@ -42,49 +47,62 @@ entry_in (Some node) = Some (entry node.key node.generation)
 abbrev pub HasNode : List (Option Node) → ℕ → Node → Type 0
 HasNode nodes slot node = get_or nodes slot None ≡ Some node
 
--- from this slot on, the nodes of these slots each name the next
-abbrev pub IsChain : List (Option Node) → ℕ → List ℕ → Type 0
-IsChain nodes at [] = at ≡ NONE
-IsChain nodes at (slot ∷ slots) =
-    (at ≡ slot) × ((node : Node) × HasNode nodes slot node × IsChain nodes node.next slots)
+-- the slot has the key
+abbrev pub HoldsKey : List (Option Node) → ℕ → List ℕ → Type 0
+HoldsKey nodes slot key = (node : Node) × HasNode nodes slot node × (node.key ≡ key)
 
--- the slot has a node that names this next one
-abbrev pub NamesNext : List (Option Node) → ℕ → ℕ → Type 0
-NamesNext nodes slot next = (node : Node) × HasNode nodes slot node × (node.next ≡ next)
+abbrev pub no_link : Link
+no_link = record { next = 0; tag = 0 }
 
--- a node with another next slot
-abbrev pub with_next : Option Node → ℕ → Option Node
-with_next None next = None
-with_next (Some node) next = Some (record { key = node.key; generation = node.generation; next = next })
+abbrev pub link_at : List Link → ℕ → Link
+link_at links slot = get_or links slot no_link
 
--- the nodes, where a slot names another next one
-abbrev pub nodes_with_next : List (Option Node) → ℕ → ℕ → List (Option Node)
-nodes_with_next nodes before next = if before == NONE then nodes else slice_set nodes before (with_next (get_or nodes before None) next)
+-- from this slot on, the links of these slots each name the next
+abbrev pub IsChain : List Link → ℕ → List ℕ → Type 0
+IsChain links at [] = at ≡ NONE
+IsChain links at (slot ∷ slots) = (at ≡ slot) × (slot < length links) × IsChain links (link_at links slot).next slots
+
+-- in the chain from `first` on, the one slot stands right before the other
+abbrev pub IsBefore : List Link → ℕ → ℕ → ℕ → Type 0
+IsBefore links first before slot = (front : List ℕ) × (back : List ℕ) × IsChain links first (front ++ before ∷ (slot ∷ back))
+
+-- the links, where a slot names another next one
+abbrev pub links_with_next : List Link → ℕ → ℕ → List Link
+links_with_next links before next = if before == NONE then links else slice_set links before (record { next = next; tag = (link_at links before).tag })
 
 -- how many slots a walk from this one visits, at most `most`
-abbrev pub next_of : Option Node → ℕ
-next_of None = NONE
-next_of (Some node) = node.next
+abbrev pub steps_left : List Link → ℕ → ℕ → ℕ
+steps_left links zero at = 0
+steps_left links (suc most) at = if at == NONE then 0 else suc (steps_left links most (link_at links at).next)
 
-abbrev pub steps_left : List (Option Node) → ℕ → ℕ → ℕ
-steps_left nodes zero at = 0
-steps_left nodes (suc most) at = if at == NONE then 0 else suc (steps_left nodes most (next_of (get_or nodes at None)))
+-- the chain from this slot on has the slot that has the key, if one has it
+pub record LeadsTo (links : List Link) (nodes : List (Option Node)) (at : ℕ) (key : List ℕ) : Type 0 where
+  pub slots : List ℕ
+  pub linked : IsChain links at slots
+  pub distinct : IsDistinct eqb slots
+  pub complete : (slot : ℕ) → HoldsKey nodes slot key → IsAmong slot slots
 
 -- the chain from this slot on has the slots whose keys are of this bucket
-pub record Chain (nodes : List (Option Node)) (seed buckets bucket first : ℕ) : Type 0 where
+pub record Chain (links : List Link) (nodes : List (Option Node)) (seed buckets bucket first : ℕ) : Type 0 where
   pub slots : List ℕ
-  pub linked : IsChain nodes first slots
+  pub linked : IsChain links first slots
   pub distinct : IsDistinct eqb slots
-  pub home : (slot : ℕ) (node : Node) → IsAmong slot slots → HasNode nodes slot node → bucket_of seed buckets node.key ≡ bucket
+  pub home : (slot : ℕ) → IsAmong slot slots → (node : Node) × HasNode nodes slot node × (bucket_of seed buckets node.key ≡ bucket)
   pub complete : (slot : ℕ) (node : Node) → HasNode nodes slot node → bucket_of seed buckets node.key ≡ bucket → IsAmong slot slots
 
-pub record IsSound (nodes : List (Option Node)) (heads : List ℕ) (seed : ℕ) : Type 0 where
+pub record IsSound (links : List Link) (nodes : List (Option Node)) (heads : List ℕ) (seed : ℕ) : Type 0 where
   pub small : length nodes ≤ 2 ^ 30
   pub some : 0 < length heads
+  -- a link beside each node
+  pub long : length links ≡ length nodes
   -- each bucket's head is the first of its chain
-  pub chains : (bucket : ℕ) → bucket < length heads → Chain nodes seed (length heads) bucket (get_or heads bucket NONE)
+  pub chains : (bucket : ℕ) → bucket < length heads → Chain links nodes seed (length heads) bucket (get_or heads bucket NONE)
   -- no two slots have one key
   pub single : (i j : ℕ) (m n : Node) → HasNode nodes i m → HasNode nodes j n → m.key ≡ n.key → i ≡ j
+
+-- each key's tag stands beside the link of its slot
+pub record IsTagged (links : List Link) (nodes : List (Option Node)) (seed : ℕ) : Type 0 where
+  pub tagged : (slot : ℕ) (node : Node) → HasNode nodes slot node → (link_at links slot).tag ≡ tag_of seed node.key
 
 -- each key's mark is among those of its bucket
 pub record IsMarked (nodes : List (Option Node)) (heads marks : List ℕ) (seed : ℕ) : Type 0 where

@@ -3,10 +3,11 @@
 
 ghost use Rattle.std.specs.Prelude.{◌≡◌, ◌≢◌, ℕ, ◌<◌, ◌≤◌, ◌-◌, ◌/◌, ◌^◌, ◌%◌, bit_and, length, Some, None, IsSome, IfNone, IfOk, IfSome, IsTrue, ◌↔◌};
 ghost use Rattle.key_index.specs.Keys.{no_keys, capacity_of, entry, entry_at, handle_at, MapsTo, HasKey, IsAbsent, HasDistinctKeys, with_key, without_slot};
-ghost use Rattle.std.specs.Prelude.{◌⊎◌, List, eqb, vec_len, get_or};
+ghost use Rattle.std.specs.Prelude.{◌⊎◌, List, eqb, vec_len};
 ghost use Rattle.std.specs.List.{IsDistinct};
 ghost use Rattle.std.specs.Int.{bit_at};
-ghost use Rattle.key_index.specs.Chains.{hash_of, IsAmong, IsChain, NamesNext, heads_with_next, nodes_with_next, marks_behind};
+ghost use Rattle.key_index.specs.Chains.{hash_of, IsAmong, IsChain, IsBefore, LeadsTo, HoldsKey, link_at, heads_with_next, links_with_next, marks_behind};
+ghost use Rattle.key_index.specs.declared.Node.{Node};
 
 mod sip;
 mod words;
@@ -25,12 +26,18 @@ use words::{is_same_4, is_same_16};
 /// No slot: the slots are below 2^30.
 const NONE: u32 = u32::MAX;
 
-/// A key, the generation of its handle, and the next slot of its chain.
+/// A key, and the generation of its handle.
 #[derive(Drop)]
 struct Node {
     key: StickKey,
     generation: u64,
+}
+
+/// What a search reads of a slot before its key: the next slot of its chain, and the tag of its key.
+#[derive(Clone, Copy)]
+struct Link {
     next: u32,
+    tag: u32,
 }
 
 /// A finite map from keys to handles: a slot has at most one key, and a key at most one slot.
@@ -41,11 +48,12 @@ struct Node {
 /// takes steps in proportion to the keys.
 ///
 /// A bucket has a byte of marks, of the keys in its chain and perhaps of some that left it, so that the search for an
-/// absent key mostly reads no slot.
+/// absent key mostly reads no slot. The tags tell keys of one chain apart, so that it mostly reads one node at most.
 #[derive(Drop)]
 pub struct Index {
     heads: Vec<u32>,
     marks: Vec<u8>,
+    links: Vec<Link>,
     nodes: Vec<Option<Node>>,
     seed: u64,
 }
@@ -58,11 +66,13 @@ impl Model for Index {
 
     ghost coded = { keys_code };
 
-    ghost use Rattle.key_index.specs.Chains.{entry_in, IsSound, IsMarked};
+    ghost use Rattle.key_index.specs.Chains.{entry_in, IsSound, IsMarked, IsTagged};
 
     ghost view = { λ i. keys (map entry_in i.nodes.items) };
 
-    ghost invariant = { λ i. IsSound i.nodes.items i.heads.items i.seed × IsMarked i.nodes.items i.heads.items i.marks.items i.seed };
+    ghost invariant = { λ i. IsSound i.links.items i.nodes.items i.heads.items i.seed
+        × IsMarked i.nodes.items i.heads.items i.marks.items i.seed
+        × IsTagged i.links.items i.nodes.items i.seed };
 }
 
 // The hash of a key's bytes: SipHash-1-3, under the seed for both keys.
@@ -73,12 +83,26 @@ fn hash(seed: u64, bytes: &[u8]) -> u64
     match bytes.len() {
         4 => hash_of_4(seed, bytes),
         16 => hash_of_16(seed, bytes),
-        _ => {
-            let mut hasher = keyed_hasher(seed, seed);
-            hasher.write(bytes);
-            hasher.finish()
-        }
+        _ => hash_of_any(seed, bytes),
     }
+}
+
+// The same of bytes of any length. It stands apart, so that its loop takes no registers from an address's few steps.
+#[inline(never)]
+#[tactic(auto, unfolding(crate::specs::Chains::hash_of))]
+fn hash_of_any(seed: u64, bytes: &[u8]) -> u64
+    ensures { result ≡ hash_of seed bytes.now }
+{
+    let mut hasher = keyed_hasher(seed, seed);
+    hasher.write(bytes);
+    hasher.finish()
+}
+
+// The tag of a key with this hash.
+fn tag(hash: u64) -> u32
+    ensures { result ≡ hash / 2 ^ 32 }
+{
+    (hash >> 32) as u32
 }
 
 // The bucket of a key with this hash, of so many, a power of two.
@@ -124,6 +148,7 @@ fn forget_marks(marks: &mut Vec<u8>, bucket: usize, first: u32)
     }
 }
 
+// Whether two keys are the same.
 fn is_same(key: &StickKey, other: &StickKey) -> bool
     ensures { IsTrue result ↔ key.now ≡ other.now }
 {
@@ -131,51 +156,80 @@ fn is_same(key: &StickKey, other: &StickKey) -> bool
     match (bytes.len(), others.len()) {
         (4, 4) => is_same_4(bytes, others),
         (16, 16) => is_same_16(bytes, others),
-        _ => bytes == others,
+        _ => is_same_any(bytes, others),
     }
 }
 
+// Whether bytes of any length are the same. It stands apart for the same reason.
+#[inline(never)]
+fn is_same_any(bytes: &[u8], others: &[u8]) -> bool
+    ensures { IsTrue result ↔ bytes.now ≡ others.now }
+{
+    bytes == others
+}
+
+// Whether a slot has the key.
+fn has_key(node: &Option<Node>, key: &StickKey) -> bool
+    ensures { IsTrue result ↔ (n : Node) × (node.now ≡ Some n) × (n.key ≡ key.now) }
+{
+    match node {
+        Some(node) => is_same(&node.key, key),
+        None => false,
+    }
+}
+
+// The slot that has the key, of the chain that begins at `first`. Each slot that has another tag is passed by.
+fn find_in_chain(
+    links: &[Link],
+    nodes: &[Option<Node>],
+    first: u32,
+    tag: u32,
+    key: &StickKey,
+) -> Option<u32>
+    requires small { length links.now ≤ 2 ^ 30 }
+    requires long { length links.now ≡ length nodes.now }
+    requires chained { LeadsTo links.now nodes.now first key.now }
+    requires tagged { (slot : ℕ) → HoldsKey nodes.now slot key.now → (link_at links.now slot).tag ≡ tag }
+    ensures found { IfSome result (λ slot. HoldsKey nodes.now slot key.now) }
+    ensures absent { IfNone result ((slot : ℕ) → ¬ (HoldsKey nodes.now slot key.now)) }
+{
+    let mut slot = first;
+    while slot != NONE {
+        let link = links[slot as usize];
+        if link.tag == tag && has_key(&nodes[slot as usize], key) {
+            return Some(slot);
+        }
+        slot = link.next;
+    }
+    None
+}
+
 // The slot before this one in the chain that begins at `first`, or none where this one begins it.
-fn before(nodes: &[Option<Node>], first: u32, slot: u32) -> u32
-    requires small { length nodes.now ≤ 2 ^ 30 }
-    requires inside { slot < 2 ^ 30 }
-    requires chained { (slots : List ℕ) × IsChain nodes.now first slots × IsDistinct eqb slots × IsAmong slot slots }
-    ensures { ((result ≡ NONE) × (first ≡ slot)) ⊎ NamesNext nodes.now result slot }
+fn before(links: &[Link], first: u32, slot: u32) -> u32
+    requires small { length links.now ≤ 2 ^ 30 }
+    requires chained { (slots : List ℕ) × IsChain links.now first slots × IsDistinct eqb slots × IsAmong slot slots }
+    ensures { ((result ≡ NONE) × (first ≡ slot)) ⊎ IsBefore links.now first result slot }
 {
     let mut before = NONE;
     let mut at = first;
     while at != slot {
-        match &nodes[at as usize] {
-            Some(node) => {
-                before = at;
-                at = node.next;
-            }
-            None => unreachable!(),
-        }
+        before = at;
+        at = links[at as usize].next;
     }
     before
 }
 
 // Names the next of a slot, or the head of the bucket where there is no slot.
-fn set_next(
-    heads: &mut Vec<u32>,
-    nodes: &mut Vec<Option<Node>>,
-    bucket: usize,
-    before: u32,
-    next: u32,
-)
+fn set_next(heads: &mut Vec<u32>, links: &mut Vec<Link>, bucket: usize, before: u32, next: u32)
     requires bucket { bucket < vec_len heads.old }
-    requires slot { before ≢ NONE → IsSome (get_or nodes.old.items before None) }
+    requires slot { before ≢ NONE → before < vec_len links.old }
     ensures heads { heads.new.items ≡ heads_with_next heads.old.items bucket before next }
-    ensures nodes { nodes.new.items ≡ nodes_with_next nodes.old.items before next }
+    ensures links { links.new.items ≡ links_with_next links.old.items before next }
 {
     if before == NONE {
         heads[bucket] = next;
     } else {
-        match &mut nodes[before as usize] {
-            Some(node) => node.next = next,
-            None => unreachable!(),
-        }
+        links[before as usize].next = next;
     }
 }
 
@@ -191,16 +245,19 @@ impl Index {
         for _slot in 0..capacity {
             nodes.push_reserved(None);
         }
+        let alone = Link { next: NONE, tag: 0 };
         let buckets = (capacity + capacity / 2).next_power_of_two() as usize;
         Ok(Index {
             heads: Vec::from_elem(alloc, NONE, buckets)?,
             marks: Vec::from_elem(alloc, 0, buckets)?,
+            links: Vec::from_elem(alloc, alone, capacity as usize)?,
             nodes,
             seed,
         })
     }
 
     /// The handle of a key, or `None` where no slot has the key. It also tells that no two slots have one key.
+    #[inline(always)]
     pub fn get(&self, key: &StickKey) -> Option<Handle>
         ensures found { IfSome result (λ handle. MapsTo self.now key.now handle) }
         ensures absent { IfNone result (IsAbsent self.now key.now) }
@@ -211,20 +268,8 @@ impl Index {
         if !has_mark(self.marks[bucket], mark(hash)) {
             return None;
         }
-        let mut slot = self.heads[bucket];
-        while slot != NONE {
-            match &self.nodes[slot as usize] {
-                Some(node) if is_same(&node.key, key) => {
-                    return Some(Handle {
-                        slot,
-                        generation: node.generation,
-                    });
-                }
-                Some(node) => slot = node.next,
-                None => unreachable!(),
-            }
-        }
-        None
+        let slot = find_in_chain(&self.links, &self.nodes, self.heads[bucket], tag(hash), key)?;
+        Some(self.handle_of(slot))
     }
 
     /// Maps a key that is absent to a handle whose slot has no key.
@@ -237,10 +282,13 @@ impl Index {
         let hash = hash(self.seed, key.bytes());
         let bucket = bucket(hash, self.heads.len());
         let next = self.heads[bucket];
+        self.links[handle.slot as usize] = Link {
+            next,
+            tag: tag(hash),
+        };
         self.nodes[handle.slot as usize] = Some(Node {
             key,
             generation: handle.generation,
-            next,
         });
         self.heads[bucket] = handle.slot;
         self.marks[bucket] = with_mark(self.marks[bucket], mark(hash));
@@ -253,24 +301,14 @@ impl Index {
         ensures removed { self.new ≡ without_slot self.old slot }
         ensures absent { IsAbsent self.new result }
     {
-        let (bucket, next) = match &self.nodes[slot as usize] {
-            Some(node) => (
-                bucket(hash(self.seed, node.key.bytes()), self.heads.len()),
-                node.next,
-            ),
-            None => unreachable!(),
-        };
-        let before = before(&self.nodes, self.heads[bucket], slot);
-        set_next(&mut self.heads, &mut self.nodes, bucket, before, next);
+        let hash = hash(self.seed, self.key_of(slot).bytes());
+        let bucket = bucket(hash, self.heads.len());
+        let before = before(&self.links, self.heads[bucket], slot);
+        let next = self.links[slot as usize].next;
+        set_next(&mut self.heads, &mut self.links, bucket, before, next);
         forget_marks(&mut self.marks, bucket, self.heads[bucket]);
         match mem::replace(&mut self.nodes[slot as usize], None) {
-            Some(
-                Node {
-                    key,
-                    generation: _,
-                    next: _,
-                },
-            ) => key,
+            Some(Node { key, generation: _ }) => key,
             None => unreachable!(),
         }
     }
