@@ -10,9 +10,10 @@ const GREATEST_PERIOD: u64 = 2_147_483_647;
 
 /// A number of up to 64 bits, its length as random as its bits.
 fn next_number(random: &mut Random) -> u64 {
-    let number = u64::from(random.below(u32::MAX))
-        .wrapping_mul(1 << 32)
-        .wrapping_add(u64::from(random.below(u32::MAX)));
+    let mut number: u64 = 0;
+    for _ in 0..4usize {
+        number = number << 16 | u64::from(random.below(1 << 16));
+    }
     number >> random.below(64)
 }
 

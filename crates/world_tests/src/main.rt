@@ -1,6 +1,6 @@
 //! Tests of connections that share tables: by hand, and in random order. As a program it leads four connections through
 //! a schedule, of which one from each address is admitted at most, and says after each element what is out, what is held
-//! and who is admitted. `tests/refusals --worlds` refuses each of its allocations in turn.
+//! and who is admitted. `tests/refusals worlds` refuses each of its allocations in turn.
 #![tactic(auto)]
 
 ghost use Rattle.std.specs.Prelude.{◌≡◌, length};
