@@ -1,11 +1,8 @@
-//! Tests of commands on tables in shards: every form, every refusal in its order, devices that fail, and long lines.
+//! Tests of a service of commands over devices that fail, and of lines that are too long: what no run of the program shows.
+//! What each command is answered, rows of tests/rows show.
 #![tactic(auto)]
 
-#[cfg(test)]
-mod answers;
 #[cfg(test)]
 mod faults;
 #[cfg(test)]
 mod session;
-#[cfg(test)]
-mod written;

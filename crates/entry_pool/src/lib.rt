@@ -43,7 +43,8 @@ impl<T> Live<T> {
 }
 
 /// Values in the slots of one block. Contracts see a finite map from handles to values, the capacity, and the greatest
-/// generation used. Only `new` takes memory. Each live value is dropped once, by the pool's end at the latest.
+/// generation used. Only `new` takes memory. No value is dropped twice. That the pool's end drops those that are left in it,
+/// no contract says: a test counts them.
 pub struct Pool<T> {
     // The place of a slot with no value is raw memory, which no call reads or writes.
     block: Block<Live<T>>,

@@ -41,7 +41,8 @@ struct Link {
 }
 
 /// A finite map from keys to handles: a slot has at most one key, and a key at most one slot.
-/// Contracts see what each slot has. The seed changes nothing that they see.
+/// Contracts see what each slot has. The seed changes nothing that they see: that the chains are those of the seed that
+/// `new` is given, and that they are short, neither a contract nor a test says, but only this code and the benchmarks.
 ///
 /// A key's chain is the low bits of its SipHash-1-3, with the seed for both halves of the hash's key. Without the
 /// seed nobody can choose keys of one chain, as far as is known of SipHash; whoever knows it can, and then a call

@@ -1,10 +1,9 @@
 //! Each case's rules, judged.
 
 use crate::rows::{
-    CASES, CONDITIONS, Case, Clause, Condition, Deed, FOUR, Key, Line, MAPPED, MAPPED_CASES,
-    MAPPED_CONDITIONS, SIX, SIX_CASES, SIX_CONDITIONS, Test, Told,
+    CASES, Case, Clause, Deed, FOUR, Key, Line, MAPPED, MAPPED_CASES, SIX, SIX_CASES, Test, Told,
 };
-use address_text::{Address, Network};
+use address_text::Address;
 use rule_eval::{Answer, Eval, Samples, Verdict, Want};
 use rule_model::{
     Action, Criterion, KeyExpression, Measure, NamedSpec, Pattern, Rule, Setup, Slot, Term,
@@ -81,15 +80,7 @@ fn matching(alloc: Global, measure: Measure, patterns: &[Pattern]) -> Result<Cri
 
 fn criterion(alloc: Global, test: Test) -> Result<Criterion, NoMemory> {
     match test {
-        Test::Always(value) => Ok(Criterion::Always(value)),
         Test::Known(slot) => Ok(Criterion::IsTracked(slot)),
-        Test::From(address, length) => {
-            let address = Address::V4(address);
-            let networks = Sequence::from_slice(alloc, &[Network { address, length }])?;
-            Ok(Criterion::Source(networks))
-        }
-        Test::Left(pattern) => matching(alloc, Measure::SourcePort, &[pattern]),
-        Test::Arrived(pattern) => matching(alloc, Measure::DestinationPort, &[pattern]),
         Test::Read(slot, fetch, pattern) => {
             matching(alloc, Measure::Tracked(slot, fetch), &[pattern])
         }
@@ -286,39 +277,6 @@ fn is_wanted(alloc: Global, src: Address, lines: &[Line], told: &[Told], letters
     }
 }
 
-/// Whether a condition rejects where it holds, and `unless` it holds.
-fn rejects(alloc: Global, src: Address, condition: &Condition) -> bool {
-    let (conjunctions, holds) = condition;
-    let (held, failed): (&[u8], &[u8]) = if *holds {
-        (b"no ", b"ok ")
-    } else {
-        (b"ok ", b"no ")
-    };
-    is_wanted(
-        alloc,
-        src,
-        &[Line::If(Deed::Reject, conjunctions)],
-        &[],
-        held,
-    ) && is_wanted(
-        alloc,
-        src,
-        &[Line::Unless(Deed::Reject, conjunctions)],
-        &[],
-        failed,
-    )
-}
-
-/// The place of the first condition that rejects otherwise.
-fn wrong_condition(alloc: Global, src: Address, conditions: &[Condition]) -> Option<usize> {
-    for (place, condition) in conditions.iter().enumerate() {
-        if !rejects(alloc, src, condition) {
-            return Some(place);
-        }
-    }
-    None
-}
-
 /// The place of the first case whose rules want something else.
 fn wrong_case(alloc: Global, src: Address, cases: &[Case]) -> Option<usize> {
     for (place, case) in cases.iter().enumerate() {
@@ -327,16 +285,6 @@ fn wrong_case(alloc: Global, src: Address, cases: &[Case]) -> Option<usize> {
         }
     }
     None
-}
-
-#[test]
-fn conditions_hold(rt: HostRuntime) {
-    assert_eq!(rt; wrong_condition(rt.alloc(), FOUR, &CONDITIONS), None);
-    assert_eq!(rt;
-        wrong_condition(rt.alloc(), MAPPED, &MAPPED_CONDITIONS),
-        None
-    );
-    assert_eq!(rt; wrong_condition(rt.alloc(), SIX, &SIX_CONDITIONS), None);
 }
 
 #[test]

@@ -5,10 +5,10 @@ use Act::{IncGpc0, SetGpt0};
 use Clause::{Either, Is, Neither, Not};
 use Deed::{Accept, Count, Reject, Track};
 use Line::{Do, If, Unless};
-use Operator::{Eq, Ge, Gt, Le, Lt};
-use Pattern::{Between, Compare};
+use Operator::{Eq, Ge, Gt};
+use Pattern::Compare;
 use Slot::{Sc0, Sc1, Sc2};
-use Test::{Always, Arrived, Counted, From, Known, Left, Read, ReadEither, Shown};
+use Test::{Counted, Known, Read, ReadEither, Shown};
 use Told::{Absent, Released, Row, Tracked, Untracked, Value};
 use address_text::Address;
 use rule_model::{Fetch, Operator, Pattern, Slot};
@@ -38,14 +38,7 @@ pub(crate) enum Deed {
 /// A criterion.
 #[derive(Clone, Copy)]
 pub(crate) enum Test {
-    Always(bool),
     Known(Slot),
-    /// `src` in a network of IPv4.
-    From([u8; 4], u8),
-    /// `src_port`
-    Left(Pattern),
-    /// `dst_port`
-    Arrived(Pattern),
     Read(Slot, Fetch, Pattern),
     ReadEither(Slot, Fetch, Pattern, Pattern),
     Counted(Slot, Act, Pattern),
@@ -90,16 +83,9 @@ pub(crate) const MAPPED: Address = Address::V6([
 
 pub(crate) const SIX: Address = Address::V6([32, 1, 13, 184, 0, 0, 0, 0, 0, 0, 0, 0, 0, 0, 0, 1]);
 
-/// Conjunctions of terms, and whether one of them holds of a connection, without an event.
-pub(crate) type Condition = (&'static [&'static [Clause]], bool);
-
 /// Rules, answers, and the wants before, between and behind them: `t`, `g`, `l` or `c` with the slot and the place of the
 /// table, in `s` with the key too, and `ok` or `no` at the end.
 pub(crate) type Case = (&'static [Line], &'static [Told], &'static [u8]);
-
-const EVER: Test = Always(true);
-
-const NEVER: Test = Always(false);
 
 const GPC: Fetch = Fetch::Datum(Datum::Gpc0);
 
@@ -115,42 +101,6 @@ const READS: Test = Read(Sc0, CUR, ANY);
 const COUNTS: Test = Counted(Sc0, IncGpc0, ANY);
 
 const UNSTORED: Test = Shown(b'v', GPC, ANY);
-
-/// Conditions of 10.0.0.1.
-pub(crate) static CONDITIONS: [Condition; 23] = [
-    (&[&[Is(EVER)]], true),
-    (&[&[Not(EVER)]], false),
-    (&[&[Is(EVER), Is(NEVER)]], false),
-    (&[&[Is(EVER), Not(NEVER)]], true),
-    (&[&[Is(NEVER)], &[Is(EVER)]], true),
-    (&[&[Is(NEVER), Is(EVER)], &[Not(EVER)]], false),
-    (&[&[Either(NEVER, EVER)]], true),
-    (&[&[Neither(NEVER, EVER)]], false),
-    (&[&[Neither(NEVER, NEVER)]], true),
-    (&[&[Is(From([10, 200, 0, 9], 8))]], true),
-    (&[&[Is(From([10, 0, 0, 2], 32))]], false),
-    (&[&[Is(Left(Between(1024, 65_535)))]], true),
-    (&[&[Is(Left(Between(0, 4999)))]], false),
-    (&[&[Is(Left(Between(6000, 4000)))]], false),
-    (&[&[Is(Arrived(Compare(Eq, 80)))]], true),
-    (&[&[Is(Arrived(Compare(Lt, 80)))]], false),
-    (&[&[Is(Arrived(Compare(Gt, 80)))]], false),
-    (&[&[Is(Arrived(Compare(Le, 80)))]], true),
-    (&[&[Is(Arrived(Compare(Ge, 81)))]], false),
-    // What isn't tracked or isn't stored is false before negation; a source that is no key reads as 0.
-    (&[&[Is(READS)], &[Is(COUNTS)], &[Is(UNSTORED)]], false),
-    (&[&[Not(READS), Not(COUNTS), Not(UNSTORED)]], true),
-    (&[&[Is(Known(Sc0))]], false),
-    (&[&[Is(Shown(b'n', GPC, Compare(Eq, 0)))]], true),
-];
-
-/// Conditions of ::ffff:10.0.0.1, and of 2001:db8::1: a pattern of IPv4 matches the first alone.
-pub(crate) static MAPPED_CONDITIONS: [Condition; 2] = [
-    (&[&[Is(From([10, 0, 0, 0], 31))]], true),
-    (&[&[Is(From([10, 0, 0, 0], 32))]], false),
-];
-
-pub(crate) static SIX_CONDITIONS: [Condition; 1] = [(&[&[Is(From([0, 0, 0, 0], 0))]], false)];
 
 const TRACK: Line = Do(Track(Sc0, Key::Address, b'a'));
 
@@ -181,7 +131,7 @@ const IF_READ: Line = If(Reject, &[&[Is(READS)]]);
 const IF_UNKNOWN: Line = If(Reject, &[&[Is(UNKNOWN)]]);
 
 /// Connections from 10.0.0.1.
-pub(crate) static CASES: [Case; 38] = [
+pub(crate) static CASES: [Case; 42] = [
     (&[], &[], b"ok "),
     (&[Do(Accept), Do(Reject)], &[], b"ok "),
     (&[Do(Reject), Do(Accept)], &[], b"no "),
@@ -245,6 +195,24 @@ pub(crate) static CASES: [Case; 38] = [
     // A key without an entry reads as 0.
     (&[IF_UNKNOWN], &[Absent], b"g0 no "),
     (&[IF_UNKNOWN], &[Row(1)], b"g0 ok "),
+    // Nothing is asked of a slot that doesn't track, for a datum that isn't stored, or for a source that is no key: the
+    // first two are false before negation, the last reads as 0.
+    (&[IF_KNOWN], &[], b"ok "),
+    (
+        &[If(Reject, &[&[Is(READS)], &[Is(COUNTS)], &[Is(UNSTORED)]])],
+        &[],
+        b"ok ",
+    ),
+    (
+        &[If(Reject, &[&[Not(READS), Not(COUNTS), Not(UNSTORED)]])],
+        &[],
+        b"no ",
+    ),
+    (
+        &[If(Reject, &[&[Is(Shown(b'n', GPC, Compare(Eq, 0)))]])],
+        &[],
+        b"no ",
+    ),
     // Nothing is asked once the outcome is known.
     (
         &[TRACK, If(Reject, &[&[Is(BUSY), Is(COUNTS)]])],

@@ -1,89 +1,77 @@
 //! stickd: stick tables whose answers are proved.
 #![tactic(auto)]
 
-ghost use Rattle.std.specs.Prelude.{◌≡◌, ◌≤◌, IfOk, IfSome};
-ghost use Rattle.rule_model.specs.Served.{AreTables, AreTableSpecs};
-ghost use Rattle.world.specs.Tables.{CanOpen};
+ghost use Rattle.std.specs.Prelude.{◌≤◌};
+
+mod command_line;
+mod configuration;
 
 use byte_ports::{StreamSink, StreamSource};
-use clap::{Arg, ArgMatches, Command, Error, value_parser};
-use rule_config::read_config;
-use rule_model::{Config, NamedSpec, Setup};
-use script::{FaultKind, ReplayFault, built_in_setup, replay_script};
-use sequence::NoMemory;
-use std::alloc::Global;
+use clap::ArgMatches;
+use command_line::{read_command_line, read_shards};
+use configuration::{open_setup, read_file};
+use script::{FaultKind, ReplayFault, replay_script};
 use std::process::ExitCode;
 use std::rt::Files;
-use std::{fs, io, str};
+use std::{env, io};
 
-fn main(rt: HostRuntime) -> io::Result<ExitCode> {
-    let Ok(words) = collect_words(&rt) else {
-        eprintln!(rt; "stickd: out of memory")?;
-        return Ok(ExitCode::FAILURE);
+/// The status of a bad command line.
+const BAD_COMMAND_LINE: u8 = 2;
+
+fn main(rt: HostRuntime) -> ExitCode {
+    match run(&rt) {
+        Ok(status) => status,
+        Err(reason) => {
+            // Where standard error can't be written either, the status alone tells.
+            let _ = eprintln!(rt; "stickd: writing failed: {reason}");
+            ExitCode::FAILURE
+        }
+    }
+}
+
+/// Why the words of the command line can't be had.
+#[derive(Debug, Clone, Copy)]
+enum WordsFault {
+    NotUtf8,
+    OutOfMemory,
+}
+
+/// The words of the command line, the program's name first.
+fn collect_words(rt: &HostRuntime) -> Result<Vec<String>, WordsFault> {
+    match env::args(rt) {
+        Ok(words) => match words.collect(rt.alloc()) {
+            Ok(words) => Ok(words),
+            Err(_) => Err(WordsFault::OutOfMemory),
+        },
+        Err(reason) if reason.kind() == io::ErrorKind::InvalidData => Err(WordsFault::NotUtf8),
+        Err(_) => Err(WordsFault::OutOfMemory),
+    }
+}
+
+/// Does what the command line asks, and answers the status. An error is one of writing.
+fn run(rt: &HostRuntime) -> io::Result<ExitCode> {
+    let words = match collect_words(rt) {
+        Ok(words) => words,
+        Err(WordsFault::NotUtf8) => {
+            eprintln!(rt; "stickd: a word of the command line isn't UTF-8")?;
+            return Ok(ExitCode::from(BAD_COMMAND_LINE));
+        }
+        Err(WordsFault::OutOfMemory) => {
+            eprintln!(rt; "stickd: out of memory")?;
+            return Ok(ExitCode::FAILURE);
+        }
     };
     match read_command_line(rt.alloc(), words.as_slice()) {
-        Ok(matches) => run(&rt, &matches),
+        Ok(matches) => run_command(rt, &matches),
         Err(error) => {
-            error.print(&rt)?;
+            error.print(rt)?;
             Ok(ExitCode::from(error.exit_code() as u8))
         }
     }
 }
 
-/// The words of the command line.
-fn collect_words(rt: &HostRuntime) -> io::Result<Vec<String>> {
-    Ok(std::env::args(rt)?.collect(rt.alloc())?)
-}
-
-/// What the program can be asked.
-fn read_command_line<'a>(alloc: Global, words: &'a [String]) -> Result<ArgMatches<'a>, Error> {
-    let checked = Arg::new(alloc, "FILE")
-        .required(true)
-        .help("The configuration");
-    let replayed = Arg::new(alloc, "FILE").help(
-        "The configuration whose tables and rules are used [default: one table, t]",
-    );
-    let shards = Arg::new(alloc, "shards")
-        .long("shards")
-        .value_name("K")
-        .value_parser(value_parser!(u32).range(1..=64))
-        .default_value("1")
-        .help("In how many parts each table is kept, 1 to 64");
-    let check = Command::new(alloc, "check")
-        .about("Read a configuration, and say what is wrong with it")
-        .after_help(
-            "Prints 'valid: T tables, R rules', or the first line that can't be read and what is\n\
-             wrong with it, as 'stickd: line 3: C6 second table or name', with status 1. Lines\n\
-             that HAProxy knows and stickd has no use for are read past, with a warning each.",
-        )
-        .arg(checked)?;
-    let replay = Command::new(alloc, "replay")
-        .about("Replay a timed script of connections and commands on standard input")
-        .after_help(
-            "Each line is a moment in ms and what is done at it:\n  \
-             0 open 1 10.0.0.1 40001     connection 1 opens, from an address and port\n  \
-             5 cmd show table t          commands: show table T, show table T data.X OP V,\n  \
-                                         show table T key K, set table, clear table, and\n  \
-                                         show table alone, which tells of all tables\n  \
-             9 close 1 420 1337          it closes, after so many bytes in and out\n\
-             The answers are written to standard output. A connection is accepted or\n\
-             rejected by the rules of FILE. Without FILE there is one table, t, which has\n\
-             keys of type ip, 100 entries at most, and stores gpc0; each connection is\n\
-             tracked there by its client's address, and accepted.",
-        )
-        .arg(replayed)?
-        .arg(shards)?;
-    let command = Command::new(alloc, "stickd")
-        .about("Stick tables in HAProxy's language, with answers that are proved")
-        .subcommand_required(true)
-        .arg_required_else_help(true)
-        .subcommand(check)?
-        .subcommand(replay)?;
-    command.try_get_matches_from(words)
-}
-
-/// Does what a command line asks. The status is 1 where that fails, which is then said on standard error.
-fn run<R: Files + Input + Print + Eprint + AllocGlobal>(
+/// Does what a command asks. The status is 1 where that fails, which is then said on standard error.
+fn run_command<R: Files + Input + Print + Eprint + AllocGlobal>(
     rt: &R,
     matches: &ArgMatches<'_>,
 ) -> io::Result<ExitCode> {
@@ -99,36 +87,6 @@ fn run<R: Files + Input + Print + Eprint + AllocGlobal>(
     }
 }
 
-/// In how many parts each table is kept. That it is 1 to 64 was seen as the command line was read.
-fn read_shards(arguments: &ArgMatches<'_>) -> u32
-    ensures some { 1 ≤ result }
-    ensures few { result ≤ 64 }
-{
-    arguments.get_one::<u32>("shards").unwrap_or(1).clamp(1, 64)
-}
-
-/// Reads a configuration, and prints a warning for each line that it reads past. None where it can't be read, which is
-/// said on standard error.
-fn read_file<R: Files + Eprint + AllocGlobal>(rt: &R, path: &str) -> io::Result<Option<Config>>
-    ensures { IfOk result (λ read. IfSome read (λ config. AreTables config.sections)) }
-{
-    let Ok(text) = fs::read(rt, path) else {
-        eprintln!(rt; "stickd: {path} can't be read")?;
-        return Ok(None);
-    };
-    let config = match read_config(rt.alloc(), text.as_slice()) {
-        Ok(config) => config,
-        Err(fault) => {
-            eprintln!(rt; "stickd: {fault}")?;
-            return Ok(None);
-        }
-    };
-    for line in config.warnings.as_slice() {
-        eprintln!(rt; "stickd: line {line}: read past")?;
-    }
-    Ok(Some(config))
-}
-
 /// Says what a configuration has.
 fn check<R: Files + Print + Eprint + AllocGlobal>(rt: &R, path: &str) -> io::Result<bool> {
     let Some(config) = read_file(rt, path)? else {
@@ -138,55 +96,6 @@ fn check<R: Files + Print + Eprint + AllocGlobal>(rt: &R, path: &str) -> io::Res
     let rules = config.rule_count();
     println!(rt; "valid: {tables} tables, {rules} rules")?;
     Ok(true)
-}
-
-/// What is served by a configuration in so many shards.
-#[tactic(auto, unfolding(rule_model::specs::Served::setup_of))]
-fn setup_of(alloc: Global, config: &Config, shards: u32) -> Result<Setup, NoMemory>
-    requires tables { AreTables config.now.sections }
-    requires some { 1 ≤ shards }
-    requires few { shards ≤ 64 }
-    ensures limits { IfOk result (λ setup. AreTableSpecs setup.tables) }
-    ensures shards { IfOk result (λ setup. setup.shards ≡ shards) }
-{
-    config.proxy(alloc, shards)
-}
-
-/// Says that a table has fewer places than shards.
-fn report_narrow<R: Eprint>(rt: &R, named: &NamedSpec) -> io::Result<()> {
-    match str::from_utf8(named.name.as_slice()) {
-        Ok(name) => eprintln!(rt; "stickd: table {name} has fewer places than shards"),
-        Err(_) => eprintln!(rt; "stickd: a table has fewer places than shards"),
-    }
-}
-
-/// What is served by a configuration, or without one, each table in so many shards. None where that can't be had, which
-/// is said on standard error.
-fn open_setup<R: Files + Eprint + AllocGlobal>(
-    rt: &R,
-    path: Option<&str>,
-    shards: u32,
-) -> io::Result<Option<Setup>>
-    requires some { 1 ≤ shards }
-    requires few { shards ≤ 64 }
-    ensures { IfOk result (λ opened. IfSome opened CanOpen) }
-{
-    let made = match path {
-        Some(path) => match read_file(rt, path)? {
-            Some(config) => setup_of(rt.alloc(), &config, shards),
-            None => return Ok(None),
-        },
-        None => built_in_setup(rt.alloc(), shards),
-    };
-    let Ok(setup) = made else {
-        eprintln!(rt; "stickd: out of memory")?;
-        return Ok(None);
-    };
-    if let Some(narrow) = setup.narrow_table() {
-        report_narrow(rt, narrow)?;
-        return Ok(None);
-    }
-    Ok(Some(setup))
 }
 
 /// Replays the script on standard input on the tables of a configuration, each in so many shards.

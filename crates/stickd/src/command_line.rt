@@ -1,0 +1,82 @@
+//! What the program can be asked, and the texts of its help.
+
+ghost use Rattle.std.specs.Prelude.{◌≤◌};
+
+use clap::{Arg, ArgMatches, Command, Error, value_parser};
+use std::alloc::{AllocError, Global};
+
+/// What `stickd check --help` says last.
+const CHECK_HELP: &str = "\
+Prints 'valid: T tables, R rules'; or the first fault with the number of its line, as
+'stickd: line 3: C6 second table or name' on standard error, with status 1. Read past,
+with a warning each on standard error, are sections global and defaults, lines that
+begin with option, timeout, balance, maxconn or log, and words behind a server's address.";
+
+/// What `stickd replay --help` says last.
+const REPLAY_HELP: &str = "\
+Each line is a moment in ms and what is done at it:
+  0 open 1 10.0.0.1 40001     connection 1 opens, from an address and port
+  5 cmd show table t          commands, parted by ';'
+  9 close 1 420 1337          it closes, after so many bytes in and out
+The commands are:
+  show table                         the size of each table, and how many entries it has
+  show table T                       the same of table T, and its entries
+  show table T data.X OP V           its entries whose X is eq, ne, le, ge, lt or gt V
+  show table T key K                 its entry of a key
+  set table T key K [data.X V]..     makes that entry, or sets its data
+  clear table T                      removes the entries that no connection holds
+  clear table T data.X OP V          those of them that match
+  clear table T key K                the entry of a key
+What they are answered is written to standard output. A connection is accepted or
+rejected by the rules of FILE. Without FILE there is one table, t, which has keys of
+type ip, 100 entries at most, and stores gpc0; each connection is tracked there by its
+client's address, and accepted.";
+
+/// `stickd check`.
+fn check_command<'a>(alloc: Global) -> Result<Command<'a>, AllocError> {
+    let file = Arg::new(alloc, "FILE")
+        .required(true)
+        .help("The configuration");
+    Command::new(alloc, "check")
+        .about("Read a configuration, and say what is wrong with it")
+        .after_help(CHECK_HELP)
+        .arg(file)
+}
+
+/// `stickd replay`.
+fn replay_command<'a>(alloc: Global) -> Result<Command<'a>, AllocError> {
+    let file = Arg::new(alloc, "FILE").help(
+        "The configuration whose tables and rules are used [default: one table, t]",
+    );
+    let shards = Arg::new(alloc, "shards")
+        .long("shards")
+        .value_name("K")
+        .value_parser(value_parser!(u32).range(1..=64))
+        .default_value("1")
+        .help("In how many parts each table is kept, 1 to 64");
+    Command::new(alloc, "replay")
+        .about("Replay a timed script of connections and commands on standard input")
+        .after_help(REPLAY_HELP)
+        .arg(file)?
+        .arg(shards)
+}
+
+/// Reads the words of a command line, the program's name first.
+pub fn read_command_line<'a>(alloc: Global, words: &'a [String]) -> Result<ArgMatches<'a>, Error> {
+    let command = Command::new(alloc, "stickd")
+        .about("Stick tables in HAProxy's language, with answers that are proved")
+        .version("0.1.0")
+        .subcommand_required(true)
+        .arg_required_else_help(true)
+        .subcommand(check_command(alloc)?)?
+        .subcommand(replay_command(alloc)?)?;
+    command.try_get_matches_from(words)
+}
+
+/// In how many parts each table is kept. That it is 1 to 64 was seen as the command line was read.
+pub fn read_shards(arguments: &ArgMatches<'_>) -> u32
+    ensures some { 1 ≤ result }
+    ensures few { result ≤ 64 }
+{
+    arguments.get_one::<u32>("shards").unwrap_or(1).clamp(1, 64)
+}

@@ -1,0 +1,87 @@
+//! The configuration that the program is given, and what is served of it.
+
+ghost use Rattle.std.specs.Prelude.{◌≡◌, ◌≤◌, IfOk, IfSome};
+ghost use Rattle.rule_model.specs.Served.{AreTables, AreTableSpecs};
+ghost use Rattle.world.specs.Tables.{CanOpen};
+
+use rule_config::read_config;
+use rule_model::{Config, NamedSpec, Setup};
+use script::built_in_setup;
+use sequence::NoMemory;
+use std::alloc::Global;
+use std::rt::Files;
+use std::{fs, io, str};
+
+/// Reads a configuration, and prints a warning for each line that it reads past. None where it can't be read, which is
+/// said on standard error.
+pub fn read_file<R: Files + Eprint + AllocGlobal>(rt: &R, path: &str) -> io::Result<Option<Config>>
+    ensures { IfOk result (λ read. IfSome read (λ config. AreTables config.sections)) }
+{
+    let text = match fs::read(rt, path) {
+        Ok(text) => text,
+        Err(reason) => {
+            eprintln!(rt; "stickd: {path} can't be read: {reason}")?;
+            return Ok(None);
+        }
+    };
+    let config = match read_config(rt.alloc(), text.as_slice()) {
+        Ok(config) => config,
+        Err(fault) => {
+            eprintln!(rt; "stickd: {fault}")?;
+            return Ok(None);
+        }
+    };
+    for line in config.warnings.as_slice() {
+        eprintln!(rt; "stickd: line {line}: read past")?;
+    }
+    Ok(Some(config))
+}
+
+/// What is served by a configuration in so many shards.
+#[tactic(auto, unfolding(rule_model::specs::Served::setup_of))]
+fn setup_of(alloc: Global, config: &Config, shards: u32) -> Result<Setup, NoMemory>
+    requires tables { AreTables config.now.sections }
+    requires some { 1 ≤ shards }
+    requires few { shards ≤ 64 }
+    ensures limits { IfOk result (λ setup. AreTableSpecs setup.tables) }
+    ensures shards { IfOk result (λ setup. setup.shards ≡ shards) }
+{
+    config.proxy(alloc, shards)
+}
+
+/// Says that a table has fewer places than shards.
+fn report_narrow<R: Eprint>(rt: &R, named: &NamedSpec) -> io::Result<()> {
+    match str::from_utf8(named.name.as_slice()) {
+        Ok(name) => eprintln!(rt; "stickd: table {name} has fewer places than shards"),
+        Err(_) => eprintln!(rt; "stickd: a table has fewer places than shards"),
+    }
+}
+
+/// What is served by a configuration, or without one, each table in so many shards. None where that can't be had, which
+/// is said on standard error.
+pub fn open_setup<R: Files + Eprint + AllocGlobal>(
+    rt: &R,
+    path: Option<&str>,
+    shards: u32,
+) -> io::Result<Option<Setup>>
+    requires some { 1 ≤ shards }
+    requires few { shards ≤ 64 }
+    ensures { IfOk result (λ opened. IfSome opened CanOpen) }
+{
+    let made = match path {
+        Some(path) => match read_file(rt, path)? {
+            Some(config) => setup_of(rt.alloc(), &config, shards),
+            None => return Ok(None),
+        },
+        None => built_in_setup(rt.alloc(), shards),
+    };
+    let Ok(setup) = made else {
+        eprintln!(rt; "stickd: out of memory")?;
+        return Ok(None);
+    };
+    if let Some(narrow) = setup.narrow_table() {
+        report_narrow(rt, narrow)?;
+        return Ok(None);
+    }
+    Ok(Some(setup))
+}
