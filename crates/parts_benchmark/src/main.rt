@@ -1,15 +1,17 @@
-//! Times the parts of the pooled table, with every slot in use. It is run by hand, with the number of rounds;
-//! `benches/parts.rs` makes the same calls in Rust.
+//! Times the parts of the pooled table, with every slot in use; `benches/parts.rs` makes the same calls in Rust. With the
+//! word `keys`, times the reading and the printing of keys beside std's. It is run by hand, with the number of rounds.
 #![tactic(auto)]
 
 mod full_index;
 mod full_order;
 mod full_pool;
+mod keys;
 mod random;
 
 use full_index::{FullIndex, keys_from};
 use full_order::FullOrder;
 use full_pool::FullPool;
+use keys::print_key_times;
 use random::{Random, SLOTS};
 use std::alloc::{AllocError, Global};
 use std::io::Print;
@@ -116,18 +118,29 @@ static WORKS: [(&str, Work); 10] = [
     ("order: after", Work::Walk),
 ];
 
-fn main(rt: HostRuntime) -> io::Result<()> {
-    let count = match env::args(&rt)?.nth(1) {
-        Some(word) => word.as_str().parse::<u32>().ok(),
-        None => None,
-    };
-    let Some(count) = count else {
-        println!(rt; "usage: parts_benchmark COUNT")?;
-        return Ok(());
-    };
-    let mut parts = Parts::new(rt.alloc())?;
+/// Prints the times of the parts.
+fn print_part_times<R: Clock + Print>(rt: &R, alloc: Global, count: u32) -> io::Result<()> {
+    let mut parts = Parts::new(alloc)?;
     for (name, work) in WORKS.iter() {
-        print_time(&rt, &mut parts, name, *work, count)?;
+        print_time(rt, &mut parts, name, *work, count)?;
     }
     Ok(())
+}
+
+/// The number that a word of the command line is.
+fn number_of(rt: &HostRuntime, place: usize) -> io::Result<Option<u32>> {
+    Ok(match env::args(rt)?.nth(place) {
+        Some(word) => word.as_str().parse::<u32>().ok(),
+        None => None,
+    })
+}
+
+fn main(rt: HostRuntime) -> io::Result<()> {
+    if let Some(count) = number_of(&rt, 1)? {
+        return print_part_times(&rt, rt.alloc(), count);
+    }
+    match number_of(&rt, 2)? {
+        Some(count) => print_key_times(&rt, rt.alloc(), count),
+        None => println!(rt; "usage: parts_benchmark [keys] COUNT"),
+    }
 }

@@ -1,11 +1,11 @@
-//! Times the reading and the printing of keys beside the same work by std. It is run by hand, with the number of addresses.
-#![tactic(auto)]
+//! Times the reading and the printing of keys beside the same work by std.
 
 use std::alloc::Global;
+use std::io;
+use std::io::Print;
 use std::net::{Ipv4Addr, Ipv6Addr};
 use std::rt::Clock;
 use std::time::{Duration, Instant};
-use std::{env, io};
 use stick_key::{KeyType, read_key, write_key};
 
 const IPV4_TEXTS: [&str; 4] = ["10.0.0.1", "127.0.0.1", "192.168.100.200", "8.8.4.4"];
@@ -134,15 +134,8 @@ fn least_time(
     Ok((least, made))
 }
 
-fn main(rt: HostRuntime) -> io::Result<()> {
-    let count = match env::args(&rt)?.nth(1) {
-        Some(word) => word.as_str().parse::<u32>().ok(),
-        None => None,
-    };
-    let Some(count) = count else {
-        println!(rt; "usage: keys_benchmark COUNT")?;
-        return Ok(());
-    };
+/// Prints the times of so many addresses, by ours and by std.
+pub fn print_key_times<R: Clock + Print>(rt: &R, alloc: Global, count: u32) -> io::Result<()> {
     let works = [
         ("IPv4 read", Work::ReadIpv4, Work::ReadIpv4Std),
         ("IPv6 read", Work::ReadIpv6, Work::ReadIpv6Std),
@@ -150,8 +143,8 @@ fn main(rt: HostRuntime) -> io::Result<()> {
         ("IPv6 printed", Work::PrintIpv6, Work::PrintIpv6Std),
     ];
     for (name, ours, theirs) in works {
-        let ours = least_time(&rt, rt.alloc(), ours, u64::from(count))?;
-        let theirs = least_time(&rt, rt.alloc(), theirs, u64::from(count))?;
+        let ours = least_time(rt, alloc, ours, u64::from(count))?;
+        let theirs = least_time(rt, alloc, theirs, u64::from(count))?;
         let same = if ours.1 == theirs.1 {
             ""
         } else {
