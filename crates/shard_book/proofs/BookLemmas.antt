@@ -38,7 +38,7 @@ book_more base live calls seat event reply next book taken lives step =
       events = All-push (λ (c : Recorded). IsTableEvent c.stored.event) calls (recorded seat event reply) book.events taken;
       replies = book.replies ++ reply ∷ [];
       run = rw (stored_of-push calls (recorded seat event reply)) (lasting_run_more base (stored_of calls) book.replies live call reply next book.run refl lives step);
-      live_legal = step_legal live event reply next book.live_legal lives step;
+      live_legal = step_legal live event reply next book.live_legal taken lives step;
     }
 
 out-counted : (reply : Reply) (before after : ℕ) → after + taken_by reply ≡ before + given_by reply → after ≡ out_after before reply

@@ -1,5 +1,5 @@
 -- Laws of steps and runs.
-use Rattle.std.specs.Prelude.{◌≡◌, ℕ, ◌≤◌, ◌<◌, ◌+◌, ◌↔◌, nat_eq, List, [], ◌∷◌, ◌++◌, length, map, filter, max, not, ◌||◌, IfSome, true, false, IsTrue, Some, ◌⊎◌, Contains}
+use Rattle.std.specs.Prelude.{◌≡◌, ℕ, ◌≤◌, ◌<◌, ◌+◌, ◌↔◌, nat_eq, List, [], ◌∷◌, ◌++◌, length, map, filter, max, not, ◌||◌, IfSome, true, false, IsTrue, Some, ◌⊎◌, Contains, All}
 use Rattle.table_model.specs.Key.{Key}
 use Rattle.table_model.specs.State.{State, same_ticket, key_of, refs, is_tracked, record_at, row_of, outlives, empty_table}
 use Rattle.stored_data.specs.Acts.{acted, answer}
@@ -14,6 +14,7 @@ use Rattle.table_model.specs.Run.{Run, StoredRun, LastingRun, CanRedoAll, redone
 use Rattle.std.specs.List.{IsDistinct}
 use Rattle.table_model.specs.Room.{is_purged, purged, all_tracked}
 use Rattle.table_model.specs.Legal.{IsLegal, stamp_in}
+use Rattle.table_model.specs.Limits.{IsTableEvent}
 use Rattle.table_model.specs.Refusals.{has_life, IsRefused}
 use Rattle.table_model.specs.Passed.{passing_looks, passed_count}
 use Rattle.table_model.specs.declared.events.Stored.{Stored}
@@ -106,17 +107,17 @@ TicketsLaw = (old : State) (event : Event) (reply : Reply) (new : State) → Ste
 
 -- ---- legal states
 
--- a step with life left keeps a state legal
+-- a step with life left, of an event that a table takes, keeps a state legal
 abbrev pub StepLegalLaw : Type 0
-StepLegalLaw = (old : State) (event : Event) (reply : Reply) (new : State) → IsLegal old → IsTrue (has_life old event) → Step old event reply new → IsLegal new
+StepLegalLaw = (old : State) (event : Event) (reply : Reply) (new : State) → IsLegal old → IsTableEvent event → IsTrue (has_life old event) → Step old event reply new → IsLegal new
 
 -- the empty table is legal
 abbrev pub EmptyLegalLaw : Type 0
 EmptyLegalLaw = (spec : Spec) → IsLegal (empty_table spec)
 
--- each place of a run from a legal state is legal, where the run ends within the life
+-- each place of a run from a legal state, of events that a table takes, is legal, where the run ends within the life
 abbrev pub RunLegalLaw : Type 0
-RunLegalLaw = (old : State) (events later : List Event) (replies : List Reply) (new : State) → IsLegal old → (on : RunsOn old events later replies new) →
+RunLegalLaw = (old : State) (events later : List Event) (replies : List Reply) (new : State) → IsLegal old → All IsTableEvent events → (on : RunsOn old events later replies new) →
     new.events + length new.tickets ≤ new.spec.life → IsLegal on.middle
 
 -- ---- tracked entries

@@ -56,12 +56,12 @@ pub fn empty_legal()
     ensures { EmptyLegalLaw }
 {}
 
-/// A step of an event that has life left keeps a state legal.
+/// A step of an event that a table takes, and that has life left, keeps a state legal.
 pub fn step_legal()
     ensures { StepLegalLaw }
 {}
 
-/// In a run from a legal state that ends within the life, the state at each place is legal.
+/// In a run from a legal state, of events that a table takes, that ends within the life, the state at each place is legal.
 pub fn run_legal()
     ensures { RunLegalLaw }
 {}
