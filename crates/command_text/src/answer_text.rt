@@ -1,8 +1,9 @@
 //! What a command is answered.
 
-ghost use Rattle.std.specs.Prelude.{◌≡◌, ◌++◌, IfOk, nat_eq, codes, if◌then◌else◌};
+ghost use Rattle.std.specs.Prelude.{◌≡◌, ◌++◌, IfErr, IfOk, nat_eq, true, codes, if◌then◌else◌};
 ghost use Rattle.std.specs.List.{flat_map};
 ghost use Rattle.table_text.specs.Text.{header_text, row_text};
+ghost use Rattle.table_model.specs.Step.{shows_rows};
 ghost use Rattle.command_text.specs.declared.message.Message.TheVariants.{InUse};
 ghost use Rattle.command_text.specs.Texts.{message_text, reply_text};
 ghost use Rattle.command_text.specs.Bytes.{bytes_of};
@@ -25,14 +26,15 @@ pub enum Answer {
 }
 
 impl Answer {
-    /// What a table's reply is answered.
+    /// What a table's reply is answered. A reply that shows no row takes no memory.
     pub fn to_reply(
         alloc: Global,
         table: &[u8],
         spec: &Spec,
         reply: &Reply,
     ) -> Result<Answer, NoMemory>
-        ensures { IfOk result (λ answer. bytes_of answer ≡ reply_text table.now spec.now reply.now) }
+        ensures text { IfOk result (λ answer. bytes_of answer ≡ reply_text table.now spec.now reply.now) }
+        ensures memory { IfErr result (λ _. shows_rows reply.now ≡ true) }
     {
         match reply {
             Reply::Rows { used, rows } => listing(alloc, table, spec, *used, rows.as_slice()),

@@ -1,8 +1,12 @@
 -- What serving the lines of a text writes.
-use Rattle.std.specs.Prelude.{◌≡◌, ◌⊎◌, ℕ, Option, List, [], ◌∷◌, ◌++◌, length}
+use Rattle.std.specs.Prelude.{◌≡◌, ◌⊎◌, ◌^◌, ℕ, Option, List, [], ◌∷◌, ◌++◌, length}
 use Rattle.line_text.specs.Parts.{parts, is_line_end}
 use Rattle.line_text.specs.Line.{held}
 use Rattle.line_text.specs.Chain.{Chain}
+
+-- the most reads that a service makes: a reader that hasn't ended by then is a fault
+abbrev pub most_turns : ℕ
+most_turns = 2 ^ 40
 
 -- a line is answered as it is held: none, where it is too long
 abbrev pub Serves : {S : Type 0} → (S → Option (List ℕ) → List ℕ → S → Type 0) → S → List ℕ → List ℕ → S → Type 0

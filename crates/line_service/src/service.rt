@@ -2,7 +2,7 @@
 
 ghost use Rattle.std.specs.Prelude.{◌≡◌, ◌≤◌, ◌⊎◌, ℕ, List, length, IfErr, OnOk};
 ghost use Rattle.byte_ports.specs.Bytes.{Grows, IsAtEnd, IsOneMore, Takes};
-ghost use Rattle.line_service.specs.Service.{ServesAll, StopsAfter};
+ghost use Rattle.line_service.specs.Service.{ServesAll, StopsAfter, most_turns};
 
 use crate::LineServer;
 use crate::feed::feed;
@@ -64,7 +64,7 @@ pub fn serve_lines<L: LineServer, R: Source, W: Sink>(
         × StopsAfter L.says L.stops (L.state server.old) whole fault.done output (L.state server.new)) }
     // A fault comes only where a device failed, or there were too many reads.
     ensures read { IfErr result (λ fault. fault.kind ≡ LineFaultKind.Read → (IsOneMore (R.failures reader.old) (R.failures reader.new)
-        ⊎ ((whole : List ℕ) × Takes R.tells (R.left reader.old) (R.left reader.new) whole × (MAX_TURNS ≤ length whole)))) }
+        ⊎ ((whole : List ℕ) × Takes R.tells (R.left reader.old) (R.left reader.new) whole × (most_turns ≤ length whole)))) }
     ensures write { IfErr result (λ fault. fault.kind ≡ LineFaultKind.Write → IsOneMore (W.failures writer.old) (W.failures writer.new)) }
 {
     let mut line = LineSoFar::new();

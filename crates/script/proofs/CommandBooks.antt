@@ -29,7 +29,7 @@ set_books (first ∷ rest) (suc place) table state at goes all = (all.0, set_boo
 
 turn_books : (event : Event) (shards : List ℕ) (old : BooksState) (replies : List Reply) (end : Option Message) (new : BooksState) → AsksInTurn answering refusing event shards old replies end new → AreBooks old → AreBooks new
 turn_books event [] old [] None new asks are = subst AreBooks (sym asks) are
-turn_books event [] old [] (Some message) new asks are = subst AreBooks (sym asks.1) are
+turn_books event [] old [] (Some message) new asks are = subst AreBooks (sym asks.2) are
 turn_books event [] old (reply ∷ replies) end new asks are = absurd asks
 turn_books event (i ∷ shards) old [] None new asks are = absurd asks
 turn_books event (i ∷ shards) old [] (Some message) new asks are = subst AreBooks (sym asks.1) are

@@ -59,7 +59,7 @@ extends_keeps old i event reply new leaves extends =
 turn_keeps : (event : Event) (shards : List ℕ) (old : BooksState) (replies : List Reply) (end : Option Message) (new : BooksState) → LeavesReferences event
     → AsksInTurn answering refusing event shards old replies end new → kept_of new ≡ kept_of old
 turn_keeps event [] old [] None new leaves asks = ap kept_of asks
-turn_keeps event [] old [] (Some message) new leaves asks = ap kept_of asks.1
+turn_keeps event [] old [] (Some message) new leaves asks = ap kept_of asks.2
 turn_keeps event [] old (reply ∷ replies) end new leaves asks = absurd asks
 turn_keeps event (i ∷ shards) old [] None new leaves asks = absurd asks
 turn_keeps event (i ∷ shards) old [] (Some message) new leaves asks = ap kept_of asks.1

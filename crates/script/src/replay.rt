@@ -3,7 +3,7 @@
 ghost use Rattle.std.specs.Prelude.{◌≡◌, ◌≤◌, ◌⊎◌, ℕ, List, [], length, IfErr, OnOk};
 ghost use Rattle.byte_ports.specs.Bytes.{Grows, IsAtEnd, IsOneMore, Takes};
 ghost use Rattle.line_service.specs.Service.{ServesAll, StopsAfter};
-ghost use Rattle.line_service.specs.declared.service.TheConstants.{MAX_TURNS};
+ghost use Rattle.line_service.specs.Service.{most_turns};
 ghost use Rattle.script.specs.Guests.{ScriptState};
 ghost use Rattle.script.specs.Script.{Says, Stops};
 ghost use Rattle.script.specs.Start.{start};
@@ -54,7 +54,7 @@ pub fn replay_script<R: Source, W: Sink>(
         × StopsAfter Says Stops (start setup.now) script fault.done output new) }
     // Each fault comes only where that failed.
     ensures read { IfErr result (λ fault. fault.kind ≡ FaultKind.ReadFault → (IsOneMore (R.failures reader.old) (R.failures reader.new)
-        ⊎ ((script : List ℕ) × Takes R.tells (R.left reader.old) (R.left reader.new) script × (MAX_TURNS ≤ length script)))) }
+        ⊎ ((script : List ℕ) × Takes R.tells (R.left reader.old) (R.left reader.new) script × (most_turns ≤ length script)))) }
     ensures write { IfErr result (λ fault. fault.kind ≡ FaultKind.WriteFault → IsOneMore (W.failures writer.old) (W.failures writer.new)) }
     ensures memory { IfErr result (λ fault. fault.kind ≡ FaultKind.Memory → (fault.done ≡ 0) × Takes R.tells (R.left reader.old) (R.left reader.new) []
         × Grows W.tells (W.written writer.old) (W.written writer.new) []) }

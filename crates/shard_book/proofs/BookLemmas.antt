@@ -12,7 +12,8 @@ use Rattle.table_model.specs.declared.events.Event.{Event}
 use Rattle.table_model.specs.declared.replies.Reply.{Reply}
 use Rattle.table_model.specs.declared.replies.Reply.TheVariants.{Tracked, Released}
 use Rattle.table_model.proofs.StepLemmas.{step_places, given_by, taken_by}
-use Rattle.table_model.proofs.RunLemmas.{stored_run_more, stored_run_spec}
+use Rattle.table_model.proofs.RunLemmas.{lasting_run_more, stored-from-lasting, stored_run_spec}
+use Rattle.table_model.specs.Run.{StoredRun}
 use Rattle.table_model.proofs.LegalLemmas.{orderly-from_legal, step_legal, step_tickets-length, empty_legal}
 use Rattle.shard_book.specs.declared.recorded.Recorded.{Recorded}
 use Rattle.shard_book.specs.BookState.{BookState, IsBook, HasPlaces, stored_of, recorded, opened, out_after}
@@ -36,8 +37,8 @@ book_more base live calls seat event reply next book taken lives step =
       base_legal = book.base_legal;
       events = All-push (λ (c : Recorded). IsTableEvent c.stored.event) calls (recorded seat event reply) book.events taken;
       replies = book.replies ++ reply ∷ [];
-      run = rw (stored_of-push calls (recorded seat event reply)) (stored_run_more base (stored_of calls) book.replies live call reply next book.run refl step);
-      live_legal = step_legal live event reply next book.live_legal lives step;
+      run = rw (stored_of-push calls (recorded seat event reply)) (lasting_run_more base (stored_of calls) book.replies live call reply next book.run refl lives step);
+      live_legal = step_legal live event reply next book.live_legal taken lives step;
     }
 
 out-counted : (reply : Reply) (before after : ℕ) → after + taken_by reply ≡ before + given_by reply → after ≡ out_after before reply
@@ -65,9 +66,13 @@ places-more live event reply next used capacity legal step room =
       room = omega (arith, counted, tickets, places, room);
     }
 
+-- a book's run, as one of stored calls
+pub stored_run : (book : BookState) (is : IsBook book) → StoredRun book.base (stored_of book.calls) is.replies book.live
+stored_run book is = stored-from-lasting book.base (stored_of book.calls) is.replies book.live is.run
+
 -- a book is of one specification
 pub live_limits : (book : BookState) → IsBook book → IsTableSpec book.live.spec
-live_limits book is = subst IsTableSpec (sym (stored_run_spec book.base (stored_of book.calls) is.replies book.live is.run)) is.limits
+live_limits book is = subst IsTableSpec (sym (stored_run_spec book.base (stored_of book.calls) is.replies book.live (stored_run book is))) is.limits
 
 -- ---- the book of an empty table
 

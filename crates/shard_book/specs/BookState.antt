@@ -1,8 +1,8 @@
 -- What a book is: a table's calls since a base, in the order in which they were answered, each with the seat that made it.
-use Rattle.std.specs.Prelude.{All, ◌≡◌, ℕ, ◌+◌, ◌-◌, ◌≤◌, Bool, true, false, List, [], ◌∷◌, ◌++◌, length, map}
+use Rattle.std.specs.Prelude.{All, ◌≡◌, ℕ, ◌+◌, ◌-◌, ◌≤◌, nat_eq, Bool, true, false, List, [], ◌∷◌, ◌++◌, length, map, filter}
 use Rattle.table_model.specs.State.{State, empty_table}
 use Rattle.table_model.specs.Step.{Step, slot_of}
-use Rattle.table_model.specs.Run.{StoredRun}
+use Rattle.table_model.specs.Run.{LastingRun}
 use Rattle.table_model.specs.Legal.{IsLegal}
 use Rattle.table_model.specs.Limits.{IsTableSpec, IsTableEvent}
 use Rattle.table_model.specs.Refusals.{IsRefused}
@@ -25,15 +25,38 @@ pub record BookState : Type 0 where
 abbrev pub stored_of : List Recorded → List Stored
 stored_of calls = map (λ (call : Recorded). call.stored) calls
 
--- from a legal base, of a table within the limits, the recorded calls, each of an event that a table takes, lead with
--- some replies to the live state, which is legal too
+-- from a legal base, of a table within the limits, the recorded calls, each of an event that a table takes and that had
+-- life left where it was made, lead with some replies to the live state, which is legal too
 pub record IsBook (book : BookState) : Type 0 where
   pub limits : IsTableSpec book.base.spec
   pub base_legal : IsLegal book.base
   pub events : All (λ (call : Recorded). IsTableEvent call.stored.event) book.calls
   pub replies : List Reply
-  pub run : StoredRun book.base (stored_of book.calls) replies book.live
+  pub run : LastingRun book.base (stored_of book.calls) replies book.live
   pub live_legal : IsLegal book.live
+
+-- ---- what each seat was told
+
+-- a recorded call, and its reply
+pub record Answered : Type 0 where
+  pub call : Recorded
+  pub reply : Reply
+
+-- recorded calls with their replies, in their order
+abbrev pub answered : List Recorded → List Reply → List Answered
+answered [] replies = []
+answered (call ∷ calls) [] = []
+answered (call ∷ calls) (reply ∷ replies) = record { call = call; reply = reply } ∷ answered calls replies
+
+-- those of them that a seat made, in their order
+abbrev pub of_seat : ℕ → List Answered → List Answered
+of_seat seat all = filter (λ (one : Answered). nat_eq one.call.seat seat) all
+
+-- the calls of a book's record that a seat made, in their order, with the replies that its run gives
+abbrev pub told_to : ℕ → (book : BookState) → IsBook book → List Answered
+told_to seat book is = of_seat seat (answered book.calls is.replies)
+
+-- ---- how a book begins, and how it grows
 
 -- the book of an empty table
 abbrev pub opened : Spec → BookState

@@ -1,3 +1,4 @@
 pub mod BookState
 pub mod Keeping
 pub mod BooksState
+pub mod Laws

@@ -1,6 +1,23 @@
-//! Laws of tables in shards. Each is the contract of a function that does nothing.
+//! Laws of books, and of tables in shards. Each is the contract of a function that does nothing.
 
 ghost use Rattle.shard_book.specs.BooksState.{SizesLaw};
+ghost use Rattle.shard_book.specs.Laws.{OneRecordLaw, ReplayLaw, ToldLaw};
+
+/// A book's record has one run from its base: what was answered, and the table as it is now, follow from it.
+pub fn one_record()
+    ensures { OneRecordLaw }
+{}
+
+/// A record can be made again from its base: no call of it is refused but for want of memory, since each had life left
+/// and its reference out where it was made.
+pub fn replay()
+    ensures { ReplayLaw }
+{}
+
+/// What a seat was told grows by its own calls alone, each with its reply behind those before it.
+pub fn told()
+    ensures { ToldLaw }
+{}
 
 /// The sizes of a table's shards come to its size.
 pub fn sizes()

@@ -11,7 +11,8 @@ use std::alloc::Global;
 use table_model::{Refusal, Reply, Stored};
 
 /// The replies to stored calls, made again one after another: a reference that one makes gets the slot that it names.
-/// It ends at the first refusal; the calls before it stand. Calls that had life left where they were made are refused
+/// Room for all replies is taken first: where it is refused, no call is made. It ends at the first refusal; the calls
+/// before it stand. Calls that had life left where they were made are refused
 /// for want of memory alone.
 pub fn redo_all(
     alloc: Global,
@@ -24,13 +25,14 @@ pub fn redo_all(
     ensures err { IfErr result (λ refusal. RedoStops table.old calls.now refusal table.new) }
     ensures memory { (replies : List Reply) (new : State) → LastingRun table.old calls.now replies new → IfErr result (λ refusal. refusal ≡ Refusal.Memory) }
 {
-    let mut replies = Sequence::new(alloc);
+    let mut replies = Vec::new(alloc);
+    match replies.reserve(calls.len()) {
+        Ok(()) => {}
+        Err(_) => return Err(Refusal::Memory),
+    }
     for call in calls {
         let reply = table.redo(call)?;
-        match replies.push(reply) {
-            Ok(()) => {}
-            Err(_) => return Err(Refusal::Memory),
-        }
+        replies.push_reserved(reply);
     }
-    Ok(replies)
+    Ok(Sequence::from_vec(replies))
 }

@@ -9,7 +9,8 @@ use sequence::Sequence;
 use std::alloc::Global;
 use table_model::{Event, Refusal, Reply};
 
-/// The replies to events, one after another. It ends at the first refusal; the events before it stand.
+/// The replies to events, one after another. Room for all replies is taken first: where it is refused, no event is
+/// made. It ends at the first refusal; the events before it stand.
 pub fn run<T: Table>(
     alloc: Global,
     table: &mut T,
@@ -19,13 +20,14 @@ pub fn run<T: Table>(
     ensures ok { IfOk result (λ replies. Run (T.state table.old) events.now replies (T.state table.new)) }
     ensures err { IfErr result (λ refusal. RunStops (T.state table.old) events.now refusal (T.state table.new)) }
 {
-    let mut replies = Sequence::new(alloc);
+    let mut replies = Vec::new(alloc);
+    match replies.reserve(events.len()) {
+        Ok(()) => {}
+        Err(_) => return Err(Refusal::Memory),
+    }
     for event in events {
         let reply = table.step(event)?;
-        match replies.push(reply) {
-            Ok(()) => {}
-            Err(_) => return Err(Refusal::Memory),
-        }
+        replies.push_reserved(reply);
     }
-    Ok(replies)
+    Ok(Sequence::from_vec(replies))
 }

@@ -1,10 +1,12 @@
 -- On the replies of shards.
-use Rattle.std.proofs.Common.{◌≡◌, ◌∙◌, ◌<◌, ◌≤◌, ◌+◌, ◌-◌, ◌*◌, ◌^◌, ℕ, suc, true, false, Option, Some, None, Ok, IfSome, List, [], ◌∷◌, ◌++◌, append_assoc, length, fold, refl, sym, ap, subst, inl, rules, arith}
+use Rattle.std.proofs.Common.{◌≡◌, ◌∙◌, ◌<◌, ◌≤◌, ◌+◌, ◌-◌, ◌*◌, ◌^◌, ℕ, suc, Bool, true, false, unwrap_or, Option, Some, None, Ok, IfSome, List, [], ◌∷◌, ◌++◌, append_assoc, length, fold, refl, sym, ap, subst, inl, rules, arith}
 use Rattle.std.specs.Option.{option_map_or}
 use Rattle.std.specs.List.{range_with_len}
 use Rattle.std.proofs.lemmas.List.Sums.{count_by-le-length, fold-append}
 use Rattle.table_model.specs.State.{State, stays}
-use Rattle.table_model.specs.Step.{Outcome, begun, listed, cleared}
+use Rattle.table_model.specs.Step.{Outcome, asks_rows, begun, listed, cleared, shows_rows, slot_of}
+use Rattle.table_model.proofs.ReplyLemmas.{rows_told}
+use Rattle.std.proofs.lemmas.Bool.{false≢true}
 use Rattle.table_model.specs.Filters.{not_stored, is_matched}
 use Rattle.stored_data.specs.declared.datum.Datum.{Datum}
 use Rattle.table_model.specs.declared.filters.Filter.{Filter}
@@ -18,7 +20,7 @@ use Rattle.command_text.specs.Request.{Asks}
 use Rattle.table_model.proofs.EntryLemmas.{length-filter-le}
 use Rattle.shard_book.specs.Keeping.{IsAnswer}
 use Rattle.table_cli.specs.Counted.{IsAsked, IsCommand, IsCounted}
-use Rattle.table_cli.specs.Shards.{Answering, AsksInTurn, Ends, Refusing, both, key_shard, shards_of, together, total}
+use Rattle.table_cli.specs.Shards.{Answering, AsksInTurn, AsksWhatIsShown, Ends, Refusing, both, key_shard, shards_of, together, total}
 use Rattle.command_text.specs.declared.message.Message.{Message}
 use Rattle.command_text.specs.declared.message.Message.TheVariants.{OutOfMemory}
 
@@ -101,6 +103,26 @@ pub counted-more : (n : ℕ) (so_far : Option Reply) (next : Reply) → IfSome s
 counted-more n None next h k = later (2 ^ 30) ((n + 1) * 2 ^ 30) next (omega arith) k
 counted-more n (Some before) next h k = subst (λ limit. IsCounted limit (both before next)) (omega arith) (both_counted (n * 2 ^ 30) (2 ^ 30) before next h k)
 
+-- ---- rows
+
+-- a shard that replies rows was asked for some
+pub asks_shown : (event : Event) (reply : Reply) → IsAnswer event reply → AsksWhatIsShown event reply
+asks_shown event reply answer shows = go (asks_rows event) refl
+  where
+    go : (asks : Bool) → asks_rows event ≡ asks → asks ≡ true
+    go true is = refl
+    go false is =
+        let none : shows_rows reply ≡ false = sym (ap (λ (o : Outcome). shows_rows o.0) answer.step.gives) ∙ rows_told answer.before event (unwrap_or (slot_of reply) 0) is in
+        absurd (false≢true (sym none ∙ shows))
+
+both-shows : (first second : Reply) → shows_rows (both first second) ≡ shows_rows first
+both-shows first second = search rules
+
+-- what two shards reply together shows rows where the first does
+pub asks_shown-together : (event : Event) (so_far : Option Reply) (reply : Reply) → IfSome so_far (AsksWhatIsShown event) → AsksWhatIsShown event reply → AsksWhatIsShown event (together so_far reply)
+asks_shown-together event None reply before here = here
+asks_shown-together event (Some first) reply before here = λ shows. before (sym (both-shows first reply) ∙ shows)
+
 -- ---- shards in turn
 
 pub range-more : (i n : ℕ) → i < n → range_with_len i (n - i) ≡ i ∷ range_with_len (i + 1) (n - (i + 1))
@@ -132,10 +154,10 @@ module _ {S : Type 0} (answers : Answering S) (refuses : Refusing S) (event : Ev
       subst (λ all_replies. AsksInTurn answers refuses event all old all_replies end new) (sym (append_assoc replies (reply ∷ []) rest))
       (goes (reply ∷ rest) end new (subst (λ shards. AsksInTurn answers refuses event shards now (reply ∷ rest) end new) (sym is) (mid, answered, asks)))
 
-  -- a growth is refused
-  pub ends_in_memory : (left : List ℕ) (now : S) → AsksInTurn answers refuses event left now [] (Some OutOfMemory) now
-  ends_in_memory [] now = (refl, refl)
-  ends_in_memory (i ∷ left) now = (inl refl, refl)
+  -- a growth for rows is refused
+  pub ends_in_memory : (left : List ℕ) (now : S) → asks_rows event ≡ true → AsksInTurn answers refuses event left now [] (Some OutOfMemory) now
+  ends_in_memory [] now asks = (asks, refl, refl)
+  ends_in_memory (i ∷ left) now asks = (inl refl, refl)
 
   pub ends_all : (left : List ℕ) (now : S) → left ≡ [] → AsksInTurn answers refuses event left now [] None now
   ends_all left now is = subst (λ shards. AsksInTurn answers refuses event shards now [] None now) (sym is) refl
@@ -143,12 +165,14 @@ module _ {S : Type 0} (answers : Answering S) (refuses : Refusing S) (event : Ev
   pub ends_here : (left left' : List ℕ) (now : S) (i : ℕ) (message : Message) → left ≡ i ∷ left' → Ends refuses now i event message → AsksInTurn answers refuses event left now [] (Some message) now
   ends_here left left' now i message is ends = subst (λ shards. AsksInTurn answers refuses event shards now [] (Some message) now) (sym is) (ends, refl)
 
-  -- a growth is refused behind all shards
-  pub asks_then_memory : (shards : List ℕ) (old : S) (replies : List Reply) (new : S) → AsksInTurn answers refuses event shards old replies None new → AsksInTurn answers refuses event shards old replies (Some OutOfMemory) new
-  asks_then_memory [] old [] new h = (refl, h)
-  asks_then_memory [] old (reply ∷ replies) new h = h
-  asks_then_memory (i ∷ shards) old [] new h = absurd h
-  asks_then_memory (i ∷ shards) old (reply ∷ replies) new h = (h.0, h.1, asks_then_memory shards h.0 replies new h.2)
+  -- a growth for rows is refused behind all shards
+  pub asks_then_memory : (shards : List ℕ) (old : S) (replies : List Reply) (new : S) → asks_rows event ≡ true → AsksInTurn answers refuses event shards old replies None new
+      → AsksInTurn answers refuses event shards old replies (Some OutOfMemory) new
+  asks_then_memory [] old [] new asks h = (asks, refl, h)
+  asks_then_memory [] old (reply ∷ replies) new asks h = h
+  asks_then_memory (i ∷ shards) old [] new asks h = absurd h
+  asks_then_memory (i ∷ shards) old (reply ∷ replies) new asks h = (h.0, h.1, asks_then_memory shards h.0 replies new asks h.2)
 
-  pub asks_then_no_memory : (shards : List ℕ) (old : S) (replies : List Reply) (end : Option Message) (new : S) → end ≡ None → AsksInTurn answers refuses event shards old replies end new → AsksInTurn answers refuses event shards old replies (Some OutOfMemory) new
-  asks_then_no_memory shards old replies end new is h = asks_then_memory shards old replies new (subst (λ end. AsksInTurn answers refuses event shards old replies end new) is h)
+  pub asks_then_no_memory : (shards : List ℕ) (old : S) (replies : List Reply) (end : Option Message) (new : S) → end ≡ None → asks_rows event ≡ true → AsksInTurn answers refuses event shards old replies end new
+      → AsksInTurn answers refuses event shards old replies (Some OutOfMemory) new
+  asks_then_no_memory shards old replies end new is asks h = asks_then_memory shards old replies new asks (subst (λ end. AsksInTurn answers refuses event shards old replies end new) is h)

@@ -1,11 +1,12 @@
 -- What the shards of a table answer an event, one after another, and what that comes to.
-use Rattle.std.specs.Prelude.{◌≡◌, ◌⊎◌, ℕ, ◌+◌, Option, Some, None, List, [], ◌∷◌, ◌++◌, fold}
+use Rattle.std.specs.Prelude.{◌≡◌, ◌⊎◌, ℕ, ◌+◌, true, Option, Some, None, List, [], ◌∷◌, ◌++◌, fold}
 use Rattle.std.specs.Option.{option_map_or}
 use Rattle.std.specs.Ordering.{is_lt}
 use Rattle.std.specs.List.{range_with_len}
 use Rattle.std.specs.List.Sorted.{IsPermutation, IsSortedBy}
 use Rattle.stick_key.specs.Shard.{shard}
 use Rattle.table_model.specs.Key.{key_cmp}
+use Rattle.table_model.specs.Step.{asks_rows, shows_rows}
 use Rattle.table_model.specs.declared.rows.Row.{Row}
 use Rattle.table_model.specs.declared.events.Event.{Event}
 use Rattle.table_model.specs.declared.events.Event.TheVariants.{Put, Clear}
@@ -38,14 +39,19 @@ shards_of shards event = option_map_or (λ i. i ∷ []) (key_shard shards event)
 abbrev pub Ends : {S : Type 0} → Refusing S → S → ℕ → Event → Message → Type 0
 Ends refuses state i event message = (message ≡ OutOfMemory) ⊎ ((refusal : Refusal) × refuses state i event refusal × (message ≡ refusal_message refusal))
 
--- shards are asked an event in turn, and their replies are these; it may end with a message, before a shard or, where a growth was refused, behind them all
+-- shards are asked an event in turn, and their replies are these; it may end with a message, before a shard, or behind
+-- them all, where the event asks for rows and a growth for them was refused
 abbrev pub AsksInTurn : {S : Type 0} → Answering S → Refusing S → Event → List ℕ → S → List Reply → Option Message → S → Type 0
 AsksInTurn answers refuses event [] old [] None new = new ≡ old
-AsksInTurn answers refuses event [] old [] (Some message) new = (message ≡ OutOfMemory) × (new ≡ old)
+AsksInTurn answers refuses event [] old [] (Some message) new = (asks_rows event ≡ true) × (message ≡ OutOfMemory) × (new ≡ old)
 AsksInTurn answers refuses event [] old (reply ∷ replies) end new = ⊥
 AsksInTurn answers refuses event (i ∷ shards) old [] None new = ⊥
 AsksInTurn answers refuses event (i ∷ shards) old [] (Some message) new = Ends refuses old i event message × (new ≡ old)
 AsksInTurn {S} answers refuses event (i ∷ shards) old (reply ∷ replies) end new = (middle : S) × answers old i event reply middle × AsksInTurn answers refuses event shards middle replies end new
+
+-- rows are replied only to an event that asks for some
+abbrev pub AsksWhatIsShown : Event → Reply → Type 0
+AsksWhatIsShown event reply = shows_rows reply ≡ true → asks_rows event ≡ true
 
 -- the replies of two shards together: rows and counts add up, and all else is as the first says
 abbrev pub both : Reply → Reply → Reply

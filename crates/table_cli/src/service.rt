@@ -5,7 +5,7 @@ ghost use Rattle.byte_ports.specs.Bytes.{Grows, GrowsInPart, IsAtEnd, IsOneMore,
 ghost use Rattle.command_text.specs.Texts.{message_text};
 ghost use Rattle.command_text.specs.declared.message.Message.{Message as ItsMessage};
 ghost use Rattle.line_service.specs.Service.{ServesAll, StopsAfter};
-ghost use Rattle.line_service.specs.declared.service.TheConstants.{MAX_TURNS};
+ghost use Rattle.line_service.specs.Service.{most_turns};
 ghost use Rattle.table_cli.specs.Service.{SaysLine, StopsLine};
 ghost use Rattle.table_cli.specs.Tables.{more, service_state};
 
@@ -106,7 +106,7 @@ impl<K: Keeper, C: Clock> CommandService<K, C> {
             × StopsAfter (SaysLine K.answers K.refuses C.shows) (StopsLine K.answers K.refuses C.shows) (service_state K.table K.parts K.state C.state self.old.tables.items self.old.clock 0) whole lines output
             (service_state K.table K.parts K.state C.state self.new.tables.items self.new.clock fault.done)) }
         ensures read { IfErr result (λ fault. fault.kind ≡ CliFaultKind.ReadFault → (IsOneMore (R.failures reader.old) (R.failures reader.new)
-            ⊎ ((whole : List ℕ) × Takes R.tells (R.left reader.old) (R.left reader.new) whole × (MAX_TURNS ≤ length whole)))) }
+            ⊎ ((whole : List ℕ) × Takes R.tells (R.left reader.old) (R.left reader.new) whole × (most_turns ≤ length whole)))) }
         ensures write { IfErr result (λ fault. fault.kind ≡ CliFaultKind.WriteFault → IsOneMore (W.failures writer.old) (W.failures writer.new)) }
     {
         self.done = 0;

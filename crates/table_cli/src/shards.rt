@@ -1,13 +1,14 @@
 //! Asking the shards of a table, and what their replies come to.
 
-ghost use Rattle.std.specs.Prelude.{◌≡◌, ◌≢◌, ◌≤◌, ◌<◌, ◌+◌, ◌^◌, ◌++◌, ℕ, List, [], ◌∷◌, Option, Some, None, IfOk, IfErr, IfSome, OnErr, MatchResult};
+ghost use Rattle.std.specs.Prelude.{◌≡◌, ◌≢◌, ◌≤◌, ◌<◌, ◌+◌, ◌^◌, ◌++◌, ℕ, List, [], ◌∷◌, true, Option, Some, None, IfOk, IfErr, IfSome, OnErr, MatchResult};
 ghost use Rattle.std.specs.List.{range_with_len};
 ghost use Rattle.stick_key.specs.Shard.{shard as shard_of_bytes};
 ghost use Rattle.table_model.specs.Limits.{IsTableEvent};
 ghost use Rattle.table_model.specs.declared.rows.Row.{Row as ItsRow};
 ghost use Rattle.table_model.specs.declared.replies.Reply.{Reply as ItsReply};
 ghost use Rattle.shard_book.specs.Keeping.{IsAnswer, MayAsk};
-ghost use Rattle.table_cli.specs.Shards.{AsksInTurn, Ends, IsInKeyOrder, IsShown, both as specified_both, key_shard as specified_shard, shards_of, together, total};
+ghost use Rattle.table_model.specs.Step.{shows_rows};
+ghost use Rattle.table_cli.specs.Shards.{AsksInTurn, AsksWhatIsShown, Ends, IsInKeyOrder, IsShown, both as specified_both, key_shard as specified_shard, shards_of, together, total};
 ghost use Rattle.table_cli.specs.Counted.{IsAsked, IsCommand, IsCounted};
 ghost use Rattle.command_text.specs.declared.message.Message.{Message as ItsMessage};
 
@@ -68,6 +69,7 @@ fn both(first: Reply, second: Reply) -> Result<Reply, Message>
     requires second { IsCounted (2 ^ 62) second }
     ensures both { IfOk result (λ reply. reply ≡ specified_both first second) }
     ensures memory { IfErr result (λ message. message ≡ ItsMessage.OutOfMemory) }
+    ensures rows { IfErr result (λ _. shows_rows second ≡ true) }
 {
     match (first, second) {
         (
@@ -103,6 +105,7 @@ fn added(so_far: Option<Reply>, reply: Reply) -> Result<Reply, Message>
     requires reply { IsCounted (2 ^ 62) reply }
     ensures added { IfOk result (λ all. all ≡ together so_far reply) }
     ensures memory { IfErr result (λ message. message ≡ ItsMessage.OutOfMemory) }
+    ensures rows { IfErr result (λ _. shows_rows reply ≡ true) }
 {
     match so_far {
         None => Ok(reply),
@@ -120,6 +123,7 @@ fn ask_all<K: Keeper>(keeper: &mut K, event: &Event) -> Result<Reply, Message>
     ensures asks { (replies : List ItsReply) × (end : Option ItsMessage)
         × AsksInTurn K.answers K.refuses event.now (range_with_len 0 (K.parts keeper.old)) (K.state keeper.old) replies end (K.state keeper.new)
         × MatchResult result (λ reply. (end ≡ None) × (reply ≡ total replies)) (λ message. end ≡ Some message) }
+    ensures rows { IfOk result (AsksWhatIsShown event.now) }
     ensures table { K.table keeper.new ≡ K.table keeper.old }
     ensures parts { K.parts keeper.new ≡ K.parts keeper.old }
 {
@@ -161,6 +165,7 @@ fn sort_rows(rows: Rows) -> Result<Rows, Message>
 fn in_key_order(reply: Reply) -> Result<Reply, Message>
     ensures shown { IfOk result (IsShown reply) }
     ensures memory { IfErr result (λ message. message ≡ ItsMessage.OutOfMemory) }
+    ensures rows { IfErr result (λ _. shows_rows reply ≡ true) }
 {
     match reply {
         Reply::Rows { used, rows } => match sort_rows(rows) {
@@ -178,6 +183,7 @@ fn ask_shards<K: Keeper>(keeper: &mut K, event: Event) -> Result<Reply, Message>
     ensures asks { (replies : List ItsReply) × (end : Option ItsMessage)
         × AsksInTurn K.answers K.refuses event (shards_of (K.parts keeper.old) event) (K.state keeper.old) replies end (K.state keeper.new)
         × MatchResult result (λ reply. (end ≡ None) × (reply ≡ total replies)) (λ message. end ≡ Some message) }
+    ensures rows { IfOk result (AsksWhatIsShown event) }
     ensures table { K.table keeper.new ≡ K.table keeper.old }
     ensures parts { K.parts keeper.new ≡ K.parts keeper.old }
 {
@@ -201,6 +207,7 @@ pub fn ask<K: Keeper>(keeper: &mut K, event: Event) -> Result<Reply, Message>
     ensures asks { (replies : List ItsReply) × (end : Option ItsMessage)
         × AsksInTurn K.answers K.refuses event (shards_of (K.parts keeper.old) event) (K.state keeper.old) replies end (K.state keeper.new)
         × MatchResult result (λ reply. (end ≡ None) × IsShown (total replies) reply) (λ message. end ≡ Some message) }
+    ensures rows { IfOk result (AsksWhatIsShown event) }
     ensures table { K.table keeper.new ≡ K.table keeper.old }
     ensures parts { K.parts keeper.new ≡ K.parts keeper.old }
 {

@@ -13,7 +13,7 @@ use Rattle.table_model.specs.Key.{Key, same_key}
 use Rattle.table_model.specs.State.{State, empty_table, same_ticket, key_of, is_tracked, record_at, zero_record, touched, outlives, stays}
 use Rattle.table_model.specs.Filters.{is_matched, passes}
 use Rattle.stored_data.specs.Acts.{acted}
-use Rattle.table_model.specs.Limits.{moment_of}
+use Rattle.table_model.specs.Limits.{IsTableEvent, moment_of}
 use Rattle.table_model.specs.declared.filters.Filter.{Filter}
 use Rattle.table_model.specs.Step.{Step, begun, found_or_zero, without_ticket, connected, written, is_free_slot, slot_of}
 use Rattle.table_model.specs.Refusals.{life_taken, has_life}
@@ -21,7 +21,8 @@ use Rattle.table_model.specs.Run.{Run, events_of, StoredRun, LastingRun}
 use Rattle.table_model.specs.Laws.{StepLegalLaw, EmptyLegalLaw, RunLegalLaw}
 use Rattle.table_model.specs.declared.events.Stored.{Stored}
 use Rattle.table_model.proofs.RunLemmas.{run_spec, run_from_stored}
-use Rattle.table_model.specs.Legal.{IsLegal, number_in, slot_in, stamp_in}
+use Rattle.table_model.specs.Legal.{AreDataOf, IsLegal, number_in, slot_in, stamp_in}
+use Rattle.table_model.proofs.DataLemmas.{HoldData, values_in, step_data, run_data}
 use Rattle.table_model.specs.declared.rows.Ticket.{Ticket}
 use Rattle.table_model.specs.declared.rows.Record.{Record}
 use Rattle.table_model.specs.declared.specification.Spec.{Spec}
@@ -57,8 +58,11 @@ orderly-from_legal state legal = record {
   };
 }
 
-pub legal-from_orderly : (state : State) → IsOrderly state → state.events + length state.tickets ≤ state.spec.life → IsLegal state
-legal-from_orderly state orderly life = record {
+pub data-from_legal : (state : State) → IsLegal state → HoldData state.spec.columns state.records
+data-from_legal state legal = all-map values_in (AreDataOf state.spec.columns) state.records (recursion_from_All (λ (entry : Key × Record). AreDataOf state.spec.columns entry.1.values) state.records legal.values)
+
+pub legal-from_orderly : (state : State) → IsOrderly state → HoldData state.spec.columns state.records → state.events + length state.tickets ≤ state.spec.life → IsLegal state
+legal-from_orderly state orderly holds life = record {
   keys_rise = orderly.sound.keys_rise;
   within_size = orderly.sound.within_size;
   keys_held = All-from_recursion (λ (held : Ticket × Key). IsSome (record_at held.1 state.records)) state.tickets orderly.sound.keys_held;
@@ -69,6 +73,7 @@ legal-from_orderly state orderly life = record {
   numbers_past = All-from_recursion (λ held. number_in held ≤ state.events) state.tickets (all-unmap number_in (λ n. n ≤ state.events) state.tickets orderly.numbered.numbers_past);
   slots_differ = orderly.numbered.slots_differ;
   slots_below = All-from_recursion (λ held. slot_in held < state.spec.max_refs) state.tickets (all-unmap slot_in (λ slot. slot < state.spec.max_refs) state.tickets orderly.numbered.slots_below);
+  values = All-from_recursion (λ (entry : Key × Record). AreDataOf state.spec.columns entry.1.values) state.records (all-unmap values_in (AreDataOf state.spec.columns) state.records holds);
 }
 
 -- ---- steps
@@ -226,15 +231,16 @@ step_within_life old event reply new within has step =
 -- ---- the laws
 
 pub step_legal : StepLegalLaw
-step_legal old event reply new legal has step =
-    legal-from_orderly new (step_orderly old event reply new (orderly-from_legal old legal) step) (step_within_life old event reply new legal.within_life has step)
+step_legal old event reply new legal taken has step =
+    legal-from_orderly new (step_orderly old event reply new (orderly-from_legal old legal) step) (step_data old event reply new taken (data-from_legal old legal) step)
+    (step_within_life old event reply new legal.within_life has step)
 
 pub empty_legal : EmptyLegalLaw
 unfolding IsDistinct IsStrictlySortedBy
 empty_legal spec = legal-from_orderly (empty_table spec) (record {
   sound = record { keys_rise = tt; within_size = omega arith; keys_held = tt; stamps_differ = tt; stamps_past = tt };
   numbered = record { numbers_differ = tt; numbers_past = tt; slots_differ = tt; slots_below = tt };
-}) (omega arith)
+}) tt (omega arith)
 
 pub run_orderly : (old : State) (events : List Event) (replies : List Reply) (new : State) → IsOrderly old → Run old events replies new → IsOrderly new
 run_orderly old [] [] new orderly run = subst IsOrderly (sym run) orderly
@@ -249,22 +255,23 @@ run_grows old (e ∷ es) [] new orderly run = absurd run
 run_grows old (e ∷ es) (r ∷ rs) new orderly run = omega (arith, step_grows old e r run.0 orderly run.1, run_grows run.0 es rs new (step_orderly old e r run.0 orderly run.1) run.2)
 
 pub places_legal : RunLegalLaw
-places_legal old events later replies new legal on within =
+places_legal old events later replies new legal taken on within =
     let start : IsOrderly on.middle = run_orderly old events on.first on.middle (orderly-from_legal old legal) on.before in
+    let holds : HoldData on.middle.spec.columns on.middle.records = run_data old events on.first on.middle (recursion_from_All IsTableEvent events taken) (data-from_legal old legal) on.before in
     let grows = run_grows on.middle later on.rest new start on.after in
     let life : new.spec.life ≡ on.middle.spec.life = ap (λ (spec : Spec). spec.life) (run_spec on.middle later on.rest new on.after) in
-    legal-from_orderly on.middle start (omega arith)
+    legal-from_orderly on.middle start holds (omega arith)
 
 -- a run from a legal state that ends within the life ends legal
-pub run_legal : (old : State) (events : List Event) (replies : List Reply) (new : State) → IsLegal old → Run old events replies new → new.events + length new.tickets ≤ new.spec.life → IsLegal new
-run_legal old events replies new legal run within = legal-from_orderly new (run_orderly old events replies new (orderly-from_legal old legal) run) within
+pub run_legal : (old : State) (events : List Event) (replies : List Reply) (new : State) → IsLegal old → AllByRecursion IsTableEvent events → Run old events replies new → new.events + length new.tickets ≤ new.spec.life → IsLegal new
+run_legal old events replies new legal taken run within = legal-from_orderly new (run_orderly old events replies new (orderly-from_legal old legal) run) (run_data old events replies new taken (data-from_legal old legal) run) within
 
-pub stored_run_legal : (old : State) (calls : List Stored) (replies : List Reply) (new : State) → IsLegal old → StoredRun old calls replies new → new.events + length new.tickets ≤ new.spec.life → IsLegal new
-stored_run_legal old calls replies new legal run within = run_legal old (events_of calls) replies new legal (run_from_stored old calls replies new run) within
+pub stored_run_legal : (old : State) (calls : List Stored) (replies : List Reply) (new : State) → IsLegal old → AllByRecursion IsTableEvent (events_of calls) → StoredRun old calls replies new → new.events + length new.tickets ≤ new.spec.life → IsLegal new
+stored_run_legal old calls replies new legal taken run within = run_legal old (events_of calls) replies new legal taken (run_from_stored old calls replies new run) within
 
 -- a run whose events had life left ends legal
-pub lasting_run_legal : (old : State) (calls : List Stored) (replies : List Reply) (new : State) → IsLegal old → LastingRun old calls replies new → IsLegal new
-lasting_run_legal old [] [] new legal run = subst IsLegal (sym run) legal
-lasting_run_legal old [] (r ∷ rs) new legal run = absurd run
-lasting_run_legal old (c ∷ cs) [] new legal run = absurd run
-lasting_run_legal old (c ∷ cs) (r ∷ rs) new legal run = lasting_run_legal run.0 cs rs new (step_legal old c.event r run.0 legal run.2 run.3) run.4
+pub lasting_run_legal : (old : State) (calls : List Stored) (replies : List Reply) (new : State) → IsLegal old → AllByRecursion IsTableEvent (events_of calls) → LastingRun old calls replies new → IsLegal new
+lasting_run_legal old [] [] new legal taken run = subst IsLegal (sym run) legal
+lasting_run_legal old [] (r ∷ rs) new legal taken run = absurd run
+lasting_run_legal old (c ∷ cs) [] new legal taken run = absurd run
+lasting_run_legal old (c ∷ cs) (r ∷ rs) new legal taken run = lasting_run_legal run.0 cs rs new (step_legal old c.event r run.0 legal taken.0 run.2 run.3) taken.1 run.4

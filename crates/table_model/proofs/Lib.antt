@@ -9,6 +9,7 @@ pub mod RunLemmas
 pub mod LimitLemmas
 pub mod RecordLemmas
 pub mod TicketLemmas
+pub mod DataLemmas
 pub mod LegalLemmas
 pub mod FateLemmas
 pub mod TallyLemmas

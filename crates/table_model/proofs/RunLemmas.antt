@@ -5,7 +5,7 @@ use Rattle.table_model.specs.State.{State}
 use Rattle.table_model.specs.Step.{Outcome, Step, slot_of, is_free_slot, after}
 use Rattle.table_model.specs.Run.{Run, events_of, stored_calls, StoredRun, LastingRun, redone, CanRedo, CanRedoAll, redone_all}
 use Rattle.table_model.specs.Refusals.{has_life, IsRefused}
-use Rattle.table_model.specs.Laws.{OneRunLaw, RedoLaw, RunsOn, JoinLaw, CountLaw}
+use Rattle.table_model.specs.Laws.{OneRunLaw, RedoLaw, RunsOn, JoinLaw, CountLaw, StoredCountLaw, StoredRunsOn, StoredJoinLaw, LastingLaw}
 use Rattle.table_model.specs.declared.events.Stored.{Stored}
 use Rattle.table_model.specs.declared.events.Event.{Event}
 use Rattle.table_model.specs.declared.replies.Reply.{Reply}
@@ -102,15 +102,6 @@ stored_run_join old [] (r ∷ rs) middle later rest new run more = absurd run
 stored_run_join old (c ∷ cs) [] middle later rest new run more = absurd run
 stored_run_join old (c ∷ cs) (r ∷ rs) middle later rest new run more = (run.0, run.1, run.2, stored_run_join run.0 cs rs middle later rest new run.3 more)
 
--- a run of stored calls, and from where it ends one of those that follow
-pub record StoredRunsOn (old : State) (calls later : List Stored) (replies : List Reply) (new : State) : Type 0 where
-  pub middle : State
-  pub first : List Reply
-  pub rest : List Reply
-  pub joined : replies ≡ first ++ rest
-  pub before : StoredRun old calls first middle
-  pub after : StoredRun middle later rest new
-
 pub stored_run_part : (old : State) (calls later : List Stored) (replies : List Reply) (new : State) → StoredRun old (calls ++ later) replies new → StoredRunsOn old calls later replies new
 stored_run_part old [] later replies new run = record { middle = old; first = []; rest = replies; joined = refl; before = refl; after = run }
 stored_run_part old (c ∷ cs) later [] new run = absurd run
@@ -123,6 +114,15 @@ stored_run_events old calls replies new run = let one = length-events_of calls i
 
 pub stored_run_length : (old : State) (calls : List Stored) (replies : List Reply) (new : State) → StoredRun old calls replies new → length replies ≡ length calls
 stored_run_length old calls replies new run = run_length old (events_of calls) replies new (run_from_stored old calls replies new run) ∙ length-events_of calls
+
+pub stored-count-law : StoredCountLaw
+stored-count-law old calls replies new run = (stored_run_events old calls replies new run, stored_run_length old calls replies new run)
+
+pub stored-join-law : StoredJoinLaw
+stored-join-law old calls later replies new = (
+  λ run. stored_run_part old calls later replies new run,
+  λ on. subst (λ rs. StoredRun old (calls ++ later) rs new) (sym on.joined) (stored_run_join old calls on.first on.middle later on.rest new on.before on.after),
+)
 
 pub stored_run_spec : (old : State) (calls : List Stored) (replies : List Reply) (new : State) → StoredRun old calls replies new → new.spec ≡ old.spec
 stored_run_spec old calls replies new run = run_spec old (events_of calls) replies new (run_from_stored old calls replies new run)
@@ -213,3 +213,22 @@ lasting-refused old call calls (r ∷ rs) end Memory run refused = refl
 lasting-refused old call calls (r ∷ rs) end Stale run refused = absurd (false≢true (sym refused ∙ run.3.out))
 lasting-refused old call calls (r ∷ rs) end Exhausted run refused = absurd (false≢true (sym refused.1 ∙ run.2))
 lasting-refused old call calls (r ∷ rs) end (Behind count front) run refused = absurd refused
+
+-- wherever the calls before one of them lead, it is refused so
+lasting-next : (old : State) (before : List Stored) (call : Stored) (later : List Stored) (replies : List Reply) (new : State) (first : List Reply) (middle : State) (refusal : Refusal)
+    → LastingRun old (before ++ call ∷ later) replies new → StoredRun old before first middle → IsRefused middle call.event refusal → refusal ≡ Memory
+lasting-next old [] call later replies new [] middle refusal run so_far refused =
+    lasting-refused old call later replies new refusal run (subst (λ (s : State). IsRefused s call.event refusal) so_far refused)
+lasting-next old [] call later replies new (f ∷ fs) middle refusal run so_far refused = absurd so_far
+lasting-next old (c ∷ cs) call later [] new first middle refusal run so_far refused = absurd run
+lasting-next old (c ∷ cs) call later (r ∷ rs) new [] middle refusal run so_far refused = absurd so_far
+lasting-next old (c ∷ cs) call later (r ∷ rs) new (f ∷ fs) middle refusal run so_far refused =
+    let one = step_determined old c.event r f run.0 so_far.0 run.3 so_far.2 (sym run.1 ∙ so_far.1) in
+    lasting-next so_far.0 cs call later rs new fs middle refusal (subst (λ (m : State). LastingRun m (cs ++ call ∷ later) rs new) one.1 run.4) so_far.3 refused
+
+pub lasting-law : LastingLaw
+lasting-law old calls replies new run = record {
+  run = stored-from-lasting old calls replies new run;
+  refused = λ before call later first middle refusal are so_far refused.
+      lasting-next old before call later replies new first middle refusal (subst (λ (cs : List Stored). LastingRun old cs replies new) are run) so_far refused;
+}

@@ -1,34 +1,29 @@
 -- Laws of steps and runs.
-use Rattle.std.specs.Prelude.{◌≡◌, ℕ, ◌≤◌, ◌<◌, ◌+◌, ◌↔◌, nat_eq, List, [], ◌∷◌, ◌++◌, length, map, filter, fold, max, not, ◌||◌, IfSome, Bool, true, false, if◌then◌else◌, IsTrue, Option, Some, None, is_some, ◌⊎◌, Contains}
-use Rattle.std.specs.Option.{option_map_or}
-use Rattle.rate_window.specs.Rate.{Count as Rated, AreUpTo, tally, rate}
-use Rattle.table_model.specs.Key.{Key, same_key}
-use Rattle.table_model.specs.State.{State, same_ticket, key_of, refs, is_tracked, record_at, row_of, outlives, advance, empty_table}
-use Rattle.stored_data.specs.Acts.{acted, answer, change, content_of, value_at}
+use Rattle.std.specs.Prelude.{◌≡◌, ℕ, ◌≤◌, ◌<◌, ◌+◌, ◌↔◌, nat_eq, List, [], ◌∷◌, ◌++◌, length, map, filter, max, not, ◌||◌, IfSome, true, false, IsTrue, Some, ◌⊎◌, Contains, All}
+use Rattle.table_model.specs.Key.{Key}
+use Rattle.table_model.specs.State.{State, same_ticket, key_of, refs, is_tracked, record_at, row_of, outlives, empty_table}
+use Rattle.stored_data.specs.Acts.{acted, answer}
 use Rattle.stored_data.specs.Data.{is_rate}
 use Rattle.stored_data.specs.Stored.{IsSound}
-use Rattle.stored_data.specs.declared.datum.Datum.{Datum}
 use Rattle.stored_data.specs.declared.stored_set.Column.{Column}
-use Rattle.stored_data.specs.declared.values.Content.TheVariants.{Rate}
 use Rattle.stored_data.specs.declared.values.Field.{Field}
-use Rattle.stored_data.specs.declared.act.Act.{Act}
-use Rattle.stored_data.specs.declared.act.Change.{Change}
-use Rattle.stored_data.specs.declared.act.Change.TheVariants.{Add}
 use Rattle.stored_data.specs.declared.act.Act.TheVariants.{Connection}
 use Rattle.table_model.specs.Step.{Step, put_pairs, subject_of, ticket_of}
 use Rattle.table_model.specs.Counted.{IsTallied, counted_since, steps_of}
-use Rattle.table_model.specs.Run.{Run, StoredRun, CanRedoAll, redone_all}
+use Rattle.table_model.specs.Run.{Run, StoredRun, LastingRun, CanRedoAll, redone_all}
 use Rattle.std.specs.List.{IsDistinct}
 use Rattle.table_model.specs.Room.{is_purged, purged, all_tracked}
 use Rattle.table_model.specs.Legal.{IsLegal, stamp_in}
-use Rattle.table_model.specs.Limits.{moment_of}
-use Rattle.table_model.specs.Refusals.{has_life}
+use Rattle.table_model.specs.Limits.{IsTableEvent}
+use Rattle.table_model.specs.Refusals.{has_life, IsRefused}
 use Rattle.table_model.specs.Passed.{passing_looks, passed_count}
 use Rattle.table_model.specs.declared.events.Stored.{Stored}
 use Rattle.table_model.specs.declared.events.Event.{Event}
 use Rattle.table_model.specs.declared.events.Event.TheVariants.{Track, Look, Count, Release, Put}
 use Rattle.table_model.specs.declared.replies.Reply.{Reply}
 use Rattle.table_model.specs.declared.replies.Reply.TheVariants.{Row as ARow, Tracked, Value, Released}
+use Rattle.table_model.specs.declared.replies.Refusal.{Refusal}
+use Rattle.table_model.specs.declared.replies.Refusal.TheVariants.{Memory}
 use Rattle.table_model.specs.declared.rows.Ticket.{Ticket}
 use Rattle.table_model.specs.declared.rows.Record.{Record}
 use Rattle.table_model.specs.declared.specification.Spec.{Spec}
@@ -68,6 +63,36 @@ pub record RunsOn (old : State) (events later : List Event) (replies : List Repl
 abbrev pub JoinLaw : Type 0
 JoinLaw = (old : State) (events later : List Event) (replies : List Reply) (new : State) → Run old (events ++ later) replies new ↔ RunsOn old events later replies new
 
+-- ---- runs of stored calls
+
+-- as many events are counted, and as many replies are told, as there are calls
+abbrev pub StoredCountLaw : Type 0
+StoredCountLaw = (old : State) (calls : List Stored) (replies : List Reply) (new : State) → StoredRun old calls replies new →
+    (new.events ≡ old.events + length calls) × (length replies ≡ length calls)
+
+-- a run of some stored calls, and from where it ends one of those that follow
+pub record StoredRunsOn (old : State) (calls later : List Stored) (replies : List Reply) (new : State) : Type 0 where
+  pub middle : State
+  pub first : List Reply
+  pub rest : List Reply
+  pub joined : replies ≡ first ++ rest
+  pub before : StoredRun old calls first middle
+  pub after : StoredRun middle later rest new
+
+-- a run over two lists of stored calls joined is a run over the one, then the other
+abbrev pub StoredJoinLaw : Type 0
+StoredJoinLaw = (old : State) (calls later : List Stored) (replies : List Reply) (new : State) → StoredRun old (calls ++ later) replies new ↔ StoredRunsOn old calls later replies new
+
+-- a lasting run is a run of its stored calls, and wherever the calls before one of them lead, it is refused for want of
+-- memory alone
+pub record Lasts (old : State) (calls : List Stored) (replies : List Reply) (new : State) : Type 0 where
+  pub run : StoredRun old calls replies new
+  pub refused : (before : List Stored) (call : Stored) (later : List Stored) (first : List Reply) (middle : State) (refusal : Refusal) →
+      calls ≡ before ++ call ∷ later → StoredRun old before first middle → IsRefused middle call.event refusal → refusal ≡ Memory
+
+abbrev pub LastingLaw : Type 0
+LastingLaw = (old : State) (calls : List Stored) (replies : List Reply) (new : State) → LastingRun old calls replies new → Lasts old calls replies new
+
 -- ---- tickets
 
 -- what becomes of the tickets that are out, as the reply tells it: one more, without that which the event gave back, or the same
@@ -82,17 +107,17 @@ TicketsLaw = (old : State) (event : Event) (reply : Reply) (new : State) → Ste
 
 -- ---- legal states
 
--- a step with life left keeps a state legal
+-- a step with life left, of an event that a table takes, keeps a state legal
 abbrev pub StepLegalLaw : Type 0
-StepLegalLaw = (old : State) (event : Event) (reply : Reply) (new : State) → IsLegal old → IsTrue (has_life old event) → Step old event reply new → IsLegal new
+StepLegalLaw = (old : State) (event : Event) (reply : Reply) (new : State) → IsLegal old → IsTableEvent event → IsTrue (has_life old event) → Step old event reply new → IsLegal new
 
 -- the empty table is legal
 abbrev pub EmptyLegalLaw : Type 0
 EmptyLegalLaw = (spec : Spec) → IsLegal (empty_table spec)
 
--- each place of a run from a legal state is legal, where the run ends within the life
+-- each place of a run from a legal state, of events that a table takes, is legal, where the run ends within the life
 abbrev pub RunLegalLaw : Type 0
-RunLegalLaw = (old : State) (events later : List Event) (replies : List Reply) (new : State) → IsLegal old → (on : RunsOn old events later replies new) →
+RunLegalLaw = (old : State) (events later : List Event) (replies : List Reply) (new : State) → IsLegal old → All IsTableEvent events → (on : RunsOn old events later replies new) →
     new.events + length new.tickets ≤ new.spec.life → IsLegal on.middle
 
 -- ---- tracked entries

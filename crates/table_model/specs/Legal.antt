@@ -1,12 +1,45 @@
 -- The states that a table can come to.
-use Rattle.std.specs.Prelude.{ℕ, ◌+◌, ◌≤◌, ◌<◌, nat_eq, length, map, IsSome, All}
+use Rattle.std.specs.Prelude.{◌≡◌, ℕ, ◌+◌, ◌≤◌, ◌<◌, nat_eq, true, false, List, [], ◌∷◌, length, map, filter, IsSome, All}
 use Rattle.std.specs.List.{IsDistinct}
 use Rattle.std.specs.List.Sorted.{IsStrictlySortedBy}
 use Rattle.std.specs.Map.{keys_of}
+use Rattle.stored_data.specs.Data.{is_rate}
+use Rattle.stored_data.specs.Acts.{is_kept}
+use Rattle.stored_data.specs.Laws.{IsInRange}
+use Rattle.stored_data.specs.declared.stored_set.Column.{Column}
+use Rattle.stored_data.specs.declared.values.Content.{Content}
+use Rattle.stored_data.specs.declared.values.Content.TheVariants.{Number, Rate}
+use Rattle.stored_data.specs.declared.values.Field.{Field}
 use Rattle.table_model.specs.Key.{Key, key_cmp}
 use Rattle.table_model.specs.State.{State, record_at}
 use Rattle.table_model.specs.declared.rows.Ticket.{Ticket}
 use Rattle.table_model.specs.declared.rows.Record.{Record}
+
+-- ---- the data of a record
+
+-- of a rate a tally of its column's period is kept, and of any other datum a number
+abbrev pub IsKindOf : Column → Content → Type 0
+IsKindOf column (Number n) = is_rate column.datum ≡ false
+IsKindOf column (Rate kept) = (is_rate column.datum ≡ true) × (kept.period ≡ column.period)
+
+-- what is kept in a column: of its datum, of its kind, and in the datum's range
+pub record IsFieldOf (column : Column) (field : Field) : Type 0 where
+  pub datum : field.datum ≡ column.datum
+  pub kind : IsKindOf column field.content
+  pub range : IsInRange field.datum field.content
+
+-- the fields are those of the columns, in their order
+abbrev pub AreFieldsOf : List Column → List Field → Type 0
+AreFieldsOf [] [] = Unit {0}
+AreFieldsOf (column ∷ columns) (field ∷ fields) = IsFieldOf column field × AreFieldsOf columns fields
+AreFieldsOf [] (field ∷ fields) = ⊥
+AreFieldsOf (column ∷ columns) [] = ⊥
+
+-- a record's data are the table's columns; nothing is kept of the current connections
+abbrev pub AreDataOf : List Column → List Field → Type 0
+AreDataOf columns fields = AreFieldsOf (filter is_kept columns) fields
+
+-- ---- states
 
 abbrev pub number_in : Ticket × Key → ℕ
 number_in held = held.0.number
@@ -28,3 +61,4 @@ pub record IsLegal (state : State) : Type 0 where
   pub numbers_past : All (λ held. number_in held ≤ state.events) state.tickets
   pub slots_differ : IsDistinct nat_eq (map slot_in state.tickets)
   pub slots_below : All (λ held. slot_in held < state.spec.max_refs) state.tickets
+  pub values : All (λ (entry : Key × Record). AreDataOf state.spec.columns entry.1.values) state.records

@@ -3,6 +3,7 @@ use Rattle.std.specs.Prelude.{ℕ, ◌≤◌, ◌<◌, ◌^◌, IfSome, List, []
 use Rattle.stick_key.specs.declared.kind.KeyType.{KeyType}
 use Rattle.stick_key.specs.declared.kind.KeyType.TheVariants.{Text}
 use Rattle.stored_data.specs.Data.{greatest}
+use Rattle.stored_data.specs.Laws.{HasTag}
 use Rattle.table_model.specs.declared.specification.Spec.{Spec}
 use Rattle.table_model.specs.declared.rows.Cell.{Cell}
 use Rattle.table_model.specs.declared.events.Event.{Event}
@@ -36,7 +37,13 @@ abbrev pub pairs_of : Event → List Cell
 pairs_of (Put now key pairs) = pairs
 pairs_of _ = []
 
--- its moment is at most 2^62 - 1 ms, and each value that it puts is in the range of its datum
+-- a tag that it sets has 32 bits
+abbrev pub HasItsTag : Event → Type 0
+HasItsTag (Count now ticket act) = HasTag act
+HasItsTag _ = Unit {0}
+
+-- its moment is at most 2^62 - 1 ms, each value that it puts is in the range of its datum, and so is a tag that it sets
 pub record IsTableEvent (event : Event) : Type 0 where
   pub moment : moment_of event < 2 ^ 62
   pub values : All (λ (pair : Cell). pair.value ≤ greatest pair.datum) (pairs_of event)
+  pub tag : HasItsTag event

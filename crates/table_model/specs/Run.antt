@@ -1,5 +1,5 @@
 -- Runs: one event after another.
-use Rattle.std.specs.Prelude.{◌≡◌, ℕ, List, [], ◌∷◌, map, take, drop, Some, unwrap_or, IfSome, IsTrue, ◌⊎◌}
+use Rattle.std.specs.Prelude.{◌≡◌, ℕ, ◌≤◌, List, [], ◌∷◌, length, map, take, drop, Some, unwrap_or, IfSome, IsTrue, ◌⊎◌}
 use Rattle.table_model.specs.State.{State}
 use Rattle.table_model.specs.Step.{Outcome, Step, slot_of, is_free_slot, after}
 use Rattle.table_model.specs.Refusals.{has_life, IsRefused}
@@ -21,12 +21,18 @@ abbrev pub RefusesFirst : State → List Event → Refusal → Type 0
 RefusesFirst state [] refusal = ⊥
 RefusesFirst state (event ∷ events) refusal = IsRefused state event refusal
 
--- where a run stopped: so many events were answered, and the next one was refused, or there was no memory for its reply
+-- there was no memory for the list of the replies, and so none of those that were asked was made
+pub record HasNoRoom (done asked : ℕ) (refusal : Refusal) : Type 0 where
+  pub none : done ≡ 0
+  pub some : 1 ≤ asked
+  pub memory : refusal ≡ Memory
+
+-- where a run stopped: before its first event, for want of room for the replies; or so many events were answered, and the next one was refused
 pub record RunStops (old : State) (events : List Event) (refusal : Refusal) (new : State) : Type 0 where
   pub done : ℕ
   pub replies : List Reply
   pub run : Run old (take done events) replies new
-  pub why : (refusal ≡ Memory) ⊎ RefusesFirst new (drop done events) refusal
+  pub why : HasNoRoom done (length events) refusal ⊎ RefusesFirst new (drop done events) refusal
 
 -- ---- stored calls
 
@@ -74,8 +80,8 @@ abbrev pub CanRedoAll : State → List Stored → Type 0
 CanRedoAll old [] = Unit {0}
 CanRedoAll old (call ∷ calls) = CanRedo old call × CanRedoAll (redone old call).1 calls
 
--- where calls that are made again stopped: so many were answered, and the next one was refused, or there was no memory for its reply
+-- where calls that are made again stopped: before the first, for want of room for the replies; or so many were answered, and the next one was refused
 pub record RedoStops (old : State) (calls : List Stored) (refusal : Refusal) (new : State) : Type 0 where
   pub done : ℕ
   pub made : (redone_all old (take done calls)).1 ≡ new
-  pub why : (refusal ≡ Memory) ⊎ RefusesFirst new (events_of (drop done calls)) refusal
+  pub why : HasNoRoom done (length calls) refusal ⊎ RefusesFirst new (events_of (drop done calls)) refusal

@@ -1,6 +1,6 @@
 //! Laws of stick tables: what every run of every table keeps. Each is the contract of a function that does nothing.
 
-ghost use Rattle.table_model.specs.Laws.{CountLaw, EmptyLegalLaw, ExpiryLaw, JoinLaw, LimitLaw, NeverLostLaw, OneRunLaw, PurgeLaw, RedoLaw, ReferenceLaw, RunLegalLaw, StepLegalLaw, TallyLaw, TicketsLaw};
+ghost use Rattle.table_model.specs.Laws.{CountLaw, EmptyLegalLaw, ExpiryLaw, JoinLaw, LastingLaw, LimitLaw, NeverLostLaw, OneRunLaw, PurgeLaw, RedoLaw, ReferenceLaw, RunLegalLaw, StepLegalLaw, StoredCountLaw, StoredJoinLaw, TallyLaw, TicketsLaw};
 
 /// The limit law: in every run from a legal state, for every key and limit, at most `limit` references of the key are
 /// out that had, in this run, a look whose row has at most `limit` references.
@@ -29,6 +29,22 @@ pub fn join()
     ensures { JoinLaw }
 {}
 
+/// A run of stored calls counts as many events as it has calls, and tells as many replies.
+pub fn stored_count()
+    ensures { StoredCountLaw }
+{}
+
+/// A run over two lists of stored calls joined is a run over the one, then the other.
+pub fn stored_join()
+    ensures { StoredJoinLaw }
+{}
+
+/// Stored calls that had life left where they were made are, when they are made again, refused for want of memory
+/// alone: no life ends under them, and each of their references is out.
+pub fn lasting()
+    ensures { LastingLaw }
+{}
+
 /// A reply tells all that becomes of the references: `Tracked` is one more, `Released` that of its event less, and any
 /// other leaves them as they are.
 pub fn tickets()
@@ -40,12 +56,12 @@ pub fn empty_legal()
     ensures { EmptyLegalLaw }
 {}
 
-/// A step of an event that has life left keeps a state legal.
+/// A step of an event that a table takes, and that has life left, keeps a state legal.
 pub fn step_legal()
     ensures { StepLegalLaw }
 {}
 
-/// In a run from a legal state that ends within the life, the state at each place is legal.
+/// In a run from a legal state, of events that a table takes, that ends within the life, the state at each place is legal.
 pub fn run_legal()
     ensures { RunLegalLaw }
 {}

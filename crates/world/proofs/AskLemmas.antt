@@ -5,6 +5,7 @@ use Rattle.std.specs.Option.{option_and_then}
 use Rattle.std.proofs.lemmas.List.{length-map, length-set, map-set}
 use Rattle.std.proofs.lemmas.Option.{slice_get-get_or, slice_get-map, slice_get_within}
 use Rattle.table_model.specs.Step.{is_out}
+use Rattle.table_model.specs.Limits.{IsTableEvent}
 use Rattle.table_model.specs.declared.events.Event.TheVariants.{Release}
 use Rattle.table_model.specs.declared.rows.Ticket.{Ticket}
 use Rattle.table_model.specs.declared.replies.Refusal.{Refusal}
@@ -41,12 +42,13 @@ has_shard tables table shard named has is =
 
 -- its book answered
 answered_at : (tables : List (Named BooksState)) (call : Call) (reply : Reply) (named : Named BooksState) (after : BooksState) → HasShard (table_states tables) call.table call.shard → named ≡ get_or tables call.table named
-    → LivesAt (live_states named.keeper) call.shard call.event → ExtendsAt named.keeper call.shard connections_seat call.event reply after
+    → IsTableEvent call.event → LivesAt (live_states named.keeper) call.shard call.event → ExtendsAt named.keeper call.shard connections_seat call.event reply after
     → AnswersAt (table_states tables) call reply (table_states (slice_set tables call.table (record { name = named.name; keeper = after })))
-answered_at tables call reply named after has is lives extends =
+answered_at tables call reply named after has is taken lives extends =
     let spec : after.spec ≡ named.keeper.spec = ap (λ (b : BooksState). b.spec) extends.others in
     let count : length after.books ≡ length named.keeper.books = ap (λ (b : BooksState). length b.books) extends.others ∙ length-set named.keeper.books call.shard extends.after in
     record {
+      taken = taken;
       before = seen named;
       after = after;
       at = at_table tables call.table call.shard named has is;
@@ -56,10 +58,10 @@ answered_at tables call reply named after has is lives extends =
     }
 
 pub asked_ok : (result : Result Reply Refusal) (tables : List (Named BooksState)) (call : Call) (named : Named BooksState) (after : BooksState) → HasShard (table_states tables) call.table call.shard → named ≡ get_or tables call.table named
-    → OnOk result (LivesAt (live_states named.keeper) call.shard call.event) → IfOk result (λ reply. ExtendsAt named.keeper call.shard connections_seat call.event reply after)
+    → IsTableEvent call.event → OnOk result (LivesAt (live_states named.keeper) call.shard call.event) → IfOk result (λ reply. ExtendsAt named.keeper call.shard connections_seat call.event reply after)
     → IfOk result (λ reply. AnswersAt (table_states tables) call reply (table_states (slice_set tables call.table (record { name = named.name; keeper = after }))))
-asked_ok (Ok reply) tables call named after has is lives extends = answered_at tables call reply named after has is lives extends
-asked_ok (Err refusal) tables call named after has is lives extends = tt
+asked_ok (Ok reply) tables call named after has is taken lives extends = answered_at tables call reply named after has is taken lives extends
+asked_ok (Err refusal) tables call named after has is taken lives extends = tt
 
 pub asked_err : (result : Result Reply Refusal) (tables : List (Named BooksState)) (call : Call) (named : Named BooksState) → HasShard (table_states tables) call.table call.shard → named ≡ get_or tables call.table named
     → IfErr result (λ refusal. IsRefusedAt (live_states named.keeper) call.shard call.event refusal)

@@ -1,5 +1,5 @@
 -- A move keeps the tables those of their setup, and each book's record but for the calls behind it.
-use Rattle.std.proofs.Common.{◌≡◌, ◌⊎◌, inl, inr, ⊎_elim, ℕ, zero, suc, ◌<◌, ◌^◌, refl, sym, ap, subst, ◌∙◌, rules, Bool, true, false, List, [], ◌∷◌, ◌++◌, length, slice_get, slice_set, Option, Some, None, option_map}
+use Rattle.std.proofs.Common.{◌≡◌, ◌⊎◌, inl, inr, ⊎_elim, ℕ, zero, suc, refl, sym, ap, subst, ◌∙◌, Bool, true, false, List, [], ◌∷◌, ◌++◌, length, slice_get, slice_set, Option, Some, None, option_map}
 use Rattle.std.proofs.lemmas.List.{length-set}
 use Rattle.std.proofs.lemmas.Option.{slice_get-map}
 use Rattle.rule_model.specs.declared.sections.NamedSpec.{NamedSpec}
@@ -8,48 +8,20 @@ use Rattle.table_model.specs.Limits.{IsTableEvent}
 use Rattle.table_model.specs.Refusals.{has_life}
 use Rattle.table_model.specs.State.{State}
 use Rattle.table_model.specs.declared.events.Event.{Event}
-use Rattle.table_model.specs.declared.events.Event.TheVariants as events
 use Rattle.table_model.specs.declared.replies.Reply.{Reply}
-use Rattle.table_model.specs.declared.rows.Ticket.{Ticket}
 use Rattle.shard_book.specs.BookState.{BookState, Extends, IsBook, recorded}
 use Rattle.shard_book.specs.BooksState.{AreBooks, BooksState, ExtendsAt, LivesAt, live_states}
 use Rattle.shard_book.proofs.BookLemmas.{book_more}
 use Rattle.shard_book.proofs.BooksLemmas.{extended_are_books}
 use Rattle.admit_core.specs.Connection.{Connection, need}
-use Rattle.admit_core.specs.Held.{held_at}
-use Rattle.admit_core.specs.declared.held.Held.{Held}
 use Rattle.admit_core.specs.declared.need.Need.{Need}
 use Rattle.admit_core.specs.declared.need.Need.TheVariants as needs
 use Rattle.world.proofs.CountLemmas.{some_same}
-use Rattle.world.specs.Calls.{AnswersAt, call_by, call_of, connections_seat}
+use Rattle.world.specs.Calls.{AnswersAt, call_of, connections_seat}
 use Rattle.world.specs.Moves.{Makes, Moves, MovesBy}
 use Rattle.world.specs.Tables.{AreTablesOf, IsTableOf, TableState}
 use Rattle.world.specs.declared.call.Call.{Call}
 use Rattle.world.specs.declared.reference.Reference.{Reference}
-
--- ---- the events that connections make
-
--- one that puts nothing, at a moment that a table takes
-key_taken : (now : ℕ) → now < 2 ^ 62 → ((key : List ℕ) → IsTableEvent (events.Get now key)) × ((key : List ℕ) → IsTableEvent (events.Track now key))
-key_taken now moment = (λ key. record { moment = moment; values = search rules }, λ key. record { moment = moment; values = search rules })
-
-same_call : (a b : Call) → Some a ≡ Some b → a ≡ b
-same_call a b e = cc
-
-by_taken : (ask : Ticket → Event) (held : Option (ℕ × Reference)) (call : Call) → ((ticket : Ticket) → IsTableEvent (ask ticket)) → call_by ask held ≡ Some call → IsTableEvent call.event
-by_taken ask None call taken is = cc
-by_taken ask (Some entry) call taken is =
-    subst (λ (c : Call). IsTableEvent c.event) (same_call (record { table = entry.0; shard = entry.1.shard; event = ask entry.1.ticket }) call is) (taken entry.1.ticket)
-
-pub call_taken : (shards now : ℕ) (held : Held Reference) (wanted : Need) (call : Call) → now < 2 ^ 62 → call_of shards now held wanted ≡ Some call → IsTableEvent call.event
-call_taken shards now held (needs.Get table key) call moment is = subst (λ (c : Call). IsTableEvent c.event) (same_call _ call is) ((key_taken now moment).0 key)
-call_taken shards now held (needs.Track slot table key) call moment is = subst (λ (c : Call). IsTableEvent c.event) (same_call _ call is) ((key_taken now moment).1 key)
-call_taken shards now held (needs.Look slot) call moment is = by_taken (λ ticket. events.Look now ticket) (held_at held slot) call (λ ticket. record { moment = moment; values = search rules }) is
-call_taken shards now held (needs.Count slot act) call moment is = by_taken (λ ticket. events.Count now ticket act) (held_at held slot) call (λ ticket. record { moment = moment; values = search rules }) is
-call_taken shards now held (needs.Release slot) call moment is = by_taken (λ ticket. events.Release now ticket) (held_at held slot) call (λ ticket. record { moment = moment; values = search rules }) is
-call_taken shards now held needs.Rest call moment is = cc
-call_taken shards now held needs.Turn call moment is = cc
-call_taken shards now held needs.Finished call moment is = cc
 
 -- ---- the books of one table
 
@@ -81,8 +53,8 @@ books_kept old after i seat event reply are extends lives taken =
 
 -- ---- all tables
 
-answered_tables : (setup : Setup) (old new : List TableState) (call : Call) (reply : Reply) → AreTablesOf setup old → IsTableEvent call.event → AnswersAt old call reply new → AreTablesOf setup new
-answered_tables setup old new call reply are taken answers =
+answered_tables : (setup : Setup) (old new : List TableState) (call : Call) (reply : Reply) → AreTablesOf setup old → AnswersAt old call reply new → AreTablesOf setup new
+answered_tables setup old new call reply are answers =
     let before : TableState = answers.before in
     let changed : TableState = record before { state = answers.after } in
     let was = are.each call.table before answers.at in
@@ -91,7 +63,7 @@ answered_tables setup old new call reply are taken answers =
     let kept : IsTableOf setup.shards was.0 changed = record {
       spec = spec ∙ was.2.spec;
       in_shards = count ∙ was.2.in_shards;
-      books = books_kept before.state answers.after call.shard connections_seat call.event reply was.2.books answers.extends answers.lives taken;
+      books = books_kept before.state answers.after call.shard connections_seat call.event reply was.2.books answers.extends answers.lives answers.taken;
     } in
     record {
       some = are.some;
@@ -105,24 +77,22 @@ answered_tables setup old new call reply are taken answers =
 
 -- ---- of a move
 
-made_tables : (setup : Setup) (old new : List TableState) (connection after : Connection Reference) (shards now : ℕ) (wanted : Need) (call : Option Call) (was_refused : Bool) → now < 2 ^ 62 → AreTablesOf setup old
-    → call_of shards now connection.progress.held wanted ≡ call → Makes old connection call new after was_refused → AreTablesOf setup new
-made_tables setup old new connection after shards now wanted call true moment are is makes = subst (AreTablesOf setup) (sym makes.1) are
-made_tables setup old new connection after shards now wanted None false moment are is makes = absurd makes
-made_tables setup old new connection after shards now wanted (Some call) false moment are is makes =
-    answered_tables setup old new call makes.0 are (call_taken shards now connection.progress.held wanted call moment is) makes.1
+made_tables : (setup : Setup) (old new : List TableState) (connection after : Connection Reference) (call : Option Call) (was_refused : Bool) → AreTablesOf setup old → Makes old connection call new after was_refused → AreTablesOf setup new
+made_tables setup old new connection after call true are makes = subst (AreTablesOf setup) (sym makes.1) are
+made_tables setup old new connection after None false are makes = absurd makes
+made_tables setup old new connection after (Some call) false are makes = answered_tables setup old new call makes.0 are makes.1
 
-tables_by : (setup : Setup) (old new : List TableState) (connection after : Connection Reference) (now : ℕ) (wanted : Need) (was_refused : Bool) → now < 2 ^ 62 → AreTablesOf setup old → MovesBy now old connection wanted new after was_refused → AreTablesOf setup new
-tables_by setup old new connection after now needs.Rest was_refused moment are moves = subst (AreTablesOf setup) (sym moves.0) are
-tables_by setup old new connection after now needs.Finished was_refused moment are moves = subst (AreTablesOf setup) (sym moves.0) are
-tables_by setup old new connection after now needs.Turn was_refused moment are moves = subst (AreTablesOf setup) (sym moves.0) are
-tables_by setup old new connection after now (needs.Get table key) was_refused moment are moves = made_tables setup old new connection after connection.setup.shards now (needs.Get table key) _ was_refused moment are refl moves
-tables_by setup old new connection after now (needs.Track slot table key) was_refused moment are moves = made_tables setup old new connection after connection.setup.shards now (needs.Track slot table key) _ was_refused moment are refl moves
-tables_by setup old new connection after now (needs.Look slot) was_refused moment are moves = made_tables setup old new connection after connection.setup.shards now (needs.Look slot) _ was_refused moment are refl moves
-tables_by setup old new connection after now (needs.Count slot act) was_refused moment are moves = made_tables setup old new connection after connection.setup.shards now (needs.Count slot act) _ was_refused moment are refl moves
-tables_by setup old new connection after now (needs.Release slot) was_refused moment are moves = made_tables setup old new connection after connection.setup.shards now (needs.Release slot) _ was_refused moment are refl moves
+tables_by : (setup : Setup) (old new : List TableState) (connection after : Connection Reference) (now : ℕ) (wanted : Need) (was_refused : Bool) → AreTablesOf setup old → MovesBy now old connection wanted new after was_refused → AreTablesOf setup new
+tables_by setup old new connection after now needs.Rest was_refused are moves = subst (AreTablesOf setup) (sym moves.0) are
+tables_by setup old new connection after now needs.Finished was_refused are moves = subst (AreTablesOf setup) (sym moves.0) are
+tables_by setup old new connection after now needs.Turn was_refused are moves = subst (AreTablesOf setup) (sym moves.0) are
+tables_by setup old new connection after now (needs.Get table key) was_refused are moves = made_tables setup old new connection after (call_of connection.setup.shards now connection.progress.held (needs.Get table key)) was_refused are moves
+tables_by setup old new connection after now (needs.Track slot table key) was_refused are moves = made_tables setup old new connection after (call_of connection.setup.shards now connection.progress.held (needs.Track slot table key)) was_refused are moves
+tables_by setup old new connection after now (needs.Look slot) was_refused are moves = made_tables setup old new connection after (call_of connection.setup.shards now connection.progress.held (needs.Look slot)) was_refused are moves
+tables_by setup old new connection after now (needs.Count slot act) was_refused are moves = made_tables setup old new connection after (call_of connection.setup.shards now connection.progress.held (needs.Count slot act)) was_refused are moves
+tables_by setup old new connection after now (needs.Release slot) was_refused are moves = made_tables setup old new connection after (call_of connection.setup.shards now connection.progress.held (needs.Release slot)) was_refused are moves
 
 -- the tables stay those of the setup
-pub move_tables : (now : ℕ) (setup : Setup) (old : List TableState) (connection : Connection Reference) (new : List TableState) (after : Connection Reference) (was_refused : Bool) → now < 2 ^ 62 → AreTablesOf setup old
+pub move_tables : (now : ℕ) (setup : Setup) (old : List TableState) (connection : Connection Reference) (new : List TableState) (after : Connection Reference) (was_refused : Bool) → AreTablesOf setup old
     → Moves now old connection new after was_refused → AreTablesOf setup new
-move_tables now setup old connection new after was_refused moment are moves = tables_by setup old new connection after now (need connection) was_refused moment are moves
+move_tables now setup old connection new after was_refused are moves = tables_by setup old new connection after now (need connection) was_refused are moves

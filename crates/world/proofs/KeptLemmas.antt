@@ -122,7 +122,7 @@ move_kept now setup old connection new after was_refused moment are covered live
     let balanced = move_balance now setup old connection new after was_refused are covered lived.given (lived_free connection lived) moves in
     record {
       balance = balanced.balance;
-      tables = move_tables now setup old connection new after was_refused moment are moves;
+      tables = move_tables now setup old connection new after was_refused are moves;
       covered = balance_covers old new connection.progress after.progress balanced covered;
       same = move_lived now setup old connection new after was_refused are lived moves;
     }

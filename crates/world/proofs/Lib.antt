@@ -28,3 +28,4 @@ pub mod GoneLemmas
 pub mod LimitedLemmas
 pub mod RunLemmas
 pub mod ScheduleLemmas
+pub mod JoinLemmas

@@ -3,6 +3,7 @@ use Rattle.std.specs.Prelude.{◌≡◌, ◌⊎◌, ℕ, Bool, true, false, Opti
 use Rattle.stick_key.specs.Shard.{shard}
 use Rattle.table_model.specs.State.{State}
 use Rattle.table_model.specs.Step.{is_out}
+use Rattle.table_model.specs.Limits.{IsTableEvent}
 use Rattle.table_model.specs.declared.rows.Ticket.{Ticket}
 use Rattle.table_model.specs.declared.events.Event.{Event}
 use Rattle.table_model.specs.declared.events.Event.TheVariants as events
@@ -42,8 +43,9 @@ call_of shards now held _ = None
 abbrev pub connections_seat : ℕ
 connections_seat = 1
 
--- the shard has life left for the event, its book answers it and records the call; all others stay
+-- the event is one that a table takes, the shard has life left for it, its book answers it and records the call; all others stay
 pub record AnswersAt (old : List TableState) (call : Call) (reply : Reply) (new : List TableState) : Type 0 where
+  pub taken : IsTableEvent call.event
   pub before : TableState
   pub after : BooksState
   pub at : slice_get old call.table ≡ Some before

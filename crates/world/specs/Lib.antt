@@ -7,3 +7,4 @@ pub mod Balance
 pub mod World
 pub mod WorldCode
 pub mod Limit
+pub mod Schedules

@@ -1,4 +1,4 @@
-use Rattle.std.proofs.Common.{◌≡◌, List, take, drop}
+use Rattle.std.proofs.Common.{◌≡◌, ◌≤◌, List, take, drop, length, vec_len, vec_capacity}
 use Rattle.table_model.specs.State.{State}
 use Rattle.table_model.specs.Run.{LastingRun, CanRedoAll, redone_all}
 use Rattle.table_model.specs.declared.replies.Reply.{Reply}
@@ -6,7 +6,9 @@ use Rattle.stick_table.proofs.redoing.redo_all.Given as goal
 
 abbrev pub invariant-loop-call : goal.invariant-loop-call
 invariant-loop-call l = record {
-  done : redone_all l.fn.table (take l.call-index l.calls) ≡ (l.replies, l.table);
+  done : redone_all l.fn.table (take l.call-index l.calls) ≡ (l.replies.items, l.table);
   slots : CanRedoAll l.table (drop l.call-index l.calls);
   lasts : (replies : List Reply) (new : State) → LastingRun l.fn.table l.calls replies new → (rest : List Reply) × LastingRun l.table (drop l.call-index l.calls) rest new;
+  used : vec_len l.replies ≡ l.call-index;
+  room : length l.calls ≤ vec_capacity l.replies;
 }

@@ -1,6 +1,10 @@
-use Rattle.std.proofs.Common.{take}
+use Rattle.std.proofs.Common.{◌≡◌, ◌≤◌, take, length, vec_len, vec_capacity}
 use Rattle.table_model.specs.Run.{Run}
 use Rattle.stick_table.proofs.running.run.Given as goal
 
 abbrev pub invariant-loop-event : goal.invariant-loop-event
-invariant-loop-event g l = Run (g.T.Table.state l.fn.table) (take l.event-index l.events) l.replies (g.T.Table.state l.table)
+invariant-loop-event g l = record {
+  run : Run (g.T.Table.state l.fn.table) (take l.event-index l.events) l.replies.items (g.T.Table.state l.table);
+  used : vec_len l.replies ≡ l.event-index;
+  room : length l.events ≤ vec_capacity l.replies;
+}

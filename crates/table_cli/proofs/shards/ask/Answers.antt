@@ -7,4 +7,4 @@ pub returns-in-Err-in_key_order-clause-asks : goal.returns-in-Err-in_key_order-c
 returns-in-Err-in_key_order-clause-asks g c =
     let K = g.K.Keeper in
     let asked = c.in-Ok.ensures.asks in
-    (asked.0, Some OutOfMemory, asks_then_no_memory K.answers K.refuses c.args.event _ _ asked.0 asked.1 _ asked.3.0 asked.2, ap Some (sym c.in-Err-in_key_order.ensures.memory))
+    (asked.0, Some OutOfMemory, asks_then_no_memory K.answers K.refuses c.args.event _ _ asked.0 asked.1 _ asked.3.0 (c.in-Ok.ensures.rows c.in-Err-in_key_order.ensures.rows) asked.2, ap Some (sym c.in-Err-in_key_order.ensures.memory))

@@ -1,16 +1,17 @@
-use Rattle.std.proofs.Common.{◌<◌, ◌^◌, ◌++◌, [], ◌∷◌, Some, None, append-nil, refl, sym, ◌∙◌, ap, subst, rules, arith}
+use Rattle.std.proofs.Common.{◌<◌, ◌^◌, ◌++◌, [], ◌∷◌, Some, None, append-nil, inl, refl, sym, ◌∙◌, ap, subst, rules, arith}
 use Rattle.table_model.specs.declared.events.Event.{Event}
 use Rattle.shard_book.specs.Keeping.{IsAnswer}
 use Rattle.table_cli.specs.Shards.{Ends}
 use Rattle.command_text.specs.declared.message.Message.TheVariants.{OutOfMemory}
-use Rattle.table_cli.proofs.ShardLemmas.{counted, counted-more, later, ends_all, ends_here, ends_in_memory, goes_more, range-more, range-none, so_far_of, so_far-more, so_far-none, so_far-total}
+use Rattle.table_cli.proofs.ShardLemmas.{asks_shown, asks_shown-together, counted, counted-more, later, ends_all, ends_here, ends_in_memory, goes_more, range-more, range-none, so_far_of, so_far-more, so_far-none, so_far-total}
 use Rattle.table_cli.proofs.shards.ask_all.Goals as goal
 
 pub returns-in-Err-clause-asks : goal.returns-in-Err-clause-asks
 returns-in-Err-clause-asks g c =
     let K = g.K.Keeper in
-    let asked = c.loop-shard.invariant.asked in
-    (asked.0 ++ [], Some OutOfMemory, asked.2 [] (Some OutOfMemory) _ (ends_in_memory K.answers K.refuses c.args.event.now _ _), refl)
+    let here = c.loop-shard.invariant in
+    let below : c.loop-shard.shard < K.parts c.args.keeper.now = omega (arith, here.end, c.loop-shard-test.true) in
+    (here.asked.0 ++ [], Some OutOfMemory, here.asked.2 [] (Some OutOfMemory) _ (ends_here K.answers K.refuses c.args.event.now _ _ _ c.loop-shard.shard _ (range-more _ _ below) (inl refl)), refl)
 
 pub returns-in-Err-ask_shard-clause-asks : goal.returns-in-Err-ask_shard-clause-asks
 returns-in-Err-ask_shard-clause-asks g c =
@@ -36,7 +37,9 @@ returns-in-Err-added-clause-asks g c =
     let below : c.loop-shard.shard < K.parts c.args.keeper.now = omega (arith, here.end, c.loop-shard-test.true) in
     let answered = subst (λ (event : Event). K.answers (K.state c.loop-shard.keeper) c.loop-shard.shard event c.in-Ok-ask_shard.reply (K.state c.ask_shard.new.keeper)) c.in-Ok.ensures c.in-Ok-ask_shard.ensures.ok in
     let more = goes_more K.answers K.refuses c.args.event.now _ _ _ _ _ _ c.loop-shard.shard here.asked.0 c.in-Ok-ask_shard.reply (range-more _ _ below) here.asked.2 answered in
-    (_, Some OutOfMemory, more [] (Some OutOfMemory) _ (ends_in_memory K.answers K.refuses c.args.event.now _ _), ap Some (sym c.in-Err-added.ensures.memory))
+    let told = subst (λ (event : Event). IsAnswer event c.in-Ok-ask_shard.reply) c.in-Ok.ensures c.in-Ok-ask_shard.ensures.answer in
+    let asks = asks_shown c.args.event.now c.in-Ok-ask_shard.reply told c.in-Err-added.ensures.rows in
+    (_, Some OutOfMemory, more [] (Some OutOfMemory) _ (ends_in_memory K.answers K.refuses c.args.event.now _ _ asks), ap Some (sym c.in-Err-added.ensures.memory))
 
 pub loop-shard-preserved : goal.loop-shard-preserved
 loop-shard-preserved g c =
@@ -52,6 +55,7 @@ loop-shard-preserved g c =
         so_far-more here.asked.0 c.loop-shard.so_far c.in-Ok-ask_shard.reply c.in-Ok-added.all here.asked.1 c.in-Ok-added.ensures.added,
         goes_more K.answers K.refuses c.args.event.now _ _ _ _ _ _ c.loop-shard.shard here.asked.0 c.in-Ok-ask_shard.reply (range-more _ _ below) here.asked.2 answered,
       );
+      rows = rw c.in-Ok-added.ensures.added (asks_shown-together c.args.event.now c.loop-shard.so_far c.in-Ok-ask_shard.reply here.rows (asks_shown c.args.event.now _ told));
       counted = rw c.in-Ok-added.ensures.added (counted-more c.loop-shard.shard c.loop-shard.so_far _ here.counted (counted c.args.event.now _ c.requires.asked told));
       table = search rules;
       parts = search rules;

@@ -2,6 +2,7 @@ use Rattle.std.proofs.Common.{◌≡◌, ◌≤◌, ◌-◌, ◌*◌, ◌^◌, L
 use Rattle.std.specs.List.{range_with_len}
 use Rattle.table_model.specs.declared.replies.Reply.{Reply}
 use Rattle.table_cli.specs.Counted.{IsCounted}
+use Rattle.table_cli.specs.Shards.{AsksWhatIsShown}
 use Rattle.table_cli.proofs.ShardLemmas.{GoesOn, so_far_of}
 use Rattle.table_cli.proofs.shards.ask_all.Given as goal
 
@@ -13,6 +14,7 @@ invariant-loop-shard g l =
     record {
       asked : (replies : List Reply) × (so_far_of replies ≡ l.so_far)
           × GoesOn K.answers K.refuses l.event (range_with_len 0 shards) (K.state l.fn.keeper) (range_with_len l.shard (shards - l.shard)) (K.state l.keeper) replies;
+      rows : IfSome l.so_far (AsksWhatIsShown l.event);
       counted : IfSome l.so_far (IsCounted (l.shard * 2 ^ 30));
       table : K.table l.keeper ≡ K.table l.fn.keeper;
       parts : K.parts l.keeper ≡ shards;

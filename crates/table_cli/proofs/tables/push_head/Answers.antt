@@ -1,5 +1,7 @@
 use Rattle.std.proofs.Common.{Some, refl}
 use Rattle.command_text.specs.declared.message.Message.TheVariants.{OutOfMemory}
+use Rattle.table_model.specs.declared.events.Event.TheVariants.{List as ListRows}
+use Rattle.table_model.specs.declared.filters.Filter.TheVariants.{Nothing}
 use Rattle.table_cli.proofs.ShardLemmas.{asks_then_no_memory}
 use Rattle.table_cli.proofs.tables.push_head.Goals as goal
 
@@ -7,4 +9,4 @@ pub returns-in-Err-push_header-clause-asks : goal.returns-in-Err-push_header-cla
 returns-in-Err-push_header-clause-asks g c =
     let K = g.K.Keeper in
     let asked = c.in-Ok.ensures.asks in
-    (asked.0, Some OutOfMemory, asks_then_no_memory K.answers K.refuses _ _ _ asked.0 asked.1 _ asked.3.0 asked.2, refl)
+    (asked.0, Some OutOfMemory, asks_then_no_memory K.answers K.refuses (ListRows c.args.moment Nothing) _ _ asked.0 asked.1 _ asked.3.0 refl asked.2, refl)
