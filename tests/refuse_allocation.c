@@ -1,5 +1,7 @@
-/* Loaded before the C library: the allocation whose number REFUSED_ALLOCATION names fails, and all others succeed. */
+/* Loaded before the C library: the allocation whose number REFUSED_ALLOCATION names fails, and all others succeed. Where
+   COUNTED_ALLOCATIONS names a file, it has their number in the end. */
 #include <stddef.h>
+#include <stdio.h>
 #include <stdlib.h>
 
 extern void *__libc_malloc(size_t size);
@@ -22,4 +24,15 @@ void *malloc(size_t size)
 void *realloc(void *block, size_t size)
 {
     return is_refused() ? NULL : __libc_realloc(block, size);
+}
+
+__attribute__((destructor)) static void tell(void)
+{
+    const char *path = getenv("COUNTED_ALLOCATIONS");
+    long counted = calls;
+    FILE *file = path != NULL && path[0] != '\0' ? fopen(path, "w") : NULL;
+    if (file != NULL) {
+        fprintf(file, "%ld\n", counted);
+        fclose(file);
+    }
 }

@@ -11,3 +11,5 @@ mod reckoning;
 mod stored;
 #[cfg(test)]
 mod trials;
+#[cfg(test)]
+mod worked;

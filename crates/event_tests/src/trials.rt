@@ -2,6 +2,7 @@
 ghost use Rattle.std.specs.Prelude.{◌≤◌, ◌<◌, ◌^◌, IfSome};
 ghost use Rattle.stored_data.specs.Data.{is_rate};
 ghost use Rattle.stored_data.specs.Stored.{IsPeriod};
+ghost use Rattle.table_model.specs.Limits.{IsTableEvent};
 
 use crate::draws;
 use crate::reckoning::{Limits, Reckoning};
@@ -9,7 +10,7 @@ use random_numbers::Random;
 use std::alloc::{AllocError, Global};
 use std::test::Fail;
 use stick_key::KeyType;
-use stick_table::{PlainTable, Spec, Table};
+use stick_table::{Event, PlainTable, Refusal, Reply, Spec, Stored, Table};
 use stored_data::{Column, Datum, StoredSet};
 
 /// Adds a column that isn't there.
@@ -83,13 +84,14 @@ fn open(alloc: Global, limits: Limits) -> Result<PlainTable, AllocError>
     )
 }
 
-/// A table, what it is reckoned to be, and the events drawn for it.
+/// A table, what it is reckoned to be by each of two replies to every event, and the events drawn for it.
 #[derive(Drop)]
 struct Trial {
     alloc: Global,
     random: Random,
     table: PlainTable,
     plain: Reckoning,
+    again: Reckoning,
 }
 
 impl Trial {
@@ -101,6 +103,7 @@ impl Trial {
             random,
             table: open(alloc, limits)?,
             plain: Reckoning::new(alloc, limits),
+            again: Reckoning::new(alloc, limits),
         })
     }
 
@@ -110,13 +113,52 @@ impl Trial {
             && self.table.tickets().len() == self.plain.held.len()
     }
 
-    /// One event; answers whether the table answers as reckoned.
+    /// Whether both replies to an event, or the refusal of it, are as reckoned.
+    fn agree(
+        &mut self,
+        now: u64,
+        event: &Event,
+        replies: Result<(Reply, Reply), Refusal>,
+    ) -> Result<bool, AllocError> {
+        match replies {
+            Ok((first, second)) => Ok(
+                self.plain.agrees(now, event, &Ok(first))?
+                    && self.again.agrees(now, event, &Ok(second))?,
+            ),
+            Err(refusal) => self.plain.agrees(now, event, &Err(refusal)),
+        }
+    }
+
+    /// One event, done by the table, and then by a plain copy of what it was before; answers whether both are as
+    /// reckoned.
+    #[tactic(auto, using(table_model::proofs::RunLemmas::can_redo))]
+    fn redo(&mut self, now: u64, event: Event) -> Result<bool, AllocError>
+        requires { IsTableEvent event }
+    {
+        let mut copy = self.table.to_plain()?;
+        match self.table.step(&event) {
+            Ok(reply) => {
+                let slot = reply.slot();
+                let stored = Stored { event, slot };
+                match copy.redo(&stored) {
+                    Ok(redone) => self.agree(now, &stored.event, Ok((reply, redone))),
+                    Err(_) => Ok(false),
+                }
+            }
+            Err(refusal) => self.agree(now, &event, Err(refusal)),
+        }
+    }
+
+    /// One event, replied twice or made again; answers whether the replies are as reckoned.
     fn event(&mut self) -> Result<bool, AllocError> {
         let kind = self.random.below(20);
         let now = draws::moment(&mut self.random, &self.plain);
         let event = draws::event(self.alloc, &mut self.random, &self.plain, kind, now)?;
-        let answer = self.table.step(&event);
-        self.plain.agrees(now, &event, &answer)
+        if self.random.below(2) == 0 {
+            return self.redo(now, event);
+        }
+        let replies = self.table.step_twice(&event);
+        self.agree(now, &event, replies)
     }
 }
 

@@ -11,4 +11,6 @@ mod random_order;
 #[cfg(test)]
 mod random_pool;
 #[cfg(test)]
+mod spread;
+#[cfg(test)]
 mod worked;

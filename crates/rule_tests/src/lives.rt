@@ -1,5 +1,6 @@
 //! The wants of connections, one letter each, in the order that HAProxy's manual has for tracking, counting and giving
-//! back. Expected values come from its words: a session is counted where it is accepted, bytes once it is closed.
+//! back. Expected values come from its words: a session is counted where it is accepted, bytes once it is closed. What they
+//! hold are references that can't be dropped, so that each has to come back.
 
 ghost use Rattle.std.specs.Prelude.{◌≡◌, false, is_some};
 ghost use Rattle.admit_core.specs.Conn.{progress_of};
@@ -57,8 +58,21 @@ fn setup(alloc: Global, rejects: bool) -> Result<Setup, NoMemory> {
     })
 }
 
-/// Answers what a connection wants, as a table with room does, and shows what it was.
-fn drive(alloc: Global, conn: &mut Conn<'_, u32>) -> u8
+/// A reference. It isn't `Drop`: who has it has to take it apart, or to hand it on.
+struct Reference {
+    table: u32,
+}
+
+impl Reference {
+    /// The number of its table, once it is given back.
+    fn end(self) -> u32 {
+        let Reference { table } = self;
+        table
+    }
+}
+
+/// Answers what a connection wants, as a table with room does, and shows what it was. The first releases are refused.
+fn drive(alloc: Global, conn: &mut Conn<'_, Reference>, refusals: &mut u32) -> u8
     requires { is_some (progress_of conn.old).given ≡ false }
     ensures { is_some (progress_of conn.new).given ≡ false }
 {
@@ -68,7 +82,7 @@ fn drive(alloc: Global, conn: &mut Conn<'_, u32>) -> u8
             b'g'
         }
         Ok(Need::Track { table, .. }) => {
-            conn.take(Answer::Tracked, Some(table));
+            conn.take(Answer::Tracked, Some(Reference { table }));
             b't'
         }
         Ok(Need::Count { .. }) => {
@@ -76,9 +90,14 @@ fn drive(alloc: Global, conn: &mut Conn<'_, u32>) -> u8
             b'c'
         }
         Ok(Need::Release { .. }) => {
-            let _reference = conn.give();
+            let reference = conn.give();
+            if let Some(left) = refusals.checked_sub(1) {
+                *refusals = left;
+                conn.refused(Some(reference));
+                return b'x';
+            }
             conn.take(Answer::Released, None);
-            b'r'
+            if reference.end() == 0 { b'r' } else { b'?' }
         }
         Ok(Need::Rest) => {
             conn.close(100, 200);
@@ -100,8 +119,27 @@ fn drive(alloc: Global, conn: &mut Conn<'_, u32>) -> u8
     }
 }
 
-/// Whether a connection's wants are these, until it ends with nothing held.
-fn lives(alloc: Global, rejects: bool, wanted: &[u8]) -> bool {
+/// Whether nothing was held; what was is taken apart.
+fn is_none(held: Option<(u32, Reference)>) -> bool {
+    match held {
+        None => true,
+        Some((table, reference)) => {
+            let _same = reference.end() == table;
+            false
+        }
+    }
+}
+
+/// Whether a connection ends with nothing held.
+fn has_ended(conn: Conn<'_, Reference>) -> bool {
+    let is_ended = conn.phase() == Phase::Ended;
+    let (sc0, sc1, sc2) = conn.end();
+    let (first, second, third) = (is_none(sc0), is_none(sc1), is_none(sc2));
+    is_ended && first && second && third
+}
+
+/// Whether a connection's wants are these, its first releases being refused, until it ends with nothing held.
+fn lives(alloc: Global, rejects: bool, refused: u32, wanted: &[u8]) -> bool {
     let Ok(setup) = setup(alloc, rejects) else {
         return false;
     };
@@ -111,19 +149,26 @@ fn lives(alloc: Global, rejects: bool, wanted: &[u8]) -> bool {
         dst_port: 0,
     };
     let mut conn = Conn::new(&setup, samples);
+    let mut refusals = refused;
     let mut same = true;
     for want in wanted {
-        same = drive(alloc, &mut conn) == *want && same;
+        same = drive(alloc, &mut conn, &mut refusals) == *want && same;
     }
-    same && conn.phase() == Phase::Ended && conn.held(Slot::Sc0).is_none()
+    has_ended(conn) && same
 }
 
 #[test]
 fn accepted_counts_its_session_and_its_bytes(rt: HostRuntime) {
-    assert!(rt; lives(rt.alloc(), false, b"tc>-ccr>."));
+    assert!(rt; lives(rt.alloc(), false, 0, b"tc>-ccr>."));
 }
 
 #[test]
 fn rejected_counts_nothing(rt: HostRuntime) {
-    assert!(rt; lives(rt.alloc(), true, b"t>r>."));
+    assert!(rt; lives(rt.alloc(), true, 0, b"t>r>."));
+}
+
+#[test]
+fn a_refused_release_is_wanted_again(rt: HostRuntime) {
+    assert!(rt; lives(rt.alloc(), false, 2, b"tc>-ccxxr>."));
+    assert!(rt; lives(rt.alloc(), true, 1, b"t>xr>."));
 }

@@ -1,13 +1,8 @@
-//! Tests that cross the crates: worked examples, refusals, and devices that fail.
+//! Tests of scripts over memory, for what the built program can't show: fronts of a script, devices that fail, and tables
+//! with few references or a short life.
 #![tactic(auto)]
 
 #[cfg(test)]
-mod connections;
-#[cfg(test)]
-mod kinds;
-#[cfg(test)]
 mod replays;
 #[cfg(test)]
-mod tables;
-#[cfg(test)]
-mod tracking;
+mod small_tables;

@@ -7,129 +7,129 @@ use script::{FaultKind, ReplayFault, built_in_setup, replay_script};
 use std::alloc::{AllocError, Global};
 use std::test::Fail;
 
-/// What a script writes, and why it stopped.
-#[derive(Drop)]
-struct Replayed {
-    result: Result<(), ReplayFault>,
-    written: Vec<u8>,
-}
-
-/// Replays a script that comes in pieces of so many bytes; reader and writer fail after so many.
-fn replay(
-    alloc: Global,
-    script: &[u8],
+/// How a script comes and how its answers go: so many bytes at a time, and up to which byte, if not to the end.
+#[derive(Clone, Copy)]
+struct Ports {
     piece: usize,
     read_limit: Option<usize>,
     write_limit: Option<usize>,
-) -> Result<Replayed, AllocError>
-    requires { 0 < piece }
+}
+
+/// Ports that don't fail.
+const WHOLE: Ports = Ports {
+    piece: 7,
+    read_limit: None,
+    write_limit: None,
+};
+
+/// Whether a script writes this text, and stops for this fault, if for any.
+fn writes(
+    alloc: Global,
+    script: &[u8],
+    ports: Ports,
+    text: &[u8],
+    fault: Option<ReplayFault>,
+) -> Result<bool, AllocError>
+    requires { 0 < ports.piece }
 {
     let setup = built_in_setup(alloc, 1)?;
-    let mut reader = MemorySource::new(script, piece, read_limit);
-    let mut writer = MemorySink::new(alloc, 5, write_limit);
+    let mut reader = MemorySource::new(script, ports.piece, ports.read_limit);
+    let mut writer = MemorySink::new(alloc, 5, ports.write_limit);
     let result = replay_script(alloc, &setup, &mut reader, &mut writer);
-    let written = writer.written().to_vec(alloc)?;
-    Ok(Replayed { result, written })
+    Ok(result.err() == fault && writer.written() == text)
 }
 
-/// Scripts and what they write, from the words of the formats.
-static SCRIPTS: [(&[u8], &[u8]); 20] = [
-    (b"", b""),
-    (b"\n", b""),
-    (b"\n\n", b""),
-    (
-        b"0 cmd set table t key 10.0.0.1 data.gpc0 5\n0 cmd show table t\n",
-        b"\n# table: t, type: ip, size:100, used:1\n0x0: key=10.0.0.1 use=0 exp=0 gpc0=5\n\n",
-    ),
-    (b"0 cmd show ta", b"Unknown command.\n\n"),
-    (b"0 cmd show table u", b"No such table.\n\n"),
-    (b"0 cmd show table t key 1.2.3", b"Invalid key.\n\n"),
-    (b"0 cmd set table t key 256.0.0.1", b"Invalid key.\n\n"),
-    (
-        b"0 cmd set table t key 10.0.0.1 data.gpc1 3",
-        b"Data type not stored in this table.\n\n",
-    ),
-    (
-        b"0 cmd set table t key 10.0.0.1 data.none x",
-        b"Data type not stored in this table.\n\n",
-    ),
-    (
-        b"0 cmd set table t key 10.0.0.1 data.conn_cur 3",
-        b"Data type can't be set.\n\n",
-    ),
-    (
-        b"0 cmd set table t key 10.0.0.1 data.gpc0 4294967296",
-        b"Invalid value.\n\n",
-    ),
-    (b"0 cmd clear table t key 10.0.0.1", b"Key not present.\n\n"),
-    (
-        b"0 cmd show table t\r\n",
-        b"# table: t, type: ip, size:100, used:0\n\n",
-    ),
-    (b"0 cmd ; ;", b""),
-    (
-        b"0\tcmd show table t\n \n0 cmd\tshow table t\n",
-        b"bad line\nbad line\nbad line\n",
-    ),
-    (b"4611686018427387904 cmd show table t", b"bad line\n"),
-    (
-        b"4611686018427387903 cmd show table t",
-        b"# table: t, type: ip, size:100, used:0\n\n",
-    ),
-    (
-        b"0 cmd;show table t\n0 Cmd show table t\n",
-        b"bad line\nbad line\n",
-    ),
-    (
-        b"0 cmd show table t;show table;show table t",
-        b"# table: t, type: ip, size:100, used:0\n\n# table: t, type: ip, size:100, used:0\n\n# table: t, type: ip, size:100, used:0\n\n",
-    ),
-];
+/// What a front of a line is answered, up to a length of it.
+type Front = (usize, &'static [u8]);
 
-#[test]
-fn scripts_write_what_the_formats_say(rt: HostRuntime) -> Result<(), Fail> {
-    for (script, wanted) in SCRIPTS.iter() {
-        for piece in 1..4usize {
-            let replayed = replay(rt.alloc(), script, piece, None, None)?;
-            assert!(rt; replayed.result.is_ok());
-            assert_eq!(rt; replayed.written.as_slice(), *wanted);
-        }
-    }
-    Ok(())
-}
+/// A line of a script, and what each front of it is answered, the last being what it is answered itself.
+type Line = (&'static [u8], &'static [Front]);
 
-const TWO_LINES: &[u8] = b"0 cmd set table t key 10.0.0.1 data.gpc0 5\n0 cmd show table t\n";
-
-const FIRST_LINE: usize = 43;
-
-const FIRST_ANSWER: &[u8] = b"\n";
-
+/// What shows a key whose gpc0 was set to 5.
 const LISTING: &[u8] =
     b"# table: t, type: ip, size:100, used:1\n0x0: key=10.0.0.1 use=0 exp=0 gpc0=5\n\n";
 
-/// Up to which length a front of the first line is answered so.
-static FIRST_FRONTS: [(usize, &[u8]); 8] = [
-    (0, b""),
-    (4, b"bad line\n"),
-    (6, b""),
-    (22, b"Unknown command.\n\n"),
-    (29, b"Invalid key.\n\n"),
-    (31, b"\n"),
-    (41, b"Unknown command.\n\n"),
-    (43, b"\n"),
+/// Lines of every kind.
+static LINES: [Line; 9] = [
+    (
+        b"0 cmd set table t key 10.0.0.1 data.gpc0 5\n",
+        &[
+            (0, b""),
+            (4, b"bad line\n"),
+            (6, b""),
+            (22, b"Unknown command.\n\n"),
+            (29, b"Invalid key.\n\n"),
+            (31, b"\n"),
+            (41, b"Unknown command.\n\n"),
+            (43, b"\n"),
+        ],
+    ),
+    (
+        b"0 cmd show table t\n",
+        &[
+            (0, b""),
+            (4, b"bad line\n"),
+            (6, b""),
+            (15, b"Unknown command.\n\n"),
+            (17, b"# table: t, type: ip, size:100, used:1\n\n"),
+            (19, LISTING),
+        ],
+    ),
+    (
+        b"0 open 1 10.0.0.1 80\n",
+        &[(0, b""), (18, b"bad line\n"), (21, b"open 1 accept\n")],
+    ),
+    (
+        b"1 open 12 ::1 8\n",
+        &[(0, b""), (14, b"bad line\n"), (16, b"open 12 accept\n")],
+    ),
+    (b"\n", &[(1, b"")]),
+    (
+        b"1 open 1 10.0.0.1 80\n",
+        &[
+            (0, b""),
+            (18, b"bad line\n"),
+            (21, b"connection already open\n"),
+        ],
+    ),
+    (
+        b"5 close 1 2 3\n",
+        &[(0, b""), (12, b"bad line\n"), (14, b"close 1\n")],
+    ),
+    (
+        b"5 close 1 2 3\n",
+        &[(0, b""), (12, b"bad line\n"), (14, b"no such connection\n")],
+    ),
+    (
+        b"6 cmd show table t key 10.0.0.1; show table u\n",
+        &[
+            (0, b""),
+            (4, b"bad line\n"),
+            (6, b""),
+            (15, b"Unknown command.\n\n"),
+            (17, b"# table: t, type: ip, size:100, used:1\n\n"),
+            (19, LISTING),
+            (23, b"Unknown command.\n\n"),
+            (30, b"Invalid key.\n\n"),
+            (33, LISTING),
+            (
+                42,
+                b"# table: t, type: ip, size:100, used:1\n0x0: key=10.0.0.1 use=0 exp=0 gpc0=5\n\nUnknown command.\n\n",
+            ),
+            (
+                44,
+                b"# table: t, type: ip, size:100, used:1\n0x0: key=10.0.0.1 use=0 exp=0 gpc0=5\n\n# table: t, type: ip, size:100, used:1\n\n",
+            ),
+            (
+                46,
+                b"# table: t, type: ip, size:100, used:1\n0x0: key=10.0.0.1 use=0 exp=0 gpc0=5\n\nNo such table.\n\n",
+            ),
+        ],
+    ),
 ];
 
-/// The same of the second line, behind the first.
-static SECOND_FRONTS: [(usize, &[u8]); 6] = [
-    (0, b""),
-    (4, b"bad line\n"),
-    (6, b""),
-    (15, b"Unknown command.\n\n"),
-    (17, b"# table: t, type: ip, size:100, used:1\n\n"),
-    (19, LISTING),
-];
-
-fn answer_to_front(fronts: &[(usize, &'static [u8])], length: usize) -> &'static [u8] {
+/// What a front of a line of this length is answered.
+fn answer_to_front(fronts: &[Front], length: usize) -> &'static [u8] {
     for (end, text) in fronts {
         if length <= *end {
             return text;
@@ -138,86 +138,127 @@ fn answer_to_front(fronts: &[(usize, &'static [u8])], length: usize) -> &'static
     b"none"
 }
 
-/// Whether a text is these two, one after the other.
-fn is_joined(text: &[u8], first: &[u8], second: &[u8]) -> bool {
-    text.len() == first.len() + second.len() && text.starts_with(first) && text.ends_with(second)
+/// The lines joined, what they are answered, and of each the ends of both.
+#[derive(Drop)]
+struct Whole {
+    script: Vec<u8>,
+    text: Vec<u8>,
+    script_ends: Vec<usize>,
+    text_ends: Vec<usize>,
+}
+
+fn join(alloc: Global) -> Result<Whole, AllocError> {
+    let mut whole = Whole {
+        script: Vec::new(alloc),
+        text: Vec::new(alloc),
+        script_ends: Vec::new(alloc),
+        text_ends: Vec::new(alloc),
+    };
+    for (line, fronts) in LINES.iter() {
+        whole.script.extend_from_slice(line)?;
+        whole
+            .text
+            .extend_from_slice(answer_to_front(fronts, line.len()))?;
+        whole.script_ends.push(whole.script.len())?;
+        whole.text_ends.push(whole.text.len())?;
+    }
+    Ok(whole)
+}
+
+/// How many of these ends are within so many bytes.
+fn count_ends(ends: &[usize], bytes: usize) -> u64 {
+    let mut count = 0u64;
+    for end in ends {
+        if *end <= bytes {
+            count = count.saturating_add(1);
+        }
+    }
+    count
+}
+
+/// As much of a text as there is of it.
+fn front(text: &[u8], length: usize) -> &[u8] {
+    text.get(..length).unwrap_or(b"none")
 }
 
 #[test]
 fn every_front_of_a_script_is_served(rt: HostRuntime) -> Result<(), Fail> {
-    for length in 0..TWO_LINES.len() + 1 {
-        let replayed = replay(rt.alloc(), &TWO_LINES[..length], 7, None, None)?;
-        assert!(rt; replayed.result.is_ok());
-        let (first, second) = if length <= FIRST_LINE {
-            (answer_to_front(&FIRST_FRONTS, length), b"".as_slice())
-        } else {
-            (
-                FIRST_ANSWER,
-                answer_to_front(&SECOND_FRONTS, length - FIRST_LINE),
-            )
-        };
-        assert!(rt; is_joined(&replayed.written, first, second));
+    let whole = join(rt.alloc())?;
+    let mut before = 0usize;
+    let mut wanted = Vec::new(rt.alloc());
+    for (line, fronts) in LINES.iter() {
+        for length in 0..line.len() + 1 {
+            let served = wanted.len();
+            wanted.extend_from_slice(answer_to_front(fronts, length))?;
+            let script = front(&whole.script, before.saturating_add(length));
+            assert!(rt;
+                writes(rt.alloc(), script, WHOLE, &wanted, None)?,
+                "{before} {length}"
+            );
+            wanted.truncate(served);
+        }
+        before = before.saturating_add(line.len());
+        wanted.extend_from_slice(answer_to_front(fronts, line.len()))?;
+    }
+    Ok(())
+}
+
+#[test]
+fn scripts_come_in_pieces(rt: HostRuntime) -> Result<(), Fail> {
+    let whole = join(rt.alloc())?;
+    for piece in [1usize, 2, 3, 1_000] {
+        let ports = Ports { piece, ..WHOLE };
+        assert!(rt;
+            writes(rt.alloc(), &whole.script, ports, &whole.text, None)?,
+            "{piece}"
+        );
     }
     Ok(())
 }
 
 #[test]
 fn a_writer_that_fails_has_a_front_of_the_answers(rt: HostRuntime) -> Result<(), Fail> {
-    let whole = FIRST_ANSWER.len() + LISTING.len();
-    for limit in 0..whole {
-        let replayed = replay(rt.alloc(), TWO_LINES, 7, None, Some(limit))?;
-        let done = if limit < FIRST_ANSWER.len() { 0 } else { 1 };
-        let wanted = ReplayFault {
+    let whole = join(rt.alloc())?;
+    for limit in 0..whole.text.len() {
+        let ports = Ports {
+            write_limit: Some(limit),
+            ..WHOLE
+        };
+        let done = count_ends(&whole.text_ends, limit);
+        let fault = ReplayFault {
             kind: FaultKind::WriteFault,
             done,
         };
-        assert!(rt; replayed.result == Err(wanted));
-        let rest = limit.saturating_sub(FIRST_ANSWER.len()).min(LISTING.len());
-        let first = limit.min(FIRST_ANSWER.len());
-        assert!(rt; is_joined(&replayed.written, &FIRST_ANSWER[..first], &LISTING[..rest]));
+        let text = front(&whole.text, limit);
+        assert!(rt;
+            writes(rt.alloc(), &whole.script, ports, text, Some(fault))?,
+            "{limit}"
+        );
     }
     Ok(())
 }
 
 #[test]
 fn a_reader_that_fails_has_served_the_lines_before(rt: HostRuntime) -> Result<(), Fail> {
-    for limit in 0..TWO_LINES.len() {
-        let replayed = replay(rt.alloc(), TWO_LINES, 7, Some(limit), None)?;
-        let done = if limit < FIRST_LINE { 0 } else { 1 };
-        let wanted = ReplayFault {
+    let whole = join(rt.alloc())?;
+    for limit in 0..whole.script.len() {
+        let ports = Ports {
+            read_limit: Some(limit),
+            ..WHOLE
+        };
+        let done = count_ends(&whole.script_ends, limit);
+        let fault = ReplayFault {
             kind: FaultKind::ReadFault,
             done,
         };
-        assert!(rt; replayed.result == Err(wanted));
-        let text = if limit < FIRST_LINE {
-            b"".as_slice()
-        } else {
-            FIRST_ANSWER
+        let end = match done.checked_sub(1) {
+            Some(last) => whole.text_ends.get(last as usize).copied().unwrap_or(0),
+            None => 0,
         };
-        assert!(rt; replayed.written.as_slice() == text);
-    }
-    Ok(())
-}
-
-/// A line of so many bytes `x`, and its end.
-fn long_line(alloc: Global, length: usize) -> Result<Vec<u8>, AllocError> {
-    let mut line = Vec::new(alloc);
-    for _ in 0..length {
-        line.push(b'x')?;
-    }
-    line.extend_from_slice(b"\n0 cmd show table u\n")?;
-    Ok(line)
-}
-
-#[test]
-fn a_line_that_is_too_long_is_one_bad_line(rt: HostRuntime) -> Result<(), Fail> {
-    for length in [16_384usize, 16_385, 50_000] {
-        let script = long_line(rt.alloc(), length)?;
-        let replayed = replay(rt.alloc(), &script, 4_000, None, None)?;
-        assert!(rt; replayed.result.is_ok());
-        assert_eq!(rt;
-            replayed.written.as_slice(),
-            b"bad line\nNo such table.\n\n".as_slice()
+        let text = front(&whole.text, end);
+        assert!(rt;
+            writes(rt.alloc(), &whole.script, ports, text, Some(fault))?,
+            "{limit}"
         );
     }
     Ok(())

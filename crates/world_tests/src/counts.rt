@@ -1,11 +1,10 @@
 //! What is counted of a world of connections from a few addresses.
 
-ghost use Rattle.std.specs.Prelude.{◌≡◌, ◌≤◌, ◌<◌, ◌^◌, length};
+ghost use Rattle.std.specs.Prelude.{◌≡◌, ◌<◌, length};
 ghost use Rattle.world.specs.WorldCode.{IsReached};
 
 use address_text::Address;
 use admit_core::Phase;
-use random_numbers::Random;
 use rule_eval::Samples;
 use rule_model::Slot;
 use std::alloc::Global;
@@ -42,15 +41,6 @@ pub fn out(alloc: Global, world: &World<'_, PlainTable>, shard: u32) -> Option<u
         ),
         _ => None,
     }
-}
-
-/// An element of a schedule: one of four connections, and a moment.
-pub fn element(random: &mut Random) -> (u32, u64)
-    ensures number { result.0 < 4 }
-    ensures moment { result.1 < 2 ^ 62 }
-{
-    let number = random.below(4);
-    (number, u64::from(random.below(1000)))
 }
 
 /// Whether a connection holds a reference of a shard.

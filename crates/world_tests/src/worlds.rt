@@ -4,7 +4,7 @@
 ghost use Rattle.std.specs.Prelude.{◌≡◌, ◌≤◌, ◌<◌, ◌^◌, length};
 ghost use Rattle.world.specs.WorldCode.{IsReached};
 
-use crate::counts::{admitted, element, held, out, visit};
+use crate::counts::{admitted, held, out, visit};
 use crate::setups::limiting;
 use admit_core::Phase;
 use random_numbers::Random;
@@ -48,6 +48,15 @@ fn two_judged_at_once_are_both_refused(rt: HostRuntime) {
 }
 
 // ---- in random order
+
+/// An element of a schedule: one of four connections, and a moment.
+fn element(random: &mut Random) -> (u32, u64)
+    ensures number { result.0 < 4 }
+    ensures moment { result.1 < 2 ^ 62 }
+{
+    let number = random.below(4);
+    (number, u64::from(random.below(1000)))
+}
 
 /// Whether a shard has as many references out as the four connections hold.
 fn is_balanced(alloc: Global, world: &World<'_, PlainTable>, shard: u32) -> bool
