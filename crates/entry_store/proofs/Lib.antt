@@ -1,0 +1,4 @@
+pub mod QueueLemmas
+pub mod StockLemmas
+pub mod PartLemmas
+pub mod CallLemmas
