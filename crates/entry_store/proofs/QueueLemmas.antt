@@ -4,7 +4,7 @@ use Rattle.std.specs.Prelude.{◌↔◌}
 use Rattle.std.specs.List.{AllByRecursion, IsDistinct, Contains}
 use Rattle.std.proofs.lemmas.Bool.{eqb-false, eqb-true, eq-eqb, ne_eqb}
 use Rattle.std.proofs.lemmas.List.Elements.{Contains-push, Contains-push_cases, Contains-append_left}
-use Rattle.slot_handle.proofs.DistinctSlots.{off_from_absent, distinct-push}
+use Rattle.slot_handle.proofs.DistinctSlots.{Off, off_from_absent, distinct-push, distinct-head, eqb-flip}
 use Rattle.expiry_order.specs.Queue.{without}
 use Rattle.entry_store.specs.Stock.{entered}
 
@@ -103,3 +103,12 @@ entered_others queue slot refs other apart = by_test (eqb refs 0)
     by_test : (b : Bool) → Contains (cond b (queue ++ slot ∷ []) queue) other ↔ Contains queue other
     by_test true = ((λ h. elim (Contains-push_cases queue slot other h) [ inl there ↦ there | inr same ↦ absurd (apart (sym same)) ]), (λ h. Contains-append_left queue (slot ∷ []) other h))
     by_test false = ((λ h. h), (λ h. h))
+
+-- ---- the front
+without-off : (queue : List ℕ) (slot : ℕ) → Off slot queue → without queue slot ≡ queue
+without-off [] slot off = refl
+without-off (x ∷ xs) slot off = ap (λ b. cond (not b) (x ∷ without xs slot) (without xs slot)) (eqb-flip slot x off.0) ∙ ap (λ l. x ∷ l) (without-off xs slot off.1)
+
+-- without its first slot a queue is its rest
+pub without_front : (slot : ℕ) (queue : List ℕ) → IsDistinct eqb (slot ∷ queue) → without (slot ∷ queue) slot ≡ queue
+without_front slot queue d = ap (λ b. cond (not b) (slot ∷ without queue slot) (without queue slot)) (eq-eqb slot slot refl) ∙ without-off queue slot (distinct-head slot queue d)
