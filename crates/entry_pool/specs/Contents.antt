@@ -49,6 +49,14 @@ module _ {T : Type 0} where
   abbrev pub find : Contents T → Handle → Option T
   find pool handle = value_of_generation handle.generation (entry_at pool handle.slot)
 
+  -- the handle of the slot's entry
+  abbrev pub handle_of : ℕ → Option (Entry T) → Option Handle
+  handle_of slot None = None
+  handle_of slot (Some e) = Some record { slot = slot; generation = e.generation }
+
+  abbrev pub handle_at : Contents T → ℕ → Option Handle
+  handle_at pool slot = handle_of slot (entry_at pool slot)
+
   -- how many values are live
   abbrev pub live_count : Contents T → ℕ
   live_count pool = count_by is_some pool.slots

@@ -4,7 +4,7 @@
 ghost use Rattle.std.specs.Prelude.{◌≡◌, ℕ, ◌<◌, ◌≤◌, ◌^◌, ◌↔◌, length, replicate, get_or, slice_set, Some, None, IsSome, IsErr, IfOk, IfErr, IfNone, option_copied};
 ghost use Rattle.std.specs.Option.{option_copied_mut};
 ghost use Rattle.std.specs.Borrow.{Lends, sem};
-ghost use Rattle.entry_pool.specs.Contents.{empty, entry_at, find, live_count, IsFull, IsGone, IsPool, with_inserted, without};
+ghost use Rattle.entry_pool.specs.Contents.{empty, entry_at, find, live_count, IsFull, IsGone, IsPool, with_inserted, without, handle_at as specified_handle};
 ghost use Rattle.entry_pool.specs.Slots.{IsTold, AreAllFree};
 
 mod block;
@@ -167,6 +167,24 @@ impl<T> Pool<T> {
             return None;
         }
         Some(&live.value)
+    }
+
+    /// The handle of the slot's value, for a walk over the slots: none where the slot has none, or isn't below the
+    /// capacity.
+    pub fn handle_at(&self, slot: u32) -> Option<Handle>
+        ensures { result ≡ specified_handle self.now slot }
+    {
+        let at = slot as usize;
+        if slot >= self.capacity {
+            return None;
+        }
+        if self.links[at] != FULL {
+            return None;
+        }
+        Some(Handle {
+            slot,
+            generation: self.block.get(at).generation,
+        })
     }
 
     /// The value that the handle names, to write to.

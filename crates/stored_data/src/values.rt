@@ -80,7 +80,7 @@ impl Field {
     }
 
     /// The field after an act.
-    fn acted(self, now: u64, act: Act) -> Field
+    pub(crate) fn acted(self, now: u64, act: Act) -> Field
         ensures { result ≡ changed_field now act self }
     {
         Field {
@@ -90,7 +90,7 @@ impl Field {
     }
 
     /// The field with a value, if it is that of the datum.
-    fn with_value(self, datum: Datum, value: u64) -> Field
+    pub(crate) fn with_value(self, datum: Datum, value: u64) -> Field
         ensures { result ≡ put_field datum value self }
     {
         if self.datum.place() == datum.place() {
@@ -104,7 +104,7 @@ impl Field {
     }
 
     /// What the field shows at a moment.
-    fn shown(&self, now: u64) -> u64
+    pub(crate) fn shown(&self, now: u64) -> u64
         ensures { result ≡ shown now self.now.content }
     {
         match self.content {
@@ -192,6 +192,13 @@ impl Values {
         Ok(Values {
             fields: zero_fields(alloc, set.columns())?,
         })
+    }
+
+    /// The data that these fields are.
+    pub(crate) fn from_fields(fields: Vec<Field>) -> Values
+        ensures { result ≡ fields.items }
+    {
+        Values { fields }
     }
 
     /// Puts a value into a datum, and counts in no rate. Where the datum isn't stored, or is a rate,

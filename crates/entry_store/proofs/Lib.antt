@@ -1,0 +1,6 @@
+pub mod QueueLemmas
+pub mod StockLemmas
+pub mod PartLemmas
+pub mod CallLemmas
+pub mod SlotLemmas
+pub mod CountLemmas

@@ -1,0 +1,3 @@
+pub mod Stock
+pub mod Parts
+pub mod Slots
