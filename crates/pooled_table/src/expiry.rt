@@ -42,6 +42,7 @@ pub(crate) fn drop_dead(store: &mut Store, expire: Option<u32>, clock: u64)
     ensures records { (tickets : List (Ticket × Key)) → AreCounted store.old tickets → records_of expire store.new ≡ filter (stays clock tickets) (records_of expire store.old) }
     ensures rising { IsRising store.new store.new.queue }
     ensures left { IsLeft store.old store.new }
+    ensures stock { IsStock store.new }
     ensures columns { store.new.columns ≡ store.old.columns }
     ensures newest { store.new.newest ≡ store.old.newest }
     ensures size { length store.new.slots ≡ length store.old.slots }
