@@ -48,7 +48,7 @@ module _ (expire : Option ℕ) (s : Stock) (kept : IsStock s) where
   shown-at : (slot : ℕ) (h : Held) → held_at s slot ≡ Some h → get_or (map (option_map (keyed expire)) s.slots) slot None ≡ Some (h.key, record_of expire h)
   shown-at slot h there = shown-get slot ∙ ap (option_map (keyed expire)) there
 
-  held-from : (slot : ℕ) (d : Key × Record) → get_or (map (option_map (keyed expire)) s.slots) slot None ≡ Some d → (h : Held) × (held_at s slot ≡ Some h) × (keyed expire h ≡ d)
+  pub held-from : (slot : ℕ) (d : Key × Record) → get_or (map (option_map (keyed expire)) s.slots) slot None ≡ Some d → (h : Held) × (held_at s slot ≡ Some h) × (keyed expire h ≡ d)
   held-from slot d there = keyed-is expire (held_at s slot) d (sym (shown-get slot) ∙ there)
 
   pub distinct-records : IsDistinctIn key_cmp (map (option_map (keyed expire)) s.slots)

@@ -10,6 +10,7 @@ use expiry::drop_dead;
 use sequence::NoMemory;
 use std::alloc::Global;
 use std::marker::Model;
+use stick_key::StickKey;
 use table_model::{Reply, Spec};
 use ticket_book::TicketBook;
 
@@ -39,7 +40,7 @@ impl StickTable {
     ghost use Rattle.std.specs.Prelude.{◌≡◌, ◌+◌, ◌<◌, ◌^◌, IfOk, length};
     ghost use Rattle.table_model.specs.State.{empty_table};
     ghost use Rattle.table_model.specs.Limits.{IsTableSpec};
-    ghost use Rattle.table_model.specs.Step.{begun, expire as reply_to_expire};
+    ghost use Rattle.table_model.specs.Step.{begun, clear as reply_to_clear, expire as reply_to_expire};
 
     /// An empty table, whose clock is at 0 and which has counted no event. It takes the memory of its whole size.
     pub fn open(alloc: Global, spec: Spec) -> Result<StickTable, NoMemory>
@@ -79,5 +80,21 @@ impl StickTable {
         let before = self.store.len();
         self.begin(now);
         Reply::Expired(u64::from(before.saturating_sub(self.store.len())))
+    }
+
+    fn clear(&mut self, now: u64, key: &StickKey) -> Reply
+        requires moment { now < 2 ^ 62 }
+        requires life { self.old.events + length self.old.tickets < self.old.spec.life }
+        ensures { reply_to_clear (begun self.old now) key.now ≡ (result, self.new) }
+    {
+        self.begin(now);
+        let Some(handle) = self.store.find(key) else {
+            return Reply::Absent;
+        };
+        if self.store.entry(handle.slot).refs > 0 {
+            return Reply::InUse;
+        }
+        self.store.remove(handle.slot);
+        Reply::Removed
     }
 }
