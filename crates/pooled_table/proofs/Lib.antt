@@ -1,2 +1,4 @@
 pub mod RecordLemmas
 pub mod TableLemmas
+pub mod ChangeLemmas
+pub mod CountLemmas

@@ -45,7 +45,7 @@ module _ (expire : Option ℕ) (s : Stock) (kept : IsStock s) where
   shown-get : (slot : ℕ) → get_or (map (option_map (keyed expire)) s.slots) slot None ≡ option_map (keyed expire) (held_at s slot)
   shown-get slot = get_or-map (option_map (keyed expire)) s.slots slot None
 
-  shown-at : (slot : ℕ) (h : Held) → held_at s slot ≡ Some h → get_or (map (option_map (keyed expire)) s.slots) slot None ≡ Some (h.key, record_of expire h)
+  pub shown-at : (slot : ℕ) (h : Held) → held_at s slot ≡ Some h → get_or (map (option_map (keyed expire)) s.slots) slot None ≡ Some (h.key, record_of expire h)
   shown-at slot h there = shown-get slot ∙ ap (option_map (keyed expire)) there
 
   pub held-from : (slot : ℕ) (d : Key × Record) → get_or (map (option_map (keyed expire)) s.slots) slot None ≡ Some d → (h : Held) × (held_at s slot ≡ Some h) × (keyed expire h ≡ d)

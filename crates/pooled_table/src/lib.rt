@@ -11,7 +11,8 @@ use sequence::NoMemory;
 use std::alloc::Global;
 use std::marker::Model;
 use stick_key::StickKey;
-use table_model::{Reply, Spec};
+use stored_data::Act;
+use table_model::{Reply, Spec, Ticket};
 use ticket_book::TicketBook;
 
 /// A table whose every event costs the same whatever its size.
@@ -40,7 +41,7 @@ impl StickTable {
     ghost use Rattle.std.specs.Prelude.{◌≡◌, ◌+◌, ◌<◌, ◌^◌, IfOk, length};
     ghost use Rattle.table_model.specs.State.{empty_table};
     ghost use Rattle.table_model.specs.Limits.{IsTableSpec};
-    ghost use Rattle.table_model.specs.Step.{begun, clear as reply_to_clear, expire as reply_to_expire};
+    ghost use Rattle.table_model.specs.Step.{begun, clear as reply_to_clear, count as reply_to_count, expire as reply_to_expire};
 
     /// An empty table, whose clock is at 0 and which has counted no event. It takes the memory of its whole size.
     pub fn open(alloc: Global, spec: Spec) -> Result<StickTable, NoMemory>
@@ -96,5 +97,17 @@ impl StickTable {
         }
         self.store.remove(handle.slot);
         Reply::Removed
+    }
+
+    fn count(&mut self, now: u64, ticket: Ticket, act: Act) -> Reply
+        requires moment { now < 2 ^ 62 }
+        requires life { self.old.events + length self.old.tickets < self.old.spec.life }
+        ensures { reply_to_count (begun self.old now) ticket act ≡ (result, self.new) }
+    {
+        self.begin(now);
+        let Some(slot) = self.book.find(ticket) else {
+            return Reply::Absent;
+        };
+        Reply::Value(self.store.act(slot, self.clock, act))
     }
 }
