@@ -1,0 +1,4 @@
+pub mod RecordLemmas
+pub mod TableLemmas
+pub mod ChangeLemmas
+pub mod CountLemmas
