@@ -17,7 +17,7 @@ length-cut zero width words = refl
 length-cut (suc count) width words = let rest = length-cut count width (drop width words) in omega (arith, rest)
 
 -- a row lies within the words
-pub fits : (count width at total : ℕ) → at < count → total ≡ count * width → at * width + width ≤ total
+fits : (count width at total : ℕ) → at < count → total ≡ count * width → at * width + width ≤ total
 fits count width at total inside is =
     let wide : suc at * width ≤ count * width = mul-le (suc at) width count width (omega arith) (omega arith) in
     let next = suc-mul at width in
@@ -73,29 +73,38 @@ cut-write (suc count) width (suc k) words row inside sized long =
     ∙ ap (λ rows. take width words ∷ rows) (cut-write count width k (drop width words) row (omega arith) (rest-long count width words sized) long)
 
 -- ---- the rows as a contract sees them
-pub below : (columns : List Column) (count width at : ℕ) (words : List ℕ) (g : Grid) → grid columns (rows_in columns count width words) ≡ g → at < length g.rows → at < count
+below : (columns : List Column) (count width at : ℕ) (words : List ℕ) (g : Grid) → grid columns (rows_in columns count width words) ≡ g → at < length g.rows → at < count
 below columns count width at words g is inside =
     let sized : length g.rows ≡ count = ap (λ (x : Grid). length x.rows) (sym is) ∙ length-map (cut count width words) (fields_in columns) ∙ length-cut count width words in
     omega arith
 
-pub read : (columns : List Column) (count width at : ℕ) (words : List ℕ) (g : Grid) → grid columns (rows_in columns count width words) ≡ g → at < count → fields_in columns (words_at words at width) ≡ row_at g at
-read columns count width at words g is inside = sym (rows-read columns count width at words [] inside) ∙ ap (λ (x : Grid). row_at x at) is
+-- a row that a contract sees lies within the words
+pub lies : (columns : List Column) (count width at total : ℕ) (words : List ℕ) (g : Grid) → grid columns (rows_in columns count width words) ≡ g → at < length g.rows → total ≡ count * width → at * width + width ≤ total
+lies columns count width at total words g is inside sized = fits count width at total (below columns count width at words g is inside) sized
+
+pub read : (columns : List Column) (count width at : ℕ) (words : List ℕ) (g : Grid) → grid columns (rows_in columns count width words) ≡ g → at < length g.rows → fields_in columns (words_at words at width) ≡ row_at g at
+read columns count width at words g is inside = sym (rows-read columns count width at words [] (below columns count width at words g is inside)) ∙ ap (λ (x : Grid). row_at x at) is
+
+-- the columns and a row's words, by whatever names they are had, are the row's data
+pub read-as : (columns found : List Column) (count width at : ℕ) (words row : List ℕ) (g : Grid) → grid columns (rows_in columns count width words) ≡ g → at < length g.rows → found ≡ columns → row ≡ words_at words at width
+    → fields_in found row ≡ row_at g at
+read-as columns found count width at words row g is inside same taken = ap (λ columns. fields_in columns row) same ∙ ap (fields_in columns) taken ∙ read columns count width at words g is inside
 
 -- a row's words were written, and mean these data
-pub write : (columns : List Column) (count width at : ℕ) (old new : List ℕ) (fields : List Field) (g : Grid) → grid columns (rows_in columns count width old) ≡ g → at < count → length old ≡ count * width
+pub write : (columns : List Column) (count width at : ℕ) (old new : List ℕ) (fields : List Field) (g : Grid) → grid columns (rows_in columns count width old) ≡ g → at < length g.rows → length old ≡ count * width
     → length (words_at new at width) ≡ width → new ≡ with_words old at width (words_at new at width) → fields_in columns (words_at new at width) ≡ fields
     → grid columns (rows_in columns count width new) ≡ with_row g at fields
 write columns count width at old new fields g is inside sized long elsewhere shows =
     ap (λ words. grid columns (rows_in columns count width words)) elsewhere
-    ∙ ap (λ rows. grid columns (map (fields_in columns) rows)) (cut-write count width at old (words_at new at width) inside sized long)
+    ∙ ap (λ rows. grid columns (map (fields_in columns) rows)) (cut-write count width at old (words_at new at width) (below columns count width at old g is inside) sized long)
     ∙ ap (grid columns) (map-set (fields_in columns) (cut count width old) at (words_at new at width))
     ∙ ap (λ row. grid columns (set (rows_in columns count width old) at row)) shows
     ∙ ap (λ (x : Grid). with_row x at fields) is
 
 -- and are as many
-pub sized-write : (count width at : ℕ) (old new : List ℕ) → at < count → length old ≡ count * width → length (words_at new at width) ≡ width → new ≡ with_words old at width (words_at new at width) → length new ≡ count * width
-sized-write count width at old new inside sized long elsewhere =
-    let within = fits count width at (length old) inside sized in
+pub sized-write : (columns : List Column) (count width at : ℕ) (old new : List ℕ) (g : Grid) → grid columns (rows_in columns count width old) ≡ g → at < length g.rows → length old ≡ count * width → length (words_at new at width) ≡ width → new ≡ with_words old at width (words_at new at width) → length new ≡ count * width
+sized-write columns count width at old new g is inside sized long elsewhere =
+    let within = lies columns count width at (length old) old g is inside sized in
     let joined : length new ≡ length (take (at * width) old) + (length (words_at new at width) + length (drop (at * width + width) old)) =
     ap length elsewhere ∙ length-append (take (at * width) old) (words_at new at width ++ drop (at * width + width) old) ∙ ap (λ n. length (take (at * width) old) + n) (length-append (words_at new at width) (drop (at * width + width) old)) in
     omega (arith, joined, within, length-take (at * width) old, length-drop (at * width + width) old)
