@@ -4,3 +4,4 @@ pub mod NeedLemmas
 pub mod HistoryLemmas
 pub mod KeepingLemmas
 pub mod ShownLemmas
+pub mod LeftLemmas

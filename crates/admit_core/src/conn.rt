@@ -81,6 +81,13 @@ impl<'a, R> Conn<'a, R> {
         }
     }
 
+    /// How many shards each table of its setup has.
+    pub fn shards(&self) -> u32
+        ensures { result ≡ (judged_by self.now).shards }
+    {
+        self.eval.shards()
+    }
+
     /// How far it is.
     pub fn phase(&self) -> Phase
         ensures { result ≡ (progress_of self.now).phase }

@@ -3,13 +3,14 @@
 ghost use Rattle.std.specs.Prelude.{◌≡◌, ◌<◌};
 
 use byte_ports::{MemorySink, MemorySource};
+use moments::StoppedClock;
 use sequence::Sequence;
-use shard_book::Books;
+use shard_book::{Books, Named};
 use std::alloc::{AllocError, Global};
 use stick_key::KeyType;
 use stick_table::{PlainTable, Spec};
 use stored_data::StoredSet;
-use table_cli::{CliFault, CommandService, Named, StoppedClock};
+use table_cli::{CliFault, CommandService};
 
 /// A service of commands for tests.
 type Service = CommandService<Books<PlainTable>, StoppedClock>;

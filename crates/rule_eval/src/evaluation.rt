@@ -129,6 +129,14 @@ impl<'a> Eval<'a> {
         Eval { case, point }
     }
 
+    /// How many shards each table of its setup has.
+    #[tactic(auto, unfolding(crate::specs::Eval::setup_of))]
+    pub fn shards(&self) -> u32
+        ensures { result ≡ (setup_of self.now).shards }
+    {
+        self.case.setup.shards
+    }
+
     /// What is wanted next, or the verdict. Only a key that is a text takes memory.
     pub fn want(&self, alloc: Global) -> Result<Want, NoMemory>
         ensures wanted { IfOk result (λ want. want ≡ remaining self.now []) }

@@ -3,8 +3,8 @@ use Rattle.std.proofs.Common.{◌≡◌, ℕ, ap, subst, ◌∙◌, List, [], �
 use Rattle.line_text.specs.Chain.{Chain, StopsIn}
 use Rattle.shard_book.specs.BooksState.{BooksState}
 use Rattle.table_cli.specs.Answers.{Answers, AnswersLine, commands_of}
-use Rattle.table_cli.specs.Tables.{CommandState}
-use Rattle.world.specs.Tables.{TableState}
+use Rattle.table_cli.specs.States.{CommandState}
+use Rattle.connection_drive.specs.Tables.{TableState}
 use Rattle.script.specs.Script.{answering, at_moment, refusing, standing}
 
 clock_stands : (commands : List (List ℕ)) (old : CommandState BooksState ℕ) (text : List ℕ) (new : CommandState BooksState ℕ) → Chain (Answers answering refusing standing) old commands text new → new.clock ≡ old.clock

@@ -13,8 +13,8 @@ use Rattle.command_text.specs.Seen.{words_of}
 use Rattle.command_text.specs.declared.message.Message.{Message}
 use Rattle.table_cli.specs.Answers.{Answers, AsksOf, Does, HeadAt, Says as SaysForm, ShowsTables, place_of}
 use Rattle.table_cli.specs.Shards.{AsksInTurn, shards_of}
-use Rattle.table_cli.specs.Tables.{CommandState}
-use Rattle.world.specs.Tables.{TableState}
+use Rattle.table_cli.specs.States.{CommandState}
+use Rattle.connection_drive.specs.Tables.{TableState}
 use Rattle.script.specs.Script.{answering, refusing, standing}
 
 abbrev pub HasBooks : TableState → Type 0

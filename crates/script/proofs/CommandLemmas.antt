@@ -20,11 +20,11 @@ use Rattle.command_text.specs.Seen.{words_of}
 use Rattle.command_text.specs.declared.message.Message.{Message}
 use Rattle.table_cli.specs.Answers.{Answers, AsksOf, Does, HeadAt, Says as SaysForm, ShowsTables, place_of}
 use Rattle.table_cli.specs.Shards.{AsksInTurn, shards_of}
-use Rattle.table_cli.specs.Tables.{CommandState}
-use Rattle.world.specs.Balance.{times_of, times_out}
-use Rattle.world.specs.Tables.{TableState, shard_of}
-use Rattle.world.specs.declared.reference.Reference.{Reference}
-use Rattle.world.proofs.TicketLemmas.{times}
+use Rattle.table_cli.specs.States.{CommandState}
+use Rattle.connection_drive.specs.Balance.{times_of, times_out}
+use Rattle.connection_drive.specs.Tables.{TableState, shard_of}
+use Rattle.connection_drive.specs.declared.reference.Reference.{Reference}
+use Rattle.connection_drive.proofs.TicketLemmas.{times}
 use Rattle.script.specs.Script.{answering, refusing, standing}
 use Rattle.script.proofs.EventLemmas.{LeavesReferences, asks_leaves, step_keeps}
 

@@ -6,7 +6,7 @@ use Rattle.std.proofs.lemmas.Bool.Decides.{nat_tests}
 use Rattle.std.proofs.lemmas.List.Elements.{All-from_recursion, recursion_from_All}
 use Rattle.std.proofs.lemmas.List.Sums.{sum_by-cons}
 use Rattle.table_model.proofs.TestLemmas.{eq-from}
-use Rattle.world.proofs.CountLemmas.{some_same}
+use Rattle.connection_drive.proofs.SumLemmas.{some_same}
 use Rattle.script.specs.declared.guests.Guest.{Guest}
 use Rattle.script.specs.Guests.{guest_of, id_in, without}
 

@@ -16,11 +16,11 @@ use Rattle.admit_core.specs.declared.need.Need.{Need}
 use Rattle.admit_core.specs.declared.need.Need.TheVariants as needs
 use Rattle.admit_core.specs.declared.need.Phase.{Phase}
 use Rattle.admit_core.specs.declared.need.Phase.TheVariants.{New, Judging, Admitted, Rejected, Ended}
-use Rattle.world.specs.Calls.{answer_of, call_of, heard, reference_of}
+use Rattle.connection_drive.specs.Calls.{answer_of, call_of, heard, reference_of}
 use Rattle.admit_core.specs.Left.{is_still}
-use Rattle.world.specs.Moves.{Goes, Makes, MovesBy}
-use Rattle.world.specs.Tables.{TableState}
-use Rattle.world.specs.declared.reference.Reference.{Reference}
+use Rattle.connection_drive.specs.Moves.{Goes, Makes, MovesBy}
+use Rattle.connection_drive.specs.Tables.{TableState}
+use Rattle.connection_drive.specs.declared.reference.Reference.{Reference}
 
 -- ---- one that is still
 

@@ -22,16 +22,15 @@ use Rattle.admit_core.specs.declared.need.Need.TheVariants.{Rest}
 use Rattle.admit_core.specs.declared.need.Phase.TheVariants.{Admitted, Ended}
 use Rattle.shard_book.specs.BooksState.{AreBooks}
 use Rattle.table_cli.specs.Answers.{commands_of}
-use Rattle.world.specs.Balance.{IsCovered, times_by, times_out}
-use Rattle.world.specs.Lived.{IsLived}
-use Rattle.world.specs.Moves.{Settles}
-use Rattle.world.specs.World.{begun}
-use Rattle.world.specs.Tables.{AreTablesOf, CanOpen, IsTableOf, TableState}
-use Rattle.world.specs.declared.reference.Reference.{Reference}
-use Rattle.world.proofs.CountLemmas.{some_same}
-use Rattle.world.proofs.KeptLemmas.{IsKept, settles_kept}
-use Rattle.world.proofs.LivedLemmas.{arrived_lived, closed_lived}
-use Rattle.world.proofs.WorldLemmas.{IsWorld, begun_world, once_out}
+use Rattle.connection_drive.specs.Balance.{IsCovered, times_by, times_out}
+use Rattle.connection_drive.specs.Lived.{IsLived}
+use Rattle.connection_drive.specs.Moves.{ComesToRest}
+use Rattle.connection_drive.specs.Tables.{AreTablesOf, CanOpen, IsTableOf, TableState}
+use Rattle.connection_drive.specs.declared.reference.Reference.{Reference}
+use Rattle.connection_drive.proofs.SumLemmas.{some_same}
+use Rattle.connection_drive.proofs.KeepingLemmas.{IsKept, rest_kept}
+use Rattle.connection_drive.proofs.LivedLemmas.{arrived_lived, closed_lived}
+use Rattle.connection_drive.proofs.StartLemmas.{nothing_out, once_out, opened_tables}
 use Rattle.script.specs.Guests.{IsOpen, IsServed, MayBe, ScriptState, guest_of, id_in, progress_in, times_held, without}
 use Rattle.script.specs.Laws.{ReferencesLaw}
 use Rattle.script.specs.Script.{Line, Empty, Bad, Commands, Open, Close, ClosesAt, IsJudged, LineSays, OpensAt, OpensFrom, Says, admitted, at_moment, line_of, samples_of}
@@ -150,11 +149,11 @@ judged_served moment id samples old text new timely free judged are =
     let connection : Connection Reference = arrived old.setup samples in
     let conn : Conn Reference = judged.0 in
     let after : Connection Reference = judged.1 in
-    let settles : Settles moment old.tables connection new.tables after = judged.3 in
+    let comes : ComesToRest moment old.tables connection new.tables after = judged.3 in
     let kept : IsKept old.setup old.tables connection new.tables after =
-    settles_kept moment old.setup old.tables connection new.tables after timely are.tables (nothing_covered old.tables old.setup samples) (arrived_lived old.setup samples) settles in
+    rest_kept moment old.setup old.tables connection new.tables after timely are.tables (nothing_covered old.tables old.setup samples) (arrived_lived old.setup samples) comes in
     let guests : List Guest = old.guests ++ admitted after.progress.phase id conn in
-    let more : Added old id after guests = added old id conn after are free judged.2 kept.same.setup kept.same.lived (goes_empty moment settles.count old.tables connection new.tables after (λ new. absurd (cc)) settles.goes) (still_rests after kept.same.lived.given settles.still) in
+    let more : Added old id after guests = added old id conn after are free judged.2 kept.same.setup kept.same.lived (goes_empty moment comes.count old.tables connection new.tables after (λ new. absurd (cc)) comes.goes) (still_rests after kept.same.lived.given comes.still) in
     let now : ScriptState = record old { tables = new.tables; guests = guests } in
     let served : IsServed now = record {
       tables = kept.tables;
@@ -216,16 +215,16 @@ closes_served (Some guest) moment id bytes_in bytes_out old text new timely is c
     let connection : Connection Reference = closes.0 in
     let after : Connection Reference = closes.1 in
     let it : MayBe old.setup guest connection = closes.2 in
-    let settles : Settles moment old.tables (closed connection bytes_in bytes_out) new.tables after = closes.3 in
+    let comes : ComesToRest moment old.tables (closed connection bytes_in bytes_out) new.tables after = closes.3 in
     let same : connection.progress ≡ progress_in guest = sym it.stands.progress in
     let stays : IsOpen guest = all_at IsOpen id old.guests guest is are.open_all in
     let phase : connection.progress.phase ≡ Admitted = ap (λ (p : Progress Reference). p.phase) same ∙ stays.phase in
     let kept : IsKept old.setup old.tables (closed connection bytes_in bytes_out) new.tables after =
-    settles_kept moment old.setup old.tables (closed connection bytes_in bytes_out) new.tables after timely are.tables
-    (subst (λ (p : Progress Reference). IsCovered old.tables p.held) (sym same) (guest_covered old id guest is are)) (closed_lived connection bytes_in bytes_out it.lived) settles in
-    let empty : EndsEmpty after.progress = goes_empty moment settles.count old.tables (closed connection bytes_in bytes_out) new.tables after (λ ended. absurd (admitted_ended (sym phase ∙ ended))) settles.goes in
-    let had : after.progress.bytes ≡ Some (bytes_in, bytes_out) = goes_bytes moment settles.count old.tables (closed connection bytes_in bytes_out) new.tables after settles.goes in
-    let ended : after.progress.phase ≡ Ended = closed_ends after (bytes_in, bytes_out) had (still_rests after kept.same.lived.given settles.still) in
+    rest_kept moment old.setup old.tables (closed connection bytes_in bytes_out) new.tables after timely are.tables
+    (subst (λ (p : Progress Reference). IsCovered old.tables p.held) (sym same) (guest_covered old id guest is are)) (closed_lived connection bytes_in bytes_out it.lived) comes in
+    let empty : EndsEmpty after.progress = goes_empty moment comes.count old.tables (closed connection bytes_in bytes_out) new.tables after (λ ended. absurd (admitted_ended (sym phase ∙ ended))) comes.goes in
+    let had : after.progress.bytes ≡ Some (bytes_in, bytes_out) = goes_bytes moment comes.count old.tables (closed connection bytes_in bytes_out) new.tables after comes.goes in
+    let ended : after.progress.phase ≡ Ended = closed_ends after (bytes_in, bytes_out) had (still_rests after kept.same.lived.given comes.still) in
     let now : ScriptState = record old { tables = new.tables; guests = without id old.guests } in
     let served : IsServed now = record {
       tables = kept.tables;
@@ -260,8 +259,7 @@ lines_served old (line ∷ lines) text new are chain =
 pub start_served : (setup : Setup) → CanOpen setup → IsServed (start setup)
 unfolding IsDistinct
 start_served setup can =
-    let world : IsWorld setup (begun setup []) = begun_world setup [] can in
-    record { tables = world.tables; balance = world.balance; ids_differ = tt; open_all = search rules; judged = search rules }
+    record { tables = opened_tables setup can; balance = λ reference. sym (nothing_out setup reference); ids_differ = tt; open_all = search rules; judged = search rules }
 
 -- ---- the law
 

@@ -5,10 +5,10 @@ use Rattle.rule_model.specs.declared.sections.Setup.{Setup}
 use Rattle.admit_core.specs.Conn.{Stands, progress_of}
 use Rattle.admit_core.specs.Connection.{Connection, Progress}
 use Rattle.admit_core.specs.declared.need.Phase.TheVariants.{Admitted}
-use Rattle.world.specs.Balance.{times_by, times_out}
-use Rattle.world.specs.Tables.{AreTablesOf, TableState}
-use Rattle.world.specs.declared.reference.Reference.{Reference}
-use Rattle.world.specs.Lived.{IsLived}
+use Rattle.connection_drive.specs.Balance.{times_by, times_out}
+use Rattle.connection_drive.specs.Tables.{AreTablesOf, TableState}
+use Rattle.connection_drive.specs.declared.reference.Reference.{Reference}
+use Rattle.connection_drive.specs.Lived.{IsLived}
 use Rattle.script.specs.declared.guests.Guest.{Guest}
 
 -- what is served, the tables in order of declaration, and the open connections, the oldest first

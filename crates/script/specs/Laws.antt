@@ -2,7 +2,7 @@
 use Rattle.std.specs.Prelude.{ℕ, List}
 use Rattle.line_service.specs.Service.{ServesAll}
 use Rattle.rule_model.specs.declared.sections.Setup.{Setup}
-use Rattle.world.specs.Tables.{CanOpen}
+use Rattle.connection_drive.specs.Tables.{CanOpen}
 use Rattle.script.specs.Guests.{AreHeld, ScriptState}
 use Rattle.script.specs.Script.{Says}
 use Rattle.script.specs.Start.{start}

@@ -20,10 +20,10 @@ use Rattle.admit_core.specs.declared.need.Phase.{Phase}
 use Rattle.admit_core.specs.declared.need.Phase.TheVariants.{Admitted, Rejected}
 use Rattle.table_cli.specs.Answers.{Answers, AnswersLine, commands_of}
 use Rattle.table_cli.specs.Shards.{Answering, Refusing}
-use Rattle.table_cli.specs.Tables.{CommandState, Showing}
-use Rattle.world.specs.Moves.{Settles}
-use Rattle.world.specs.Tables.{TableState}
-use Rattle.world.specs.declared.reference.Reference.{Reference}
+use Rattle.table_cli.specs.States.{CommandState, Showing}
+use Rattle.connection_drive.specs.Moves.{ComesToRest}
+use Rattle.connection_drive.specs.Tables.{TableState}
+use Rattle.connection_drive.specs.declared.reference.Reference.{Reference}
 use Rattle.script.specs.Guests.{MayBe, ScriptState, guest_of, without}
 use Rattle.script.specs.declared.guests.Guest.{Guest}
 
@@ -151,7 +151,7 @@ admitted phase id conn = []
 -- the rules of the setup judge a connection, at one moment, until it rests or is ended; where it was admitted, it is open
 abbrev pub IsJudged : ℕ → ℕ → Samples → ScriptState → List ℕ → ScriptState → Type 0
 IsJudged moment id samples old text new =
-    (conn : Conn Reference) × (after : Connection Reference) × Stands conn after × Settles moment old.tables (arrived old.setup samples) new.tables after
+    (conn : Conn Reference) × (after : Connection Reference) × Stands conn after × ComesToRest moment old.tables (arrived old.setup samples) new.tables after
     × (new ≡ record old { tables = new.tables; guests = old.guests ++ admitted after.progress.phase id conn }) × (text ≡ open_text id after.progress.phase)
 
 -- an ID that isn't open opens: its connection is judged; or its place is refused, it is rejected and nothing changes
@@ -171,7 +171,7 @@ Opens moment id address port old text new = OpensFrom (address_of address) momen
 abbrev pub ClosesAt : Option Guest → ℕ → ℕ → ℕ → ℕ → ScriptState → List ℕ → ScriptState → Type 0
 ClosesAt None moment id bytes_in bytes_out old text new = (text ≡ codes "no such connection\n") × (new ≡ old)
 ClosesAt (Some guest) moment id bytes_in bytes_out old text new =
-    (connection after : Connection Reference) × MayBe old.setup guest connection × Settles moment old.tables (closed connection bytes_in bytes_out) new.tables after
+    (connection after : Connection Reference) × MayBe old.setup guest connection × ComesToRest moment old.tables (closed connection bytes_in bytes_out) new.tables after
     × (new ≡ record old { tables = new.tables; guests = without id old.guests }) × (text ≡ close_text id)
 
 abbrev pub Closes : ℕ → ℕ → ℕ → ℕ → ScriptState → List ℕ → ScriptState → Type 0

@@ -2,8 +2,8 @@
 use Rattle.std.specs.Prelude.{◌<◌, ◌^◌, List}
 use Rattle.rule_model.specs.declared.sections.Setup.{Setup}
 use Rattle.shard_book.specs.BooksState.{BooksState}
-use Rattle.table_cli.specs.declared.named.Named.{Named}
-use Rattle.world.specs.Tables.{table_states}
+use Rattle.shard_book.specs.declared.named.Named.{Named}
+use Rattle.connection_drive.specs.Tables.{table_states}
 use Rattle.script.specs.Guests.{ScriptState}
 use Rattle.script.specs.Script as spec
 use Rattle.script.specs.declared.guests.Guest.{Guest}

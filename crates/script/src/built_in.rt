@@ -1,7 +1,7 @@
 //! What is served without a configuration.
 
 ghost use Rattle.std.specs.Prelude.{◌≡◌, ◌≤◌, IfOk};
-ghost use Rattle.world.specs.Tables.{CanOpen};
+ghost use Rattle.connection_drive.specs.Tables.{CanOpen};
 ghost use Rattle.script.specs.BuiltIn.{built_in as specified};
 
 use rule_model::{Action, KeyExpression, LIFE, MAX_REFS, Rule, Setup, Slot};

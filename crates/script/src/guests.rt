@@ -5,7 +5,7 @@ ghost use Rattle.std.specs.List.{find, IsDistinct};
 ghost use Rattle.script.specs.Guests.{guest_of, id_in, without};
 
 use admit_core::Conn;
-use world::Reference;
+use connection_drive::Reference;
 
 /// An open connection, and its ID.
 #[derive(Drop)]

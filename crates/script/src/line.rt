@@ -6,9 +6,7 @@ ghost use Rattle.script.specs.Script.{close_of, id_of, line_of, moment_of, numbe
 ghost use Rattle.script.specs.Seen.{IsTimely, seen};
 
 use line_text::{Blanks, Words, read_number};
-
-/// The greatest moment in ms.
-pub const MAX_MOMENT: u64 = (1 << 62) - 1;
+use moments::MAX_MOMENT;
 
 /// What a line is.
 #[derive(Clone, Copy)]

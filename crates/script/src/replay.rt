@@ -7,15 +7,15 @@ ghost use Rattle.line_service.specs.Service.{most_turns};
 ghost use Rattle.script.specs.Guests.{ScriptState};
 ghost use Rattle.script.specs.Script.{Says, Stops};
 ghost use Rattle.script.specs.Start.{start};
-ghost use Rattle.world.specs.Tables.{CanOpen};
+ghost use Rattle.connection_drive.specs.Tables.{CanOpen};
 
 use crate::server::ScriptServer;
 use byte_ports::{Sink, Source};
+use connection_drive::open_tables;
 use line_service::{LineFaultKind, serve_lines};
 use rule_model::Setup;
 use std::alloc::Global;
 use stick_table::PlainTable;
-use world::open_tables;
 
 /// Why a replay stopped before the script's end.
 #[derive(Clone, Copy, Debug, PartialEq, Eq)]

@@ -12,14 +12,15 @@ use crate::short_text::ShortText;
 use address_text::{Address, read_address};
 use admit_core::{Conn, Phase};
 use byte_ports::{Failed, Sink, write_all};
+use connection_drive::advance_to_rest;
 use line_service::LineServer;
+use moments::StoppedClock;
 use rule_eval::Samples;
 use rule_model::Setup;
-use shard_book::Books;
+use shard_book::{Books, Named};
 use std::alloc::Global;
 use stick_table::Table;
-use table_cli::{Named, StoppedClock, answer};
-use world::settle;
+use table_cli::answer;
 
 /// What is served, the tables that a script's lines work on, and the connections that are open.
 #[derive(Drop)]
@@ -60,13 +61,7 @@ impl<'a, T: Table> ScriptServer<'a, T> {
         }
         let samples = samples_of(self.setup, source, port);
         let mut conn = Conn::new(self.setup, samples);
-        settle(
-            self.alloc,
-            self.tables.as_mut_slice(),
-            &mut conn,
-            self.setup.shards,
-            moment,
-        );
+        advance_to_rest(self.alloc, self.tables.as_mut_slice(), &mut conn, moment);
         match conn.phase() {
             Phase::Admitted => {
                 self.guests.push_reserved(Guest { id, conn });
@@ -88,13 +83,7 @@ impl<'a, T: Table> ScriptServer<'a, T> {
         };
         let mut conn = guest.conn;
         conn.close(bytes_in, bytes_out);
-        settle(
-            self.alloc,
-            self.tables.as_mut_slice(),
-            &mut conn,
-            self.setup.shards,
-            moment,
-        );
+        advance_to_rest(self.alloc, self.tables.as_mut_slice(), &mut conn, moment);
         closed(id)
     }
 

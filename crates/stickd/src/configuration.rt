@@ -2,7 +2,7 @@
 
 ghost use Rattle.std.specs.Prelude.{◌≡◌, ◌≤◌, IfOk, IfSome};
 ghost use Rattle.rule_model.specs.Served.{AreTables, AreTableSpecs};
-ghost use Rattle.world.specs.Tables.{CanOpen};
+ghost use Rattle.connection_drive.specs.Tables.{CanOpen};
 
 use rule_config::read_config;
 use rule_model::{Config, NamedSpec, Setup};

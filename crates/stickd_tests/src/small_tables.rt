@@ -1,7 +1,7 @@
 //! Connections on a table whose references, or whose life, are few, as no configuration makes one.
 
 ghost use Rattle.std.specs.Prelude.{◌≤◌, ◌^◌, IfOk};
-ghost use Rattle.world.specs.Tables.{CanOpen};
+ghost use Rattle.connection_drive.specs.Tables.{CanOpen};
 
 use byte_ports::{MemorySink, MemorySource};
 use rule_model::{Action, KeyExpression, Rule, Slot};

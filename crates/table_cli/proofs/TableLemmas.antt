@@ -11,12 +11,12 @@ use Rattle.line_text.proofs.ChainLemmas.{Chain-more}
 use Rattle.table_cli.specs.Answers.{AsksOf, Does, HeadAt, HeadsOf, IsHead, place_of, used_of}
 use Rattle.command_text.specs.Form.{Request}
 use Rattle.command_text.specs.Request.{Asks}
-use Rattle.table_cli.specs.Tables.{NamedState, state_of, states_of}
+use Rattle.shard_book.specs.NamedTables.{NamedState, state_of, states_of}
 use Rattle.table_cli.specs.Shards.{Answering, AsksInTurn, Refusing, total}
 use Rattle.command_text.specs.Texts.{message_text}
 use Rattle.command_text.specs.declared.message.Message.{Message}
 use Rattle.command_text.specs.declared.message.Message.TheVariants.{NoSuchTable}
-use Rattle.table_cli.specs.declared.named.Named.{Named}
+use Rattle.shard_book.specs.declared.named.Named.{Named}
 use Rattle.table_model.specs.declared.events.Event.{Event}
 use Rattle.table_model.specs.declared.events.Event.TheVariants.{List as ListRows}
 use Rattle.table_model.specs.declared.filters.Filter.TheVariants as filters

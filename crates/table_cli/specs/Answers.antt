@@ -16,7 +16,8 @@ use Rattle.command_text.specs.Form.{Form, Request, Nothing, Unknown, Tables, Of,
 use Rattle.command_text.specs.Request.{Asks}
 use Rattle.command_text.specs.Seen.{words_of}
 use Rattle.table_cli.specs.Shards.{Answering, AsksInTurn, IsShown, Refusing, shards_of, total}
-use Rattle.table_cli.specs.Tables.{CommandState, NamedState, Showing}
+use Rattle.shard_book.specs.NamedTables.{NamedState}
+use Rattle.table_cli.specs.States.{CommandState, Showing}
 use Rattle.command_text.specs.Texts.{message_text, reply_text}
 use Rattle.command_text.specs.declared.message.Message.{Message}
 use Rattle.command_text.specs.declared.message.Message.TheVariants.{UnknownCommand, NoSuchTable, OutOfMemory}

@@ -1,5 +1,5 @@
 pub mod Shards
 pub mod Counted
-pub mod Tables
+pub mod States
 pub mod Answers
 pub mod Service

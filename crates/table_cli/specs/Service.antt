@@ -6,7 +6,7 @@ use Rattle.command_text.specs.declared.message.Message.TheVariants.{UnknownComma
 use Rattle.line_text.specs.Chain.{StopsIn}
 use Rattle.table_cli.specs.Answers.{Answers, AnswersLine, commands_of}
 use Rattle.table_cli.specs.Shards.{Answering, Refusing}
-use Rattle.table_cli.specs.Tables.{ServiceState, Showing, more}
+use Rattle.table_cli.specs.States.{ServiceState, Showing, more}
 
 module _ {S C : Type 0} (answers : Answering S) (refuses : Refusing S) (shows : Showing C) where
   -- a line: none, where it is too long, which is one command that has no form

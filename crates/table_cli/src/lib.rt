@@ -2,16 +2,12 @@
 //! which shards a line asks, what their replies come to, and what it is answered. `command_text` reads and prints them.
 #![tactic(auto)]
 
-mod clock;
 mod fault;
-mod named;
 mod serve;
 mod service;
 mod shards;
 mod tables;
 
-pub use clock::{Clock, StoppedClock};
 pub use fault::{CliFault, CliFaultKind};
-pub use named::Named;
 pub use serve::answer;
 pub use service::CommandService;

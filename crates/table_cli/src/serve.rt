@@ -8,7 +8,8 @@ ghost use Rattle.table_model.specs.declared.events.Event.{Event};
 ghost use Rattle.table_cli.specs.Answers.{Answers, AnswersLine, AsksOf, Does, Says, Serves, commands_of, has_words as specified_words, place_of as specified_place};
 ghost use Rattle.line_text.specs.Chain.{StopsIn};
 ghost use Rattle.table_cli.specs.Counted.{IsCommand};
-ghost use Rattle.table_cli.specs.Tables.{CommandState, state_of, states_of};
+ghost use Rattle.shard_book.specs.NamedTables.{state_of, states_of};
+ghost use Rattle.table_cli.specs.States.{CommandState};
 ghost use Rattle.command_text.specs.declared.message.Message.{Message};
 ghost use Rattle.command_text.specs.Request.{Asks};
 ghost use Rattle.command_text.specs.Bytes.{bytes_of};
@@ -17,11 +18,12 @@ ghost use Rattle.command_text.specs.Seen.{seen_request, words_of};
 
 use crate::shards::ask;
 use crate::tables::show_tables;
-use crate::{CliFault, CliFaultKind, Clock, Named};
+use crate::{CliFault, CliFaultKind};
 use byte_ports::{Failed, Sink, write_all};
 use command_text::{Answer, Form, Message, Request, read_event, read_form};
 use line_text::{Blanks, Parts, Words, without_cr};
-use shard_book::Keeper;
+use moments::Clock;
+use shard_book::{Keeper, Named};
 use std::alloc::Global;
 use table_model::Event;
 

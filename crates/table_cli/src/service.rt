@@ -7,13 +7,14 @@ ghost use Rattle.command_text.specs.declared.message.Message.{Message as ItsMess
 ghost use Rattle.line_service.specs.Service.{ServesAll, StopsAfter};
 ghost use Rattle.line_service.specs.Service.{most_turns};
 ghost use Rattle.table_cli.specs.Service.{SaysLine, StopsLine};
-ghost use Rattle.table_cli.specs.Tables.{more, service_state};
+ghost use Rattle.table_cli.specs.States.{more, service_state};
 
-use crate::{CliFault, CliFaultKind, Clock, Named, answer};
+use crate::{CliFault, CliFaultKind, answer};
 use byte_ports::{Failed, Sink, Source, write_all};
 use command_text::Message;
 use line_service::{LineFaultKind, LineServer, serve_lines};
-use shard_book::Keeper;
+use moments::Clock;
+use shard_book::{Keeper, Named};
 use std::alloc::Global;
 
 /// What serves commands: named tables, in order of declaration, and a clock.
@@ -128,7 +129,7 @@ impl<K: Keeper, C: Clock> CommandService<K, C> {
 
 impl<K: Keeper, C: Clock> LineServer for CommandService<K, C> {
     ghost use Rattle.table_cli.specs.Service.{SaysLine, StopsLine};
-    ghost use Rattle.table_cli.specs.Tables.{ServiceState, service_state};
+    ghost use Rattle.table_cli.specs.States.{ServiceState, service_state};
 
     ghost State = { ServiceState K.State C.State };
 

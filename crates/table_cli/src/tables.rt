@@ -8,14 +8,13 @@ ghost use Rattle.table_model.specs.declared.filters.Filter.TheVariants as filter
 ghost use Rattle.table_model.specs.declared.replies.Reply.{Reply as ItsReply};
 ghost use Rattle.table_cli.specs.Answers.{ShowsTables, used_of as specified_used};
 ghost use Rattle.table_cli.specs.Shards.{AsksInTurn, total};
-ghost use Rattle.table_cli.specs.Tables.{states_of};
+ghost use Rattle.shard_book.specs.NamedTables.{states_of};
 ghost use Rattle.command_text.specs.Bytes.{bytes_of};
 ghost use Rattle.command_text.specs.declared.message.Message.{Message as ItsMessage};
 
-use crate::Named;
 use crate::shards::ask;
 use command_text::{Answer, Message};
-use shard_book::Keeper;
+use shard_book::{Keeper, Named};
 use std::alloc::Global;
 use table_model::{Event, Filter, Reply};
 use table_text::push_header;

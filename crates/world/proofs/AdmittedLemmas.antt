@@ -20,12 +20,13 @@ use Rattle.rule_eval.specs.declared.wants.Verdict.TheVariants.{Accept}
 use Rattle.rule_eval.specs.declared.wants.Want.TheVariants.{Done}
 use Rattle.rule_eval.proofs.LimitLaws.{within_lem}
 use Rattle.admit_core.specs.Connection.{Connection}
-use Rattle.world.specs.Balance.{same_reference, times_by, times_held, times_in}
+use Rattle.connection_drive.specs.Balance.{same_reference, times_by, times_in}
+use Rattle.world.specs.Balance.{times_held}
 use Rattle.world.specs.Limit.{admitted_of, holds_key, is_admitted, is_in, key_held}
-use Rattle.world.specs.Tables.{shard_at}
+use Rattle.connection_drive.specs.Tables.{shard_at}
 use Rattle.world.specs.World.{WorldState}
-use Rattle.world.specs.declared.reference.Reference.{Reference}
-use Rattle.world.proofs.HereLemmas.{self_reference}
+use Rattle.connection_drive.specs.declared.reference.Reference.{Reference}
+use Rattle.connection_drive.proofs.CallLemmas.{self_reference}
 use Rattle.world.proofs.LimitLemmas.{HasTracked, IsLimited, found_among, passed_within, phase_of}
 use Rattle.world.proofs.PassedLemmas.{count_matched}
 use Rattle.world.proofs.WorldLemmas.{IsWorld, once_out}

@@ -17,20 +17,20 @@ use Rattle.admit_core.specs.Connection.{Connection, asks, need}
 use Rattle.admit_core.specs.declared.held.Held.{Held}
 use Rattle.admit_core.specs.declared.need.Need.{Need}
 use Rattle.admit_core.specs.declared.need.Need.TheVariants as needs
-use Rattle.world.specs.Calls.{call_of, fits}
+use Rattle.connection_drive.specs.Calls.{call_of, fits}
 use Rattle.world.specs.Limit.{key_held}
-use Rattle.world.specs.Lived.{IsLived}
-use Rattle.world.specs.Moves.{Makes, Moves, MovesBy}
-use Rattle.world.specs.Tables.{AreTablesOf, TableState}
-use Rattle.world.specs.declared.call.Call.{Call}
-use Rattle.world.specs.declared.reference.Reference.{Reference}
+use Rattle.connection_drive.specs.Lived.{IsLived}
+use Rattle.connection_drive.specs.Moves.{Makes, Moves, MovesBy}
+use Rattle.connection_drive.specs.Tables.{AreTablesOf, TableState}
+use Rattle.connection_drive.specs.declared.call.Call.{Call}
+use Rattle.connection_drive.specs.declared.reference.Reference.{Reference}
 use Rattle.world.proofs.GrownLemmas.{IsGrown, IsRun, grown}
 use Rattle.world.proofs.HeardLemmas.{heard_still, tracked_still}
-use Rattle.world.proofs.HeldLemmas.{refused_same}
-use Rattle.world.proofs.HereLemmas.{legal_at}
+use Rattle.connection_drive.proofs.HeldLemmas.{refused_same}
+use Rattle.connection_drive.proofs.CallLemmas.{legal_at}
 use Rattle.world.proofs.LimitLemmas.{HasTracked, Looked}
-use Rattle.world.proofs.PlaceLemmas.{after_of, before_of, replaces, step_of}
-use Rattle.world.proofs.ReplyLemmas.{reply_fits}
+use Rattle.connection_drive.proofs.ShardLemmas.{after_of, before_of, replaces, step_of}
+use Rattle.connection_drive.proofs.ReplyLemmas.{reply_fits}
 use Rattle.world.proofs.ShardLemmas.{keyed_stays}
 
 -- the shard has come by later events; looks that passed have passed for ever; a reference that stays out stays of its key;

@@ -12,12 +12,12 @@ use Rattle.table_model.specs.declared.rows.Ticket.{Ticket}
 use Rattle.table_model.specs.declared.specification.Spec.{Spec}
 use Rattle.table_model.proofs.RunLemmas.{run_more}
 use Rattle.table_model.proofs.TestLemmas.{eq-from}
-use Rattle.world.specs.Calls.{AnswersAt}
-use Rattle.world.specs.Tables.{TableState, shard_at}
-use Rattle.world.specs.declared.call.Call.{Call}
-use Rattle.world.proofs.CountLemmas.{some_same}
-use Rattle.world.proofs.HereLemmas.{eq_self}
-use Rattle.world.proofs.PlaceLemmas.{Replaces, after_of, before_of, replaces, step_of}
+use Rattle.connection_drive.specs.Calls.{AnswersAt}
+use Rattle.connection_drive.specs.Tables.{TableState, shard_at}
+use Rattle.connection_drive.specs.declared.call.Call.{Call}
+use Rattle.connection_drive.proofs.SumLemmas.{some_same}
+use Rattle.connection_drive.proofs.CallLemmas.{eq_self}
+use Rattle.connection_drive.proofs.ShardLemmas.{Replaces, after_of, before_of, replaces, step_of}
 use Rattle.world.proofs.StayLemmas.{passed_last, passed_more}
 
 -- the shard has come from an empty table by these events

@@ -43,23 +43,23 @@ use Rattle.admit_core.specs.declared.need.Need.TheVariants as needs
 use Rattle.admit_core.specs.declared.need.Phase.{Phase}
 use Rattle.admit_core.specs.declared.need.Phase.TheVariants.{New, Judging, Admitted, Rejected, Ended}
 use Rattle.admit_core.proofs.ShownLemmas.{look_law}
-use Rattle.world.specs.Calls.{AnswersAt, call_by, call_of, fits, heard}
+use Rattle.connection_drive.specs.Calls.{AnswersAt, call_by, call_of, fits, heard}
 use Rattle.world.specs.Limit.{key_held}
-use Rattle.world.specs.Lived.{IsLived}
-use Rattle.world.specs.Tables.{AreTablesOf, TableState, shard_at}
-use Rattle.world.specs.declared.call.Call.{Call}
-use Rattle.world.specs.declared.reference.Reference.{Reference}
-use Rattle.world.proofs.CountLemmas.{some_same}
+use Rattle.connection_drive.specs.Lived.{IsLived}
+use Rattle.connection_drive.specs.Tables.{AreTablesOf, TableState, shard_at}
+use Rattle.connection_drive.specs.declared.call.Call.{Call}
+use Rattle.connection_drive.specs.declared.reference.Reference.{Reference}
+use Rattle.connection_drive.proofs.SumLemmas.{some_same}
 use Rattle.world.proofs.GrownLemmas.{IsGrown, IsRun, own_run}
-use Rattle.world.proofs.HeldLemmas.{took_nothing, took_tracked, track_in}
-use Rattle.world.proofs.HereLemmas.{legal_at}
+use Rattle.connection_drive.proofs.HeldLemmas.{took_nothing, took_tracked, track_in}
+use Rattle.connection_drive.proofs.CallLemmas.{legal_at}
 use Rattle.world.proofs.LimitLemmas.{HasTracked, Looked}
-use Rattle.world.proofs.LivedLemmas.{released_as}
+use Rattle.connection_drive.proofs.LivedLemmas.{released_as}
 use Rattle.world.proofs.PassedLemmas.{key_new}
-use Rattle.world.proofs.PlaceLemmas.{after_of, before_of, replaces, step_of}
+use Rattle.connection_drive.proofs.ShardLemmas.{after_of, before_of, replaces, step_of}
 use Rattle.world.proofs.ShardLemmas.{keyed_stays, looked_more, looked_passed}
 use Rattle.world.proofs.StayLemmas.{track_key}
-use Rattle.world.proofs.TicketLemmas.{once_of, same, same_self, times, tracked_times}
+use Rattle.connection_drive.proofs.TicketLemmas.{once_of, same, same_self, times, tracked_times}
 
 -- ---- a look that passes
 

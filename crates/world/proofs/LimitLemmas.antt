@@ -25,9 +25,9 @@ use Rattle.admit_core.specs.Connection.{Connection}
 use Rattle.admit_core.specs.declared.need.Phase.{Phase}
 use Rattle.admit_core.specs.declared.need.Phase.TheVariants.{New, Judging, Admitted, Rejected, Ended}
 use Rattle.world.specs.Limit.{is_admitted, key_held}
-use Rattle.world.specs.Tables.{TableState, shard_at}
+use Rattle.connection_drive.specs.Tables.{TableState, shard_at}
 use Rattle.world.specs.World.{WorldState}
-use Rattle.world.specs.declared.reference.Reference.{Reference}
+use Rattle.connection_drive.specs.declared.reference.Reference.{Reference}
 
 -- ---- what holds of each connection behind rules that begin so
 

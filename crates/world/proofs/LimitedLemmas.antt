@@ -11,17 +11,17 @@ use Rattle.rule_model.specs.declared.sections.Setup.{Setup}
 use Rattle.rule_eval.specs.Limit.{LimitsFirst}
 use Rattle.admit_core.specs.Connection.{Connection}
 use Rattle.admit_core.specs.declared.held.Held.{Held}
-use Rattle.world.specs.Balance.{times_by}
+use Rattle.connection_drive.specs.Balance.{times_by}
 use Rattle.world.specs.Limit.{AdmittedLimitLaw, key_held}
 use Rattle.world.specs.World.{Element, Elements, IsSchedule, WorldState, begun, woken}
-use Rattle.world.specs.declared.reference.Reference.{Reference}
+use Rattle.connection_drive.specs.declared.reference.Reference.{Reference}
 use Rattle.world.specs.declared.visit.Visit.{Visit}
 use Rattle.world.proofs.AdmittedLemmas.{limited_count}
-use Rattle.world.proofs.CountLemmas.{sum_at}
+use Rattle.connection_drive.proofs.SumLemmas.{sum_at}
 use Rattle.world.proofs.GoneLemmas.{HasGone, move_gone}
-use Rattle.world.proofs.GrowLemmas.{get_after_set}
+use Rattle.connection_drive.proofs.TablesLemmas.{get_after_set}
 use Rattle.world.proofs.HeardLemmas.{tracked_still}
-use Rattle.world.proofs.HereLemmas.{held_out, out_here}
+use Rattle.connection_drive.proofs.CallLemmas.{held_out, out_here}
 use Rattle.world.proofs.LimitLemmas.{HasTracked, IsLimited, Looked}
 use Rattle.world.proofs.ShardLemmas.{looked_passed}
 use Rattle.world.proofs.StartLemmas.{begun_limited}

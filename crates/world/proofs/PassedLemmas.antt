@@ -6,7 +6,7 @@ use Rattle.std.proofs.lemmas.List.Sums.{sum_by-cons}
 use Rattle.table_model.specs.Key.{Key}
 use Rattle.table_model.specs.State.{key_of, same_ticket}
 use Rattle.table_model.specs.declared.rows.Ticket.{Ticket}
-use Rattle.world.proofs.TicketLemmas.{same_self, same_through, same_turned, times, without}
+use Rattle.connection_drive.proofs.TicketLemmas.{same_self, same_through, same_turned, times, without}
 
 -- ---- each of some has its own of others
 

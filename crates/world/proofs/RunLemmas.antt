@@ -3,22 +3,22 @@ use Rattle.std.proofs.Common.{◌≡◌, ℕ, zero, suc, ◌<◌, refl, sym, ap,
 use Rattle.std.proofs.lemmas.Option.{slice_get-get_or}
 use Rattle.rule_model.specs.declared.sections.Setup.{Setup}
 use Rattle.shard_book.specs.BooksState.{BooksState}
-use Rattle.table_cli.specs.declared.named.Named.{Named}
+use Rattle.shard_book.specs.declared.named.Named.{Named}
 use Rattle.admit_core.specs.Conn.{judged_by, progress_of, Stands}
 use Rattle.admit_core.specs.Connection.{Connection, Progress}
 use Rattle.admit_core.specs.declared.conn.Conn.{Conn}
-use Rattle.world.specs.Balance.{IsCovered, times_by, times_out}
-use Rattle.world.specs.Drive.{HasMoved}
-use Rattle.world.specs.Lived.{IsLived}
-use Rattle.world.specs.Moves.{Moves}
-use Rattle.world.specs.Tables.{AreTablesOf, TableState, table_states}
+use Rattle.connection_drive.specs.Balance.{IsCovered, times_by, times_out}
+use Rattle.connection_drive.specs.DriveCode.{HasMoved}
+use Rattle.connection_drive.specs.Lived.{IsLived}
+use Rattle.connection_drive.specs.Moves.{Moves}
+use Rattle.connection_drive.specs.Tables.{AreTablesOf, TableState, table_states}
 use Rattle.world.specs.World.{Element, WorldState, begun, woken}
-use Rattle.world.specs.WorldCode.{AreGuests, IsReached, StandsFor}
+use Rattle.world.specs.WorldCode.{AreGuests, IsReached, StandsFor, world_view}
 use Rattle.world.specs.declared.guest.Guest.{Guest}
-use Rattle.world.specs.declared.reference.Reference.{Reference}
+use Rattle.connection_drive.specs.declared.reference.Reference.{Reference}
 use Rattle.world.specs.declared.visit.Visit.{Visit}
-use Rattle.world.proofs.CountLemmas.{some_same, sum_at}
-use Rattle.world.proofs.DriveLemmas.{setup_same}
+use Rattle.connection_drive.proofs.SumLemmas.{some_same, sum_at}
+use Rattle.connection_drive.proofs.MakeLemmas.{setup_same}
 use Rattle.world.proofs.WorldLemmas.{IsWoken, IsWorld, begun_world, elements_world, woken_same}
 
 -- ---- guests
@@ -56,7 +56,7 @@ guests_set (g ∷ guests) (v ∷ visits) (c ∷ connections) (suc i) guest conne
 
 -- ---- what a world that was reached keeps
 
-module _ (setup : Setup) (tables : List (Named BooksState)) (guests : List Guest) (reached : IsReached setup tables guests) (number : ℕ) (within : number < length guests) (guest : Guest) (is : guest ≡ get_or guests number guest) where
+module _ (setup : Setup) (tables : List (Named BooksState)) (guests : List Guest) (reached : IsReached (world_view setup tables guests)) (number : ℕ) (within : number < length guests) (guest : Guest) (is : guest ≡ get_or guests number guest) where
   pub world_is : IsWorld setup reached.world
   world_is = elements_world setup reached.visits (begun setup reached.visits) reached.schedule reached.world reached.count reached.scheduled reached.goes (begun_world setup reached.visits reached.opens)
 
@@ -98,11 +98,11 @@ module _ (setup : Setup) (tables : List (Named BooksState)) (guests : List Guest
 
 -- ---- one goes on
 
-pub went : (tables middle later : List (Named BooksState)) (guests : List Guest) (number moment : ℕ) (guest : Guest) (awake after : Conn Reference) (was_refused : Bool) → number < length guests → guest ≡ get_or guests number guest
+pub went : (setup : Setup) (tables middle later : List (Named BooksState)) (guests : List Guest) (number moment : ℕ) (guest : Guest) (awake after : Conn Reference) (was_refused : Bool) → number < length guests → guest ≡ get_or guests number guest
     → ((connection : Connection Reference) → Stands guest.conn connection → Stands awake (woken guest.visit connection)) → middle ≡ tables → HasMoved moment (table_states middle) awake (table_states later) after was_refused
-    → (visits : List Visit) (world : WorldState) → StandsFor tables guests visits world
-    → (next : WorldState) × StandsFor later (slice_set guests number (record { visit = guest.visit; conn = after })) visits next × Element visits world (number, moment) next was_refused
-went tables middle later guests number moment guest awake after was_refused within is wakes same moved visits world stands =
+    → (visits : List Visit) (world : WorldState) → StandsFor (world_view setup tables guests) visits world
+    → (next : WorldState) × StandsFor (world_view setup later (slice_set guests number (record { visit = guest.visit; conn = after }))) visits next × Element visits world (number, moment) next was_refused
+went setup tables middle later guests number moment guest awake after was_refused within is wakes same moved visits world stands =
     let found : GuestAt guests visits world.connections number = guest_at guests visits world.connections number stands.guests_are within in
     let same_guest : guest ≡ found.guest = some_same guest found.guest (ap Some is ∙ sym (slice_get-get_or guests number guest within) ∙ found.at_guest) in
     let it : Stands guest.conn found.connection = subst (λ (g : Guest). Stands g.conn found.connection) (sym same_guest) found.stands in

@@ -4,16 +4,16 @@ use Rattle.std.proofs.lemmas.List.Elements.{All-push}
 use Rattle.std.proofs.lemmas.Option.{slice_get-get_or}
 use Rattle.rule_model.specs.declared.sections.Setup.{Setup}
 use Rattle.shard_book.specs.BooksState.{BooksState}
-use Rattle.table_cli.specs.declared.named.Named.{Named}
+use Rattle.shard_book.specs.declared.named.Named.{Named}
 use Rattle.admit_core.specs.Conn.{progress_of, Stands}
 use Rattle.admit_core.specs.Connection.{Connection, arrived}
-use Rattle.world.specs.Tables.{CanOpen, HasShard, TableState, empty_tables, table_states}
+use Rattle.connection_drive.specs.Tables.{CanOpen, HasShard, TableState, empty_tables, table_states}
 use Rattle.world.specs.World.{Element, Elements, WorldState, begun}
-use Rattle.world.specs.WorldCode.{AreGuests, IsReached, StandsFor}
+use Rattle.world.specs.WorldCode.{AreGuests, IsReached, StandsFor, WorldView, world_view}
 use Rattle.world.specs.declared.guest.Guest.{Guest}
-use Rattle.world.specs.declared.reference.Reference.{Reference}
+use Rattle.connection_drive.specs.declared.reference.Reference.{Reference}
 use Rattle.world.specs.declared.visit.Visit.{Visit}
-use Rattle.world.proofs.CountLemmas.{get_within, some_same}
+use Rattle.connection_drive.proofs.SumLemmas.{get_within, some_same}
 use Rattle.world.proofs.RunLemmas.{guest_at}
 use Rattle.world.proofs.WorldLemmas.{IsWorld, begun_world, elements_world}
 
@@ -36,12 +36,12 @@ guests_more setup visits i old new guest visit are more pushed same stands =
     subst (λ (vs : List Visit). AreGuests new vs (map (come setup) vs)) (sym more)
     (subst (λ (gs : List Guest). AreGuests gs (take i visits ++ visit ∷ []) (map (come setup) (take i visits ++ visit ∷ []))) (sym pushed) (guests_push setup old (take i visits) guest visit are same stands))
 
-pub begun_stands : (setup : Setup) (visits : List Visit) (tables : List (Named BooksState)) (guests : List Guest) → table_states tables ≡ empty_tables setup → AreGuests guests visits (map (come setup) visits) → StandsFor tables guests visits (begun setup visits)
+pub begun_stands : (setup : Setup) (visits : List Visit) (tables : List (Named BooksState)) (guests : List Guest) → table_states tables ≡ empty_tables setup → AreGuests guests visits (map (come setup) visits) → StandsFor (world_view setup tables guests) visits (begun setup visits)
 begun_stands setup visits tables guests opened are = record { tables_are = opened; guests_are = are }
 
-pub begun_reached : (setup : Setup) (visits : List Visit) (tables : List (Named BooksState)) (guests : List Guest) → CanOpen setup → StandsFor tables guests visits (begun setup visits) → IsReached setup tables guests
-begun_reached setup visits tables guests opens stands =
-    record { visits = visits; schedule = []; world = begun setup visits; count = 0; opens = opens; scheduled = search rules; goes = (refl, refl); stands = stands }
+pub begun_reached : (view : WorldView) (visits : List Visit) → CanOpen view.setup → StandsFor view visits (begun view.setup visits) → IsReached view
+begun_reached view visits opens stands =
+    record { visits = visits; schedule = []; world = begun view.setup visits; count = 0; opens = opens; scheduled = search rules; goes = (refl, refl); stands = stands }
 
 -- ---- one element more
 
@@ -66,37 +66,36 @@ guests_length (g ∷ guests) (v ∷ visits) [] are = absurd are
 guests_length (g ∷ guests) (v ∷ visits) (c ∷ connections) are = ap suc (guests_length guests visits connections are.2)
 
 -- what the code did, whatever world it stands for
-abbrev pub HasWent : List (Named BooksState) → List Guest → ℕ × ℕ → List (Named BooksState) → List Guest → Bool → Type 0
-HasWent tables guests element later after was_refused = (visits : List Visit) (world : WorldState) → StandsFor tables guests visits world → (next : WorldState) × StandsFor later after visits next × Element visits world element next was_refused
+abbrev pub HasWent : WorldView → ℕ × ℕ → WorldView → Bool → Type 0
+HasWent view element later was_refused = (visits : List Visit) (world : WorldState) → StandsFor view visits world → (next : WorldState) × StandsFor later visits next × Element visits world element next was_refused
 
-pub reached_more : (setup new_setup : Setup) (tables later : List (Named BooksState)) (guests after : List Guest) (number moment : ℕ) (was_refused : Bool) → new_setup ≡ setup → number < length guests → moment < 2 ^ 62 → HasWent tables guests (number, moment) later after was_refused
-    → IsReached setup tables guests → IsReached new_setup later after
-reached_more setup new_setup tables later guests after number moment was_refused same within below went reached =
+pub reached_more : (view later : WorldView) (number moment : ℕ) (was_refused : Bool) → later.setup ≡ view.setup → number < length view.guests → moment < 2 ^ 62 → HasWent view (number, moment) later was_refused → IsReached view → IsReached later
+reached_more view later number moment was_refused same within below went reached =
     let one = went reached.visits reached.world reached.stands in
-    let count : length reached.visits ≡ length guests = guests_length guests reached.visits reached.world.connections reached.stands.guests_are in
+    let count : length reached.visits ≡ length view.guests = guests_length view.guests reached.visits reached.world.connections reached.stands.guests_are in
     let here : number < length reached.visits = omega (arith, within, count) in
-    subst (λ (s : Setup). IsReached s later after) (sym same)
-    (record {
+    record {
       visits = reached.visits;
       schedule = reached.schedule ++ (number, moment) ∷ [];
       world = one.0;
       count = reached.count + cond was_refused 1 0;
-      opens = reached.opens;
+      opens = subst CanOpen (sym same) reached.opens;
       scheduled = All-push (λ (element : ℕ × ℕ). (element.0 < length reached.visits) × (element.1 < 2 ^ 62)) reached.schedule (number, moment) reached.scheduled (here, below);
-      goes = elements_more reached.visits (begun setup reached.visits) reached.schedule reached.world reached.count (number, moment) one.0 was_refused reached.goes one.2;
+      goes = subst (λ (s : Setup). Elements reached.visits (begun s reached.visits) (reached.schedule ++ (number, moment) ∷ []) one.0 (reached.count + cond was_refused 1 0)) (sym same)
+          (elements_more reached.visits (begun view.setup reached.visits) reached.schedule reached.world reached.count (number, moment) one.0 was_refused reached.goes one.2);
       stands = one.1;
-    })
+    }
 
 -- so far the schedule was gone through, whatever world the code stood for
-abbrev pub HasRun : List (Named BooksState) → List Guest → List (ℕ × ℕ) → List (Named BooksState) → List Guest → ℕ → Type 0
-HasRun tables guests schedule later after count = (visits : List Visit) (world : WorldState) → StandsFor tables guests visits world → (next : WorldState) × StandsFor later after visits next × Elements visits world schedule next count
+abbrev pub HasRun : WorldView → List (ℕ × ℕ) → WorldView → ℕ → Type 0
+HasRun view schedule later count = (visits : List Visit) (world : WorldState) → StandsFor view visits world → (next : WorldState) × StandsFor later visits next × Elements visits world schedule next count
 
-pub ran_none : (tables : List (Named BooksState)) (guests : List Guest) → HasRun tables guests [] tables guests 0
-ran_none tables guests visits world stands = (world, stands, (refl, refl))
+pub ran_none : (view : WorldView) → HasRun view [] view 0
+ran_none view visits world stands = (world, stands, (refl, refl))
 
-pub ran_more : (tables middle later : List (Named BooksState)) (guests between after : List Guest) (schedule more : List (ℕ × ℕ)) (element : ℕ × ℕ) (count total : ℕ) (was_refused : Bool) → HasRun tables guests schedule middle between count → HasWent middle between element later after was_refused
-    → more ≡ schedule ++ element ∷ [] → total ≡ count + cond was_refused 1 0 → HasRun tables guests more later after total
-ran_more tables middle later guests between after schedule more element count total was_refused ran went is sum visits world stands =
+pub ran_more : (view middle later : WorldView) (schedule more : List (ℕ × ℕ)) (element : ℕ × ℕ) (count total : ℕ) (was_refused : Bool) → HasRun view schedule middle count → HasWent middle element later was_refused
+    → more ≡ schedule ++ element ∷ [] → total ≡ count + cond was_refused 1 0 → HasRun view more later total
+ran_more view middle later schedule more element count total was_refused ran went is sum visits world stands =
     let so_far = ran visits world stands in
     let one = went visits so_far.0 so_far.1 in (
       one.0,
@@ -107,20 +106,21 @@ ran_more tables middle later guests between after schedule more element count to
 -- ---- one connection
 
 -- what the code has of a connection is what the world has
-pub same_progress : (tables : List (Named BooksState)) (guests : List Guest) (number : ℕ) (guest : Guest) (visits : List Visit) (world : WorldState) (connection : Connection Reference) → number < length guests → guest ≡ get_or guests number guest
-    → StandsFor tables guests visits world → slice_get world.connections number ≡ Some connection → progress_of guest.conn ≡ connection.progress
-same_progress tables guests number guest visits world connection within is stands at =
-    let found = guest_at guests visits world.connections number stands.guests_are within in
+pub same_progress : (view : WorldView) (guests : List Guest) (number : ℕ) (guest : Guest) (visits : List Visit) (world : WorldState) (connection : Connection Reference) → view.guests ≡ guests → number < length view.guests → guest ≡ get_or guests number guest
+    → StandsFor view visits world → slice_get world.connections number ≡ Some connection → progress_of guest.conn ≡ connection.progress
+same_progress view guests number guest visits world connection same_guests viewed is stands at =
+    let within : number < length guests = subst (λ (gs : List Guest). number < length gs) same_guests viewed in
+    let found = guest_at guests visits world.connections number (subst (λ (gs : List Guest). AreGuests gs visits world.connections) same_guests stands.guests_are) within in
     let same_guest : guest ≡ found.guest = some_same guest found.guest (ap Some is ∙ sym (slice_get-get_or guests number guest within) ∙ found.at_guest) in
     let same : found.connection ≡ connection = some_same found.connection connection (sym found.at_connection ∙ at) in
     ap (λ (g : Guest). progress_of g.conn) same_guest ∙ found.stands.progress ∙ ap (λ (c : Connection Reference). c.progress) same
 
 -- a table and a shard of the setup are there
-pub shard_there : (setup : Setup) (tables : List (Named BooksState)) (guests : List Guest) (table shard : ℕ) → IsReached setup tables guests → table < length setup.tables → shard < setup.shards → HasShard (table_states tables) table shard
-shard_there setup tables guests table shard reached table_within shard_within =
-    let world : IsWorld setup reached.world = elements_world setup reached.visits (begun setup reached.visits) reached.schedule reached.world reached.count reached.scheduled reached.goes (begun_world setup reached.visits reached.opens) in
+pub shard_there : (view : WorldView) (table shard : ℕ) → IsReached view → table < length view.setup.tables → shard < view.setup.shards → HasShard view.tables table shard
+shard_there view table shard reached table_within shard_within =
+    let world : IsWorld view.setup reached.world = elements_world view.setup reached.visits (begun view.setup reached.visits) reached.schedule reached.world reached.count reached.scheduled reached.goes (begun_world view.setup reached.visits reached.opens) in
     subst (λ (ts : List TableState). HasShard ts table shard) (sym reached.stands.tables_are) (found (slice_get reached.world.tables table) refl world)
   where
-    found : (o : Option TableState) → slice_get reached.world.tables table ≡ o → IsWorld setup reached.world → HasShard reached.world.tables table shard
+    found : (o : Option TableState) → slice_get reached.world.tables table ≡ o → IsWorld view.setup reached.world → HasShard reached.world.tables table shard
     found None is world = absurd (get_within reached.world.tables table is (omega (arith, table_within, world.tables.count)))
     found (Some at) is world = record { found = at; at = is; within = omega (arith, shard_within, (world.tables.each table at is).2.in_shards) }

@@ -12,13 +12,13 @@ use Rattle.stored_data.specs.declared.datum.Datum.TheVariants.{ConnCur}
 use Rattle.rule_eval.specs.Readings.{value_in}
 use Rattle.rule_eval.specs.declared.wants.Answer.{Answer}
 use Rattle.rule_eval.specs.declared.wants.Answer.TheVariants as answers
-use Rattle.world.specs.Calls.{AnswersAt}
+use Rattle.connection_drive.specs.Calls.{AnswersAt}
 use Rattle.world.specs.Limit.{key_held}
-use Rattle.world.specs.Tables.{TableState, shard_at}
-use Rattle.world.specs.declared.call.Call.{Call}
-use Rattle.world.specs.declared.reference.Reference.{Reference}
+use Rattle.connection_drive.specs.Tables.{TableState, shard_at}
+use Rattle.connection_drive.specs.declared.call.Call.{Call}
+use Rattle.connection_drive.specs.declared.reference.Reference.{Reference}
 use Rattle.world.proofs.LimitLemmas.{Looked}
-use Rattle.world.proofs.PlaceLemmas.{after_of, before_of, replaces, step_of}
+use Rattle.connection_drive.proofs.ShardLemmas.{after_of, before_of, replaces, step_of}
 use Rattle.world.proofs.StayLemmas.{key_stays}
 
 -- ---- the key of a reference

@@ -16,9 +16,9 @@ use Rattle.rule_eval.specs.Tables.{has_column}
 use Rattle.shard_book.specs.BookState.{BookState, opened}
 use Rattle.shard_book.specs.Keeping.{part_of}
 use Rattle.admit_core.specs.Connection.{Connection, arrived}
-use Rattle.world.specs.Tables.{CanOpen, TableState, empty_table_of, empty_tables, shard_at, shard_of}
+use Rattle.connection_drive.specs.Tables.{CanOpen, TableState, empty_table_of, empty_tables, shard_at, shard_of}
 use Rattle.world.specs.World.{begun}
-use Rattle.world.specs.declared.reference.Reference.{Reference}
+use Rattle.connection_drive.specs.declared.reference.Reference.{Reference}
 use Rattle.world.specs.declared.visit.Visit.{Visit}
 use Rattle.world.proofs.LimitLemmas.{IsLimited}
 use Rattle.world.proofs.WorldLemmas.{from_map}

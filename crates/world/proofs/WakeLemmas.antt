@@ -8,9 +8,9 @@ use Rattle.admit_core.specs.declared.conn.Conn.{Conn}
 use Rattle.admit_core.specs.declared.need.Need.{Need}
 use Rattle.admit_core.specs.declared.need.Need.TheVariants as needs
 use Rattle.world.specs.World.{unless_resting, woken}
-use Rattle.world.specs.declared.reference.Reference.{Reference}
+use Rattle.connection_drive.specs.declared.reference.Reference.{Reference}
 use Rattle.world.specs.declared.visit.Visit.{Visit}
-use Rattle.world.proofs.DriveLemmas.{need_same}
+use Rattle.connection_drive.proofs.MakeLemmas.{need_same}
 
 pub rest_is : (wanted : Need) → is_rest wanted ≡ true → wanted ≡ needs.Rest
 rest_is needs.Rest is = refl

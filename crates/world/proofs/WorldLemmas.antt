@@ -1,35 +1,24 @@
 -- Whatever the schedule, the references that are out are those that connections hold.
 use Rattle.std.proofs.Common.{◌≡◌, ⊎_elim, ℕ, zero, suc, ◌+◌, ◌≤◌, ◌<◌, ◌^◌, refl, sym, ap, subst, ◌∙◌, arith, Bool, List, [], ◌∷◌, length, map, sum_by, slice_get, slice_set, Option, Some, None}
-use Rattle.std.specs.Prelude.{All}
-use Rattle.std.specs.List.{range_with_len}
-use Rattle.std.specs.Option.{option_and_then, option_map_or}
-use Rattle.std.proofs.lemmas.List.{length-map}
 use Rattle.std.proofs.lemmas.List.Elements.{All-head, All-tail}
-use Rattle.std.proofs.lemmas.List.FromFn.{length-map-range_with_len}
 use Rattle.std.proofs.lemmas.List.Sums.{sum_by-cons}
-use Rattle.table_model.specs.Limits.{IsTableSpec}
-use Rattle.table_model.specs.State.{State}
-use Rattle.rule_model.specs.declared.sections.NamedSpec.{NamedSpec}
 use Rattle.rule_model.specs.declared.sections.Setup.{Setup}
-use Rattle.shard_book.specs.BookState.{BookState, opened}
-use Rattle.shard_book.specs.Keeping.{part_of}
-use Rattle.shard_book.proofs.BooksLemmas.{opened_are_books}
 use Rattle.admit_core.specs.Connection.{Connection, arrived, need}
 use Rattle.admit_core.specs.declared.need.Need.{Need}
 use Rattle.admit_core.specs.declared.need.Need.TheVariants as needs
-use Rattle.world.specs.Balance.{IsCovered, times_by, times_held, times_of, times_out}
+use Rattle.connection_drive.specs.Balance.{IsCovered, times_by, times_out}
+use Rattle.world.specs.Balance.{times_held}
 use Rattle.world.specs.Limit.{ReferencesLaw}
-use Rattle.world.specs.Lived.{IsLived}
-use Rattle.world.specs.Tables.{AreTablesOf, CanOpen, IsTableOf, TableState, empty_table_of, empty_tables, shard_at, shard_of}
+use Rattle.connection_drive.specs.Lived.{IsLived}
+use Rattle.connection_drive.specs.Tables.{AreTablesOf, CanOpen}
 use Rattle.world.specs.World.{Element, Elements, IsSchedule, WorldState, begun, unless_resting, woken}
-use Rattle.world.specs.declared.reference.Reference.{Reference}
+use Rattle.connection_drive.specs.declared.reference.Reference.{Reference}
 use Rattle.world.specs.declared.visit.Visit.{Visit}
-use Rattle.world.proofs.CountLemmas.{some_same, sum_at, sum_set}
-use Rattle.world.proofs.GrowLemmas.{get_after_set}
-use Rattle.world.proofs.HereLemmas.{legal_at}
-use Rattle.world.proofs.KeptLemmas.{IsKept, move_kept}
-use Rattle.world.proofs.LivedLemmas.{arrived_lived, closed_lived}
-use Rattle.world.proofs.TicketLemmas.{once_of}
+use Rattle.connection_drive.proofs.StartLemmas.{from_map, nothing_out, once_out, opened_tables}
+use Rattle.connection_drive.proofs.SumLemmas.{sum_at, sum_set}
+use Rattle.connection_drive.proofs.TablesLemmas.{get_after_set}
+use Rattle.connection_drive.proofs.KeepingLemmas.{IsKept, move_kept}
+use Rattle.connection_drive.proofs.LivedLemmas.{arrived_lived, closed_lived}
 
 -- the tables are those of the setup, each connection is judged by it, and as much is held as is out
 pub record IsWorld (setup : Setup) (world : WorldState) : Type 0 where
@@ -106,47 +95,6 @@ elements_world setup visits old (element ∷ more) new count is goes before =
 
 -- ---- the start
 
-at_all : {X : Type 0} (P : X → Type 0) (xs : List X) (i : ℕ) (x : X) → All P xs → slice_get xs i ≡ Some x → P x
-at_all P [] i x all at = cc
-at_all P (y ∷ ys) zero x all at = subst P (some_same y x at) (All-head P y ys all)
-at_all P (y ∷ ys) (suc i) x all at = at_all P ys i x (All-tail P y ys all) at
-
--- what a place of a mapped list is made of
-pub from_map : {X Y : Type 0} (f : X → Y) (xs : List X) (i : ℕ) (y : Y) → slice_get (map f xs) i ≡ Some y → (x : X) × (slice_get xs i ≡ Some x) × (y ≡ f x)
-from_map f [] i y at = cc
-from_map f (x ∷ xs) zero y at = (x, refl, sym (some_same (f x) y at))
-from_map f (x ∷ xs) (suc i) y at = from_map f xs i y at
-
-opened_table : (setup : Setup) (named : NamedSpec) → IsTableSpec named.spec → 1 ≤ setup.shards → setup.shards ≤ 64 → setup.shards ≤ named.spec.size → IsTableOf setup.shards named (empty_table_of setup.shards named)
-opened_table setup named limits some few places = record {
-  spec = refl;
-  in_shards = length-map-range_with_len (λ i. opened (part_of named.spec setup.shards i)) 0 setup.shards;
-  books = opened_are_books named.spec setup.shards limits some few places;
-}
-
-opened_tables : (setup : Setup) → CanOpen setup → AreTablesOf setup (empty_tables setup)
-opened_tables setup opens = record {
-  some = opens.some;
-  count = length-map setup.tables (empty_table_of setup.shards);
-  each = λ i table at.
-      let from = from_map (empty_table_of setup.shards) setup.tables i table at in
-      let limits : IsTableSpec from.0.spec = at_all (λ (named : NamedSpec). IsTableSpec named.spec) setup.tables i from.0 opens.specs from.1 in
-      let places : setup.shards ≤ from.0.spec.size = at_all (λ (named : NamedSpec). setup.shards ≤ named.spec.size) setup.tables i from.0 opens.places from.1 in
-      (from.0, from.1, subst (λ (t : TableState). IsTableOf setup.shards from.0 t) (sym from.2) (opened_table setup from.0 limits opens.some opens.few places));
-}
-
--- nothing is out
-none_opened : (reference : ℕ × Reference) (spec : ℕ → BookState) (shards : List ℕ) → ((i : ℕ) → times_of reference.1.ticket (spec i).live ≡ 0) → (s : ℕ) → option_map_or (times_of reference.1.ticket) (shard_of (map spec shards) s) 0 ≡ 0
-none_opened reference spec [] none s = refl
-none_opened reference spec (i ∷ more) none zero = none i
-none_opened reference spec (i ∷ more) none (suc s) = none_opened reference spec more none s
-
-none_out : (reference : ℕ × Reference) (shards : ℕ) (tables : List NamedSpec) (t : ℕ)
-    → option_map_or (times_of reference.1.ticket) (option_and_then (λ (found : TableState). shard_of found.state.books reference.1.shard) (slice_get (map (empty_table_of shards) tables) t)) 0 ≡ 0
-none_out reference shards [] t = refl
-none_out reference shards (named ∷ more) zero = none_opened reference (λ i. opened (part_of named.spec shards i)) (range_with_len 0 shards) (λ i. refl) reference.1.shard
-none_out reference shards (named ∷ more) (suc t) = none_out reference shards more t
-
 none_held : (reference : ℕ × Reference) (setup : Setup) (visits : List Visit) → times_held reference (map (λ (visit : Visit). arrived setup visit.samples) visits) ≡ 0
 none_held reference setup [] = refl
 none_held reference setup (visit ∷ more) =
@@ -159,20 +107,13 @@ none_held reference setup (visit ∷ more) =
 pub begun_world : (setup : Setup) (visits : List Visit) → CanOpen setup → IsWorld setup (begun setup visits)
 begun_world setup visits opens = record {
   tables = opened_tables setup opens;
-  balance = λ reference. none_held reference setup visits ∙ sym (none_out reference setup.shards setup.tables reference.0);
+  balance = λ reference. none_held reference setup visits ∙ sym (nothing_out setup reference);
   each = λ i connection at.
       let from = from_map (λ (visit : Visit). arrived {R = Reference} setup visit.samples) visits i connection at in
       (subst IsLived (sym from.2) (arrived_lived setup from.0.samples), ap (λ (c : Connection Reference). c.setup) from.2);
 }
 
--- ---- each once
-
-pub once_out : (setup : Setup) (tables : List TableState) (reference : ℕ × Reference) → AreTablesOf setup tables → times_out reference tables ≤ 1
-once_out setup tables reference are = by (shard_at tables reference.0 reference.1.shard) refl
-  where
-    by : (o : Option State) → shard_at tables reference.0 reference.1.shard ≡ o → option_map_or (times_of reference.1.ticket) o 0 ≤ 1
-    by None is = omega arith
-    by (Some live) is = once_of reference.1.ticket live (legal_at setup tables reference.0 reference.1.shard live are is)
+-- ---- the law
 
 pub references_law : ReferencesLaw
 references_law setup visits schedule world count opens is goes =

@@ -1,44 +1,13 @@
 -- The references that are out, and those that connections hold.
-use Rattle.std.specs.Prelude.{◌≡◌, ℕ, ◌+◌, ◌≤◌, nat_eq, Bool, ◌&&◌, cond, Option, Some, None, List, count_by, sum_by}
-use Rattle.std.specs.Option.{option_map_or}
-use Rattle.table_model.specs.Key.{Key}
-use Rattle.table_model.specs.State.{State, same_ticket}
-use Rattle.table_model.specs.declared.rows.Ticket.{Ticket}
+use Rattle.std.specs.Prelude.{◌≡◌, ℕ, ◌≤◌, List, sum_by}
 use Rattle.admit_core.specs.Connection.{Connection}
-use Rattle.admit_core.specs.declared.held.Held.{Held}
-use Rattle.world.specs.Tables.{TableState, shard_at}
-use Rattle.world.specs.declared.reference.Reference.{Reference}
-
--- whether two references are the same, each with the number of its table
-abbrev pub same_reference : ℕ × Reference → ℕ × Reference → Bool
-same_reference a b = nat_eq a.0 b.0 && (nat_eq a.1.shard b.1.shard && same_ticket a.1.ticket b.1.ticket)
-
--- ---- what is held
-
--- how often a slot holds a reference: once, or not
-abbrev pub times_in : ℕ × Reference → Option (ℕ × Reference) → ℕ
-times_in reference None = 0
-times_in reference (Some entry) = cond (same_reference reference entry) 1 0
-
-abbrev pub times_by : ℕ × Reference → Held Reference → ℕ
-times_by reference held = times_in reference held.sc0 + times_in reference held.sc1 + times_in reference held.sc2
+use Rattle.connection_drive.specs.Balance.{times_by, times_out}
+use Rattle.connection_drive.specs.Tables.{TableState}
+use Rattle.connection_drive.specs.declared.reference.Reference.{Reference}
 
 -- how often connections hold it
 abbrev pub times_held : ℕ × Reference → List (Connection Reference) → ℕ
 times_held reference connections = sum_by (λ (connection : Connection Reference). times_by reference connection.progress.held) connections
-
--- ---- what is out
-
--- how often a shard has a ticket out
-abbrev pub times_of : Ticket → State → ℕ
-times_of ticket state = count_by (λ (held : Ticket × Key). same_ticket ticket held.0) state.tickets
-
-abbrev pub times_out : ℕ × Reference → List TableState → ℕ
-times_out reference tables = option_map_or (times_of reference.1.ticket) (shard_at tables reference.0 reference.1.shard) 0
-
--- what a connection holds is out
-abbrev pub IsCovered : List TableState → Held Reference → Type 0
-IsCovered tables held = (reference : ℕ × Reference) → times_by reference held ≤ times_out reference tables
 
 -- a reference is out exactly where one connection holds it, by one of its slots
 pub record AreHeld (tables : List TableState) (connections : List (Connection Reference)) : Type 0 where

@@ -1,8 +1,3 @@
-pub mod Tables
-pub mod Calls
-pub mod Moves
-pub mod Lived
-pub mod Drive
 pub mod Balance
 pub mod World
 pub mod WorldCode

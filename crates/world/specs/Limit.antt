@@ -9,9 +9,9 @@ use Rattle.admit_core.specs.Connection.{Connection}
 use Rattle.admit_core.specs.declared.need.Phase.{Phase}
 use Rattle.admit_core.specs.declared.need.Phase.TheVariants.{Admitted}
 use Rattle.world.specs.Balance.{AreHeld}
-use Rattle.world.specs.Tables.{CanOpen, TableState, shard_at}
+use Rattle.connection_drive.specs.Tables.{CanOpen, TableState, shard_at}
 use Rattle.world.specs.World.{Elements, IsSchedule, WorldState, begun}
-use Rattle.world.specs.declared.reference.Reference.{Reference}
+use Rattle.connection_drive.specs.declared.reference.Reference.{Reference}
 use Rattle.world.specs.declared.visit.Visit.{Visit}
 
 abbrev pub is_admitted : Phase → Bool

@@ -4,9 +4,9 @@ use Rattle.rule_model.specs.declared.sections.Setup.{Setup}
 use Rattle.admit_core.specs.Connection.{Connection, arrived, closed, need}
 use Rattle.admit_core.specs.declared.need.Need.{Need}
 use Rattle.admit_core.specs.declared.need.Need.TheVariants.{Rest}
-use Rattle.world.specs.Moves.{Moves}
-use Rattle.world.specs.Tables.{TableState, empty_tables}
-use Rattle.world.specs.declared.reference.Reference.{Reference}
+use Rattle.connection_drive.specs.Moves.{Moves}
+use Rattle.connection_drive.specs.Tables.{TableState, empty_tables}
+use Rattle.connection_drive.specs.declared.reference.Reference.{Reference}
 use Rattle.world.specs.declared.visit.Visit.{Visit}
 
 -- the tables, and the connections in the order of their visits

@@ -1,19 +1,11 @@
-//! Connections on the books of a setup's tables: each goes on by one event or one change of phase.
-//!
-//! `specs/Moves.antt` says what that does to it and to its tables.
+//! Connections that share the tables of a setup, and go on in any order; and the laws of whatever comes of them.
 #![tactic(auto)]
 
-mod call;
-mod drive;
 mod guest;
 pub mod laws;
-mod open;
-mod reference;
 mod visit;
 mod world;
 
-pub use drive::{advance, settle};
-pub use open::open_tables;
-pub use reference::Reference;
+pub use connection_drive::Reference;
 pub use visit::Visit;
 pub use world::World;

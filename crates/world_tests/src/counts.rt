@@ -1,7 +1,6 @@
 //! What is counted of a world of connections from a few addresses.
 
 ghost use Rattle.std.specs.Prelude.{◌≡◌, ◌<◌, length};
-ghost use Rattle.world.specs.WorldCode.{IsReached};
 
 use address_text::Address;
 use admit_core::Phase;
@@ -26,9 +25,8 @@ pub fn visit(host: u8) -> Visit {
 
 /// How many references a shard has out, as its table lists them.
 pub fn out(alloc: Global, world: &World<'_, PlainTable>, shard: u32) -> Option<u32>
-    requires table { length world.now.setup.now.tables ≡ 1 }
-    requires shard { shard < world.now.setup.now.shards }
-    requires reached { IsReached world.now.setup.now world.now.tables.items world.now.guests.items }
+    requires table { length world.now.setup.tables ≡ 1 }
+    requires shard { shard < world.now.setup.shards }
 {
     let Ok(mut copy) = world.book(0, shard).live().to_plain() else {
         return None;
@@ -45,7 +43,7 @@ pub fn out(alloc: Global, world: &World<'_, PlainTable>, shard: u32) -> Option<u
 
 /// Whether a connection holds a reference of a shard.
 fn holds(world: &World<'_, PlainTable>, number: u32, shard: u32) -> bool
-    requires { number < length world.now.guests.items }
+    requires { number < length world.now.guests }
 {
     match world.held(number, Slot::Sc0) {
         Some((_, reference)) => reference.shard == shard,
@@ -55,7 +53,7 @@ fn holds(world: &World<'_, PlainTable>, number: u32, shard: u32) -> bool
 
 /// How many of the four connections hold a reference of a shard.
 pub fn held(world: &World<'_, PlainTable>, shard: u32) -> u32
-    requires { length world.now.guests.items ≡ 4 }
+    requires { length world.now.guests ≡ 4 }
 {
     let mut held = 0u32;
     for number in 0..4u32 {
@@ -68,7 +66,7 @@ pub fn held(world: &World<'_, PlainTable>, shard: u32) -> u32
 
 /// How many of the four connections are admitted, hold a reference and come from a host.
 pub fn admitted(world: &World<'_, PlainTable>, hosts: [u8; 4], host: u8) -> u32
-    requires { length world.now.guests.items ≡ 4 }
+    requires { length world.now.guests ≡ 4 }
 {
     let mut admitted = 0u32;
     for number in 0..4u32 {

@@ -5,7 +5,6 @@
 #![tactic(auto)]
 
 ghost use Rattle.std.specs.Prelude.{◌≡◌, length};
-ghost use Rattle.world.specs.WorldCode.{IsReached};
 
 mod counts;
 mod setups;
@@ -75,10 +74,9 @@ struct Left {
 
 impl Left {
     fn of(alloc: Global, world: &World<'_, PlainTable>) -> Left
-        requires count { length world.now.guests.items ≡ 4 }
-        requires tables { length world.now.setup.now.tables ≡ 1 }
-        requires shards { world.now.setup.now.shards ≡ 1 }
-        requires reached { IsReached world.now.setup.now world.now.tables.items world.now.guests.items }
+        requires count { length world.now.guests ≡ 4 }
+        requires tables { length world.now.setup.tables ≡ 1 }
+        requires shards { world.now.setup.shards ≡ 1 }
     {
         Left {
             out: out(alloc, world, 0),
@@ -118,10 +116,9 @@ impl Left {
 
 /// Leads the connections of a world through the schedule. Whether all went as it says, up to the first refusal.
 fn lead<R: Print + AllocGlobal>(rt: &R, world: &mut World<'_, PlainTable>) -> io::Result<bool>
-    requires count { length world.old.guests.items ≡ 4 }
-    requires tables { length world.old.setup.now.tables ≡ 1 }
-    requires shards { world.old.setup.now.shards ≡ 1 }
-    requires reached { IsReached world.old.setup.now world.old.tables.items world.old.guests.items }
+    requires count { length world.old.guests ≡ 4 }
+    requires tables { length world.old.setup.tables ≡ 1 }
+    requires shards { world.old.setup.shards ≡ 1 }
 {
     let mut is_right = true;
     let mut refused = 0u64;

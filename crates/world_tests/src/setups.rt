@@ -2,7 +2,7 @@
 
 ghost use Rattle.std.specs.Prelude.{◌≡◌, ◌≤◌, length, IfOk};
 ghost use Rattle.table_model.specs.Limits.{IsTableSpec};
-ghost use Rattle.world.specs.Tables.{CanOpen};
+ghost use Rattle.connection_drive.specs.Tables.{CanOpen};
 
 use rule_model::{
     Action, Criterion, Fetch, KeyExpression, Measure, NamedSpec, Operator, Pattern, Rule, Setup,

@@ -2,7 +2,6 @@
 //! `sc0_conn_cur`: the connections that hold an entry now, the one that is judged among them.
 
 ghost use Rattle.std.specs.Prelude.{◌≡◌, ◌≤◌, ◌<◌, ◌^◌, length};
-ghost use Rattle.world.specs.WorldCode.{IsReached};
 
 use crate::counts::{admitted, held, out, visit};
 use crate::setups::limiting;
@@ -14,7 +13,7 @@ use stick_table::PlainTable;
 use world::World;
 
 fn is_ended(world: &World<'_, PlainTable>, number: u32) -> bool
-    requires { number < length world.now.guests.items }
+    requires { number < length world.now.guests }
 {
     world.phase(number) == Phase::Ended && world.held(number, Slot::Sc0).is_none()
 }
@@ -60,10 +59,9 @@ fn element(random: &mut Random) -> (u32, u64)
 
 /// Whether a shard has as many references out as the four connections hold.
 fn is_balanced(alloc: Global, world: &World<'_, PlainTable>, shard: u32) -> bool
-    requires count { length world.now.guests.items ≡ 4 }
-    requires table { length world.now.setup.now.tables ≡ 1 }
-    requires shard { shard < world.now.setup.now.shards }
-    requires reached { IsReached world.now.setup.now world.now.tables.items world.now.guests.items }
+    requires count { length world.now.guests ≡ 4 }
+    requires table { length world.now.setup.tables ≡ 1 }
+    requires shard { shard < world.now.setup.shards }
 {
     out(alloc, world, shard) == Some(held(world, shard))
 }

@@ -3,7 +3,8 @@ use Rattle.byte_ports.proofs.Pieces.{grown_twice}
 use Rattle.line_text.specs.Parts.{parts, is_byte}
 use Rattle.line_text.proofs.ChainLemmas.{does_none, does_more, does_stop}
 use Rattle.table_cli.specs.Answers.{Answers, has_words}
-use Rattle.table_cli.specs.Tables.{CommandState, states_of}
+use Rattle.shard_book.specs.NamedTables.{states_of}
+use Rattle.table_cli.specs.States.{CommandState}
 use Rattle.table_cli.proofs.TableLemmas.{filter_first, length-without_cr}
 use Rattle.table_cli.proofs.serve.answer.Goals as goal
 

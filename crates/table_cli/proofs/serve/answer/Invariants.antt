@@ -2,7 +2,8 @@ use Rattle.std.proofs.Common.{◌≡◌, ◌≤◌, ◌+◌, ℕ, List, filter, 
 use Rattle.byte_ports.specs.Bytes.{Grows}
 use Rattle.line_text.specs.Chain.{DoesUpTo}
 use Rattle.table_cli.specs.Answers.{Answers, commands_of, has_words}
-use Rattle.table_cli.specs.Tables.{CommandState, states_of}
+use Rattle.shard_book.specs.NamedTables.{states_of}
+use Rattle.table_cli.specs.States.{CommandState}
 use Rattle.table_cli.proofs.serve.answer.Given as goal
 
 -- so many commands of the line are answered, and these parts are left

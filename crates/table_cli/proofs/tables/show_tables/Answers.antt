@@ -1,7 +1,7 @@
 use Rattle.std.proofs.Common.{◌≡◌, ◌<◌, ℕ, length, get_or, refl, ap, subst, inl, inr, arith, rules}
 use Rattle.std.proofs.lemmas.List.{length-map}
 use Rattle.table_cli.specs.Answers.{HeadsOf}
-use Rattle.table_cli.specs.Tables.{state_of, states_of}
+use Rattle.shard_book.specs.NamedTables.{state_of, states_of}
 use Rattle.table_cli.proofs.TableLemmas.{ends_head, head_at, heads_more, says_head}
 use Rattle.table_cli.proofs.tables.show_tables.Goals as goal
 

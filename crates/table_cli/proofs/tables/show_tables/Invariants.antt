@@ -1,6 +1,6 @@
 use Rattle.std.proofs.Common.{◌≡◌, ◌≤◌, length}
 use Rattle.table_cli.specs.Answers.{HeadsOf}
-use Rattle.table_cli.specs.Tables.{states_of}
+use Rattle.shard_book.specs.NamedTables.{states_of}
 use Rattle.table_cli.proofs.tables.show_tables.Given as goal
 
 -- the tables at the first places said their headers

@@ -1,7 +1,7 @@
 use Rattle.std.proofs.Common.{◌≡◌, ◌++◌, length, take, drop, refl, sym, ap, arith}
 use Rattle.std.proofs.lemmas.Grind.{common_steps}
 use Rattle.table_cli.specs.Answers.{commands_of}
-use Rattle.world.specs.Tables.{table_states}
+use Rattle.connection_drive.specs.Tables.{table_states}
 use Rattle.script.proofs.ClockLemmas.{line_said, line_stopped}
 use Rattle.script.proofs.server.ScriptServer.command.Goals as goal
 

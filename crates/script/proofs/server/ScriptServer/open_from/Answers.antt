@@ -3,59 +3,56 @@ use Rattle.std.proofs.lemmas.Grind.{common_steps}
 use Rattle.admit_core.specs.Connection.{Connection, arrived}
 use Rattle.rule_model.specs.declared.sections.Setup.{Setup}
 use Rattle.shard_book.specs.BooksState.{BooksState}
-use Rattle.table_cli.specs.declared.named.Named.{Named}
-use Rattle.world.specs.Moves.{Settles}
-use Rattle.world.specs.Tables.{AreTablesOf, table_states}
-use Rattle.world.specs.declared.reference.Reference.{Reference}
-use Rattle.world.proofs.DriveLemmas.{setup_same}
-use Rattle.world.proofs.LivedLemmas.{arrived_lived}
+use Rattle.shard_book.specs.declared.named.Named.{Named}
+use Rattle.connection_drive.specs.Moves.{ComesToRest}
+use Rattle.connection_drive.specs.Tables.{AreTablesOf, table_states}
+use Rattle.connection_drive.specs.declared.reference.Reference.{Reference}
+use Rattle.connection_drive.proofs.MakeLemmas.{setup_same}
+use Rattle.connection_drive.proofs.LivedLemmas.{arrived_lived}
 use Rattle.script.specs.Guests.{guest_of}
 use Rattle.script.specs.Script.{OpensAt, samples_of}
 use Rattle.script.specs.Seen.{script_state}
 use Rattle.script.proofs.ServerLemmas.{none_of, opened_admitted, opened_rejected}
 use Rattle.script.proofs.server.ScriptServer.open_from.Goals as goal
 
-pub settle-requires-clause-shards : goal.settle-requires-clause-shards
-settle-requires-clause-shards g c = sym (ap (λ (s : Setup). s.shards) (setup_same c.new-conn.result _ c.new-conn.ensures.stands))
-
-pub settle-requires-clause-tables : goal.settle-requires-clause-tables
-settle-requires-clause-tables g c =
+pub advance_to_rest-requires-clause-tables : goal.advance_to_rest-requires-clause-tables
+advance_to_rest-requires-clause-tables g c =
     subst (λ s. AreTablesOf s (table_states c.as_mut_slice.result.now)) (sym (setup_same c.new-conn.result _ c.new-conn.ensures.stands))
     (subst (λ (ts : List (Named BooksState)). AreTablesOf c.args.self.now.setup.now (table_states ts)) (sym c.as_mut_slice.ensures.value) c.requires.served.tables)
 
-pub settle-requires-clause-living : goal.settle-requires-clause-living
-settle-requires-clause-living g c = (_, c.new-conn.ensures.stands, arrived_lived c.args.self.now.setup.now c.samples_of-samples.result)
+pub advance_to_rest-requires-clause-living : goal.advance_to_rest-requires-clause-living
+advance_to_rest-requires-clause-living g c = (_, c.new-conn.ensures.stands, arrived_lived c.args.self.now.setup.now c.samples_of-samples.result)
 
 pub returns-in-Admitted : goal.returns-in-Admitted
 returns-in-Admitted g c =
     let server = c.args.self.now in
     let setup = server.setup.now in
     let old = script_state setup server.tables.items server.guests.items in
-    let tables = c.settle.new.tables in
+    let tables = c.advance_to_rest.new.tables in
     let free : guest_of c.args.id server.guests.items ≡ None =
     none_of (guest_of c.args.id server.guests.items) (ap (λ gs. is_some (guest_of c.args.id gs)) (sym c.as_slice.ensures.value) ∙ sym c.is_open.ensures ∙ c.if-is_open.false) in
-    let settled = c.settle.ensures.settled _ c.new-conn.ensures.stands in
-    let settles : Settles c.args.moment (table_states server.tables.items) (arrived setup (samples_of setup c.args.source c.args.port)) (table_states tables) settled.0 =
-    subst (λ s. Settles c.args.moment (table_states server.tables.items) (arrived setup s) (table_states tables) settled.0) c.samples_of-samples.ensures
-    (subst (λ (ts : List (Named BooksState)). Settles c.args.moment (table_states ts) (arrived setup c.samples_of-samples.result) (table_states tables) settled.0) c.as_mut_slice.ensures.value settled.2) in
+    let rested = c.advance_to_rest.ensures.rested _ c.new-conn.ensures.stands in
+    let comes : ComesToRest c.args.moment (table_states server.tables.items) (arrived setup (samples_of setup c.args.source c.args.port)) (table_states tables) rested.0 =
+    subst (λ s. ComesToRest c.args.moment (table_states server.tables.items) (arrived setup s) (table_states tables) rested.0) c.samples_of-samples.ensures
+    (subst (λ (ts : List (Named BooksState)). ComesToRest c.args.moment (table_states ts) (arrived setup c.samples_of-samples.result) (table_states tables) rested.0) c.as_mut_slice.ensures.value rested.2) in
     let refilled : take server.tables.len (tables ++ drop (length tables) server.tables.items) ≡ tables = grind (arith, common_steps) in
     subst (λ (ts : List (Named BooksState)). OpensAt (guest_of c.args.id server.guests.items) c.args.moment c.args.id c.args.source c.args.port old c.opened-in-Admitted.result (script_state setup ts c.push_reserved.new.self.items)) (sym refilled)
-    (opened_admitted c.args.moment c.args.id old (table_states tables) c.args.source c.args.port c.opened-in-Admitted.result c.push_reserved.new.self.items c.settle.new.conn settled.0 free settled.1 settles
-    (sym (ap (λ (p : Rattle.admit_core.specs.Connection.Progress Reference). p.phase) settled.1.progress) ∙ sym c.phase.ensures ∙ c.in-Admitted.is) (c.push_reserved.ensures.items ∙ ap (λ gs. gs ++ record { id = c.args.id; conn = c.settle.new.conn } ∷ []) c.reserve.ensures.items) c.opened-in-Admitted.ensures)
+    (opened_admitted c.args.moment c.args.id old (table_states tables) c.args.source c.args.port c.opened-in-Admitted.result c.push_reserved.new.self.items c.advance_to_rest.new.conn rested.0 free rested.1 comes
+    (sym (ap (λ (p : Rattle.admit_core.specs.Connection.Progress Reference). p.phase) rested.1.progress) ∙ sym c.phase.ensures ∙ c.in-Admitted.is) (c.push_reserved.ensures.items ∙ ap (λ gs. gs ++ record { id = c.args.id; conn = c.advance_to_rest.new.conn } ∷ []) c.reserve.ensures.items) c.opened-in-Admitted.ensures)
 
 pub returns-in_default : goal.returns-in_default
 returns-in_default g c =
     let server = c.args.self.now in
     let setup = server.setup.now in
     let old = script_state setup server.tables.items server.guests.items in
-    let tables = c.settle.new.tables in
+    let tables = c.advance_to_rest.new.tables in
     let free : guest_of c.args.id server.guests.items ≡ None =
     none_of (guest_of c.args.id server.guests.items) (ap (λ gs. is_some (guest_of c.args.id gs)) (sym c.as_slice.ensures.value) ∙ sym c.is_open.ensures ∙ c.if-is_open.false) in
-    let settled = c.settle.ensures.settled _ c.new-conn.ensures.stands in
-    let settles : Settles c.args.moment (table_states server.tables.items) (arrived setup (samples_of setup c.args.source c.args.port)) (table_states tables) settled.0 =
-    subst (λ s. Settles c.args.moment (table_states server.tables.items) (arrived setup s) (table_states tables) settled.0) c.samples_of-samples.ensures
-    (subst (λ (ts : List (Named BooksState)). Settles c.args.moment (table_states ts) (arrived setup c.samples_of-samples.result) (table_states tables) settled.0) c.as_mut_slice.ensures.value settled.2) in
+    let rested = c.advance_to_rest.ensures.rested _ c.new-conn.ensures.stands in
+    let comes : ComesToRest c.args.moment (table_states server.tables.items) (arrived setup (samples_of setup c.args.source c.args.port)) (table_states tables) rested.0 =
+    subst (λ s. ComesToRest c.args.moment (table_states server.tables.items) (arrived setup s) (table_states tables) rested.0) c.samples_of-samples.ensures
+    (subst (λ (ts : List (Named BooksState)). ComesToRest c.args.moment (table_states ts) (arrived setup c.samples_of-samples.result) (table_states tables) rested.0) c.as_mut_slice.ensures.value rested.2) in
     let refilled : take server.tables.len (tables ++ drop (length tables) server.tables.items) ≡ tables = grind (arith, common_steps) in
     subst (λ (ts : List (Named BooksState)). OpensAt (guest_of c.args.id server.guests.items) c.args.moment c.args.id c.args.source c.args.port old c.opened-in_default.result (script_state setup ts c.reserve.new.self.items)) (sym refilled)
-    (opened_rejected c.args.moment c.args.id old (table_states tables) c.args.source c.args.port c.opened-in_default.result c.reserve.new.self.items c.settle.new.conn settled.0 c.phase.result free settled.1 settles
-    (sym (ap (λ (p : Rattle.admit_core.specs.Connection.Progress Reference). p.phase) settled.1.progress) ∙ sym c.phase.ensures) c.in_default.not-Admitted c.reserve.ensures.items c.opened-in_default.ensures)
+    (opened_rejected c.args.moment c.args.id old (table_states tables) c.args.source c.args.port c.opened-in_default.result c.reserve.new.self.items c.advance_to_rest.new.conn rested.0 c.phase.result free rested.1 comes
+    (sym (ap (λ (p : Rattle.admit_core.specs.Connection.Progress Reference). p.phase) rested.1.progress) ∙ sym c.phase.ensures) c.in_default.not-Admitted c.reserve.ensures.items c.opened-in_default.ensures)

@@ -2,8 +2,9 @@ use Rattle.std.proofs.Common.{◌≡◌, ◌++◌, List, length, take, drop, rul
 use Rattle.std.proofs.lemmas.Grind.{common_steps}
 use Rattle.line_text.specs.Chain.{StopsIn}
 use Rattle.table_cli.specs.Answers.{Answers, commands_of}
-use Rattle.table_cli.specs.Tables.{CommandState, states_of}
-use Rattle.table_cli.specs.declared.named.Named.{Named}
+use Rattle.shard_book.specs.NamedTables.{states_of}
+use Rattle.table_cli.specs.States.{CommandState}
+use Rattle.shard_book.specs.declared.named.Named.{Named}
 use Rattle.table_cli.proofs.service.CommandService.serve_line.Goals as goal
 
 pub returns-in-Err-clause-part : goal.returns-in-Err-clause-part

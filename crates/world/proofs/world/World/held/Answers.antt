@@ -1,7 +1,7 @@
 use Rattle.std.proofs.Common.{◌∙◌, ap}
 use Rattle.admit_core.specs.Connection.{Progress}
 use Rattle.admit_core.specs.Held.{held_at}
-use Rattle.world.specs.declared.reference.Reference.{Reference}
+use Rattle.connection_drive.specs.declared.reference.Reference.{Reference}
 use Rattle.world.proofs.ScheduleLemmas.{same_progress}
 use Rattle.world.proofs.world.World.held.Goals as goal
 

@@ -1,6 +1,6 @@
 use Rattle.std.proofs.Common.{◌∙◌, ap}
 use Rattle.admit_core.specs.Connection.{Progress}
-use Rattle.world.specs.declared.reference.Reference.{Reference}
+use Rattle.connection_drive.specs.declared.reference.Reference.{Reference}
 use Rattle.world.proofs.ScheduleLemmas.{same_progress}
 use Rattle.world.proofs.world.World.phase.Goals as goal
 

@@ -1,0 +1,6 @@
+pub mod Tables
+pub mod Calls
+pub mod Moves
+pub mod Lived
+pub mod DriveCode
+pub mod Balance
