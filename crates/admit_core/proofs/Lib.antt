@@ -4,3 +4,5 @@ pub mod NeedLemmas
 pub mod HistoryLemmas
 pub mod KeepingLemmas
 pub mod ShownLemmas
+pub mod TakenLemmas
+pub mod LifeLemmas
