@@ -1,6 +1,7 @@
 pub mod CountLemmas
 pub mod TicketLemmas
 pub mod PlaceLemmas
+pub mod RecordLemmas
 pub mod HeldLemmas
 pub mod AskLemmas
 pub mod OpenLemmas
@@ -29,3 +30,6 @@ pub mod LimitedLemmas
 pub mod RunLemmas
 pub mod ScheduleLemmas
 pub mod JoinLemmas
+pub mod HomeLemmas
+pub mod ShownLemmas
+pub mod RowLemmas
