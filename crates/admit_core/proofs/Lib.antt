@@ -5,3 +5,5 @@ pub mod HistoryLemmas
 pub mod KeepingLemmas
 pub mod ShownLemmas
 pub mod LeftLemmas
+pub mod TakenLemmas
+pub mod LifeLemmas

@@ -1,8 +1,10 @@
--- No record keeps a value of the current connections, so a look shows the references of its key.
+-- No record keeps a value of the current connections, so a row shows the references of its key.
 use Rattle.std.proofs.Common.{◌≡◌, ◌∙◌, ℕ, ◌==◌, true, false, cond, not, List, [], ◌∷◌, filter, map, Option, Some, None, unwrap_or, refl, sym, ap, subst, inl, inr}
-use Rattle.std.specs.Prelude.{find}
+use Rattle.std.specs.Prelude.{IfSome, find}
 use Rattle.std.specs.Option.{option_map, option_map_or}
 use Rattle.std.specs.Cmp.Lexicographic.{nat_list_cmp_total}
+use Rattle.std.proofs.lemmas.Bool.{false≢true}
+use Rattle.std.proofs.lemmas.Map.Entries.{All-lookup}
 use Rattle.stored_data.specs.Acts.{acted, changed_field, content_of, is_kept, put_content, shown, with_value, zero_field, zero_of}
 use Rattle.stored_data.specs.Data.{place}
 use Rattle.stored_data.specs.Stored.{is_column}
@@ -12,12 +14,13 @@ use Rattle.stored_data.specs.declared.datum.Datum.{Datum}
 use Rattle.stored_data.specs.declared.datum.Datum.TheVariants.{ConnCur}
 use Rattle.stored_data.specs.declared.stored_set.Column.{Column}
 use Rattle.stored_data.specs.declared.values.Field.{Field}
-use Rattle.table_model.specs.Key.{Key, key_cmp}
+use Rattle.table_model.specs.Key.{Key, key_cmp, same_key}
 use Rattle.table_model.specs.Laws.{values_after}
+use Rattle.table_model.specs.Legal.{AreDataOf, AreFieldsOf, IsLegal}
 use Rattle.table_model.specs.Limits.{moment_of}
 use Rattle.table_model.specs.Run.{Run}
 use Rattle.table_model.specs.State.{State, empty_table, key_of, record_at, refs, row, stays, zero_record}
-use Rattle.table_model.specs.Step.{Outcome, Step, begun, found_or_zero, get, put_pairs}
+use Rattle.table_model.specs.Step.{Outcome, Step, after, begun, found_or_zero, get, put_pairs}
 use Rattle.table_model.specs.declared.events.Event.{Event}
 use Rattle.table_model.specs.declared.events.Event.TheVariants.{Get, Track, Look, Count, Release, Put, Clear, ClearWhere, List as ListRows, Expire}
 use Rattle.table_model.specs.declared.replies.Reply.{Reply}
@@ -32,7 +35,7 @@ use Rattle.table_model.proofs.LegalLemmas.{IsOrderly, empty_legal, orderly-from_
 use Rattle.table_model.proofs.StepLemmas.{step_spec}
 use Rattle.rule_eval.proofs.ShownLemmas.{shown_lem}
 use Rattle.rule_eval.specs.Readings.{value_in}
-use Rattle.admit_core.specs.Shown.{LookLaw}
+use Rattle.admit_core.specs.Shown.{LookLaw, ReadingLaw, RowLaw, is_reading}
 
 -- ---- data without a datum
 
@@ -146,3 +149,63 @@ look_law spec events replies state now ticket r later stored run step =
     let keeps : Keeps spec state = run_none spec (empty_table spec) events replies state start run in
     let begins : State = begun state now in
     looked begins (key_of ticket state.tickets) r (ap (λ (s : Spec). is_column s.columns ConnCur) keeps.same_spec ∙ stored) (begun_none state now keeps.orderly keeps.none) (ap (λ (o : Outcome). o.0) step.gives)
+
+-- ---- legal states
+
+kept_none : (column : Column) (columns : List Column) (fields : List Field) → ((fs : List Field) → AreFieldsOf (filter is_kept columns) fs → content_of fs ConnCur ≡ None) → (place column.datum == place ConnCur) ≡ false
+    → AreFieldsOf (column ∷ filter is_kept columns) fields → content_of fields ConnCur ≡ None
+kept_none column columns [] later is are = absurd are
+kept_none column columns (field ∷ fields) later is are =
+    ap (λ b. option_map (λ (f : Field). f.content) (cond b (Some field) (find (λ (f : Field). place f.datum == place ConnCur) fields))) (ap (λ d. place d == place ConnCur) are.0.datum ∙ is) ∙ later fields are.1
+
+fields_none : (columns : List Column) (fields : List Field) → AreFieldsOf (filter is_kept columns) fields → content_of fields ConnCur ≡ None
+fields_none [] [] are = refl
+fields_none [] (field ∷ fields) are = absurd are
+fields_none (column ∷ columns) fields are =
+    elim (place column.datum == place ConnCur) as (λ b. (place column.datum == place ConnCur) ≡ b → AreFieldsOf (cond (not b) (column ∷ filter is_kept columns) (filter is_kept columns)) fields → content_of fields ConnCur ≡ None) [
+      | true ↦ λ is are. fields_none columns fields are
+      | false ↦ λ is are. kept_none column columns fields (λ fs later. fields_none columns fs later) is are
+    ] refl are
+
+legal_none : (state : State) → IsLegal state → KeepsNone state
+legal_none state legal key found is =
+    let all : IfSome (record_at key state.records) (λ (r : Record). AreDataOf state.spec.columns r.values) = All-lookup (λ (r : Record). AreDataOf state.spec.columns r.values) (same_key key) state.records legal.values in
+    let here : AreDataOf state.spec.columns found.values = subst (λ o. IfSome o (λ (r : Record). AreDataOf state.spec.columns r.values)) is all in
+    fields_none state.spec.columns found.values here
+
+row_shows : (state : State) (key : Key) (found : Record) → is_column state.spec.columns ConnCur ≡ true → KeepsNone state → record_at key state.records ≡ Some found → value_in (row state key found).cells ConnCur ≡ refs key state.tickets
+row_shows state key found stored keeps is = shown_lem state.spec.columns state.clock (refs key state.tickets) key found stored (ap (option_map (shown state.clock)) (keeps key found is))
+
+pub row_law : RowLaw
+row_law state key found legal stored is = row_shows state key found stored (legal_none state legal) is
+
+-- ---- Gets and Looks
+
+got : (state : State) (key : Key) (o : Option Record) (shown_row : Row) → is_column state.spec.columns ConnCur ≡ true → KeepsNone state → record_at key state.records ≡ o → option_map_or (λ found. ARow (row state key found)) o Absent ≡ ARow shown_row
+    → value_in shown_row.cells ConnCur ≡ refs shown_row.key state.tickets
+got state key None r stored keeps is h = cc
+got state key (Some found) r stored keeps is h =
+    let same_row : row state key found ≡ r = cc in
+    subst (λ (s : Row). value_in s.cells ConnCur ≡ refs s.key state.tickets) same_row (row_shows state key found stored keeps is)
+
+of_ticket : (state : State) (o : Option Key) (r : Row) → is_column state.spec.columns ConnCur ≡ true → KeepsNone state → (option_map_or (get state) o (Absent, state)).0 ≡ ARow r → value_in r.cells ConnCur ≡ refs r.key state.tickets
+of_ticket state None r stored keeps h = cc
+of_ticket state (Some key) r stored keeps h = got state key (record_at key state.records) r stored keeps refl h
+
+pub reading_law : ReadingLaw
+reading_law state event r later legal stored reads step = by event reads (ap (λ (o : Outcome). o.0) step.gives)
+  where
+    keeps : (now : ℕ) → KeepsNone (begun state now)
+    keeps now = begun_none state now (orderly-from_legal state legal) (legal_none state legal)
+
+    by : (event : Event) → is_reading event ≡ true → (after state event 0).0 ≡ ARow r → value_in r.cells ConnCur ≡ refs r.key state.tickets
+    by (Get now key) reads is = got (begun state now) key (record_at key (begun state now).records) r stored (keeps now) refl is
+    by (Look now ticket) reads is = of_ticket (begun state now) (key_of ticket state.tickets) r stored (keeps now) is
+    by (Track now key) reads is = absurd (false≢true reads)
+    by (Count now ticket act) reads is = absurd (false≢true reads)
+    by (Release now ticket) reads is = absurd (false≢true reads)
+    by (Put now key pairs) reads is = absurd (false≢true reads)
+    by (Clear now key) reads is = absurd (false≢true reads)
+    by (ClearWhere now choice) reads is = absurd (false≢true reads)
+    by (ListRows now choice) reads is = absurd (false≢true reads)
+    by (Expire now) reads is = absurd (false≢true reads)

@@ -6,3 +6,4 @@ pub mod Conn
 pub mod Left
 pub mod History
 pub mod Shown
+pub mod Life

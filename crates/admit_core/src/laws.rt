@@ -1,6 +1,7 @@
 //! What every connection keeps, whatever its references are. Each law is the contract of a function that does nothing.
 ghost use Rattle.admit_core.specs.History.{AdmittedLaw, EndedLaw, HeldLaw, RejectedLaw};
-ghost use Rattle.admit_core.specs.Shown.{LookLaw};
+ghost use Rattle.admit_core.specs.Life.{LifeLaw};
+ghost use Rattle.admit_core.specs.Shown.{LookLaw, ReadingLaw, RowLaw};
 
 /// A connection is admitted only by its rules: where it is, their verdict on the answers that came is to accept it.
 pub fn admitted<R>()
@@ -23,7 +24,24 @@ pub fn held<R>()
     ensures { HeldLaw R }
 {}
 
+/// From the verdict to accept it to its end, a connection that ends has counted its sessions, rested until it was closed,
+/// counted its bytes, and given each of its references back, in this order and each once.
+pub fn life<R>()
+    ensures { LifeLaw R }
+{}
+
 /// What a look shows of `conn_cur`, in every run of a table that stores it, is how many references its key has.
 pub fn look()
     ensures { LookLaw }
+{}
+
+/// What the row of a key shows of `conn_cur`, in every state that a table storing it can come to, is how many references
+/// the key has.
+pub fn row()
+    ensures { RowLaw }
+{}
+
+/// What a Get and a Look are answered of `conn_cur`, in every such state, is how many references the row's key has.
+pub fn reading()
+    ensures { ReadingLaw }
 {}

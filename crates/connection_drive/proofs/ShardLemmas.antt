@@ -1,5 +1,5 @@
 -- A shard that answers is replaced, and all others stay as they are.
-use Rattle.std.proofs.Common.{◌≡◌, ℕ, ◌+◌, refl, sym, ap, subst, ◌∙◌, arith, Bool, true, false, cond, nat_eq, ◌&&◌, List, slice_get, slice_set, Option, Some, option_map}
+use Rattle.std.proofs.Common.{◌≡◌, ℕ, ◌+◌, refl, sym, ap, subst, ◌∙◌, arith, Bool, true, false, cond, nat_eq, ◌&&◌, List, slice_get, slice_set, Option, Some, None, option_map}
 use Rattle.std.specs.Option.{option_and_then, option_map_or}
 use Rattle.table_model.specs.State.{State}
 use Rattle.table_model.specs.Step.{Step}
@@ -10,7 +10,7 @@ use Rattle.shard_book.specs.BookState.{BookState}
 use Rattle.shard_book.specs.BooksState.{BooksState}
 use Rattle.connection_drive.specs.Balance.{same_reference, times_of, times_out}
 use Rattle.connection_drive.specs.Calls.{AnswersAt}
-use Rattle.connection_drive.specs.Tables.{TableState, shard_at, shard_of}
+use Rattle.connection_drive.specs.Tables.{TableState, book_at, shard_at, shard_of}
 use Rattle.connection_drive.specs.declared.call.Call.{Call}
 use Rattle.connection_drive.specs.declared.reference.Reference.{Reference}
 use Rattle.connection_drive.proofs.SumLemmas.{get_set_other, get_set_same}
@@ -22,9 +22,23 @@ pub record Replaces (old new : List TableState) (table shard : ℕ) (before afte
   pub is : shard_at new table shard ≡ Some after
   pub others : (t s : ℕ) → (nat_eq t table && nat_eq s shard) ≡ false → shard_at new t s ≡ shard_at old t s
 
+-- the same of books
+pub record ReplacesBook (old new : List TableState) (table shard : ℕ) (before after : BookState) : Type 0 where
+  pub was : book_at old table shard ≡ Some before
+  pub is : book_at new table shard ≡ Some after
+  pub others : (t s : ℕ) → (nat_eq t table && nat_eq s shard) ≡ false → book_at new t s ≡ book_at old t s
+
 -- of the table that a call was answered by
-abbrev found_shard : ℕ → Option TableState → Option State
-found_shard s o = option_and_then (λ (found : TableState). shard_of found.state.books s) o
+abbrev found_book : ℕ → Option TableState → Option BookState
+found_book s o = option_and_then (λ (found : TableState). slice_get found.state.books s) o
+
+-- what a shard is now is what its book says
+pub live_in : (tables : List TableState) (t s : ℕ) → shard_at tables t s ≡ option_map (λ (book : BookState). book.live) (book_at tables t s)
+live_in tables t s = by (slice_get tables t)
+  where
+    by : (o : Option TableState) → option_and_then (λ (found : TableState). shard_of found.state.books s) o ≡ option_map (λ (book : BookState). book.live) (found_book s o)
+    by None = refl
+    by (Some found) = refl
 
 abbrev pub before_of : {old new : List TableState} {call : Call} {reply : Reply} → AnswersAt old call reply new → State
 before_of answers = answers.extends.before.live
@@ -35,24 +49,32 @@ after_of answers = answers.extends.after.live
 pub step_of : {old new : List TableState} {call : Call} {reply : Reply} (answers : AnswersAt old call reply new) → Step (before_of answers) call.event reply (after_of answers)
 step_of answers = answers.extends.extends.step
 
-pub replaces : (old new : List TableState) (call : Call) (reply : Reply) (answers : AnswersAt old call reply new) → Replaces old new call.table call.shard (before_of answers) (after_of answers)
-replaces old new call reply answers =
+pub replaces_book : (old new : List TableState) (call : Call) (reply : Reply) (answers : AnswersAt old call reply new) → ReplacesBook old new call.table call.shard answers.extends.before answers.extends.after
+replaces_book old new call reply answers =
     let before : TableState = answers.before in
     let changed : TableState = record before { state = answers.after } in
     let found : slice_get new call.table ≡ Some changed = ap (λ ts. slice_get ts call.table) answers.others ∙ get_set_same old call.table changed before answers.at in
     let books : answers.after.books ≡ slice_set before.state.books call.shard answers.extends.after = ap (λ (s : BooksState). s.books) answers.extends.others in
     record {
-      was = ap (found_shard call.shard) answers.at ∙ ap (option_map (λ (b : BookState). b.live)) answers.extends.at;
-      is = ap (found_shard call.shard) found ∙ ap (λ bs. shard_of bs call.shard) books
-          ∙ ap (option_map (λ (b : BookState). b.live)) (get_set_same before.state.books call.shard answers.extends.after answers.extends.before answers.extends.at);
-      others = λ t s differ. elim (nat_eq t call.table) as (λ b. nat_eq t call.table ≡ b → (b && nat_eq s call.shard) ≡ false → shard_at new t s ≡ shard_at old t s) [
+      was = ap (found_book call.shard) answers.at ∙ answers.extends.at;
+      is = ap (found_book call.shard) found ∙ ap (λ bs. slice_get bs call.shard) books ∙ get_set_same before.state.books call.shard answers.extends.after answers.extends.before answers.extends.at;
+      others = λ t s differ. elim (nat_eq t call.table) as (λ b. nat_eq t call.table ≡ b → (b && nat_eq s call.shard) ≡ false → book_at new t s ≡ book_at old t s) [
         | true ↦ λ here other.
             let at : t ≡ call.table = eq-from t call.table here in
-            let stays : shard_of answers.after.books s ≡ shard_of before.state.books s =
-            ap (λ bs. shard_of bs s) books ∙ ap (option_map (λ (b : BookState). b.live)) (get_set_other before.state.books call.shard s answers.extends.after other) in
-            ap (λ n. shard_at new n s) at ∙ ap (found_shard s) found ∙ stays ∙ sym (ap (found_shard s) answers.at) ∙ sym (ap (λ n. shard_at old n s) at)
-        | false ↦ λ there other. ap (found_shard s) (ap (λ ts. slice_get ts t) answers.others ∙ get_set_other old call.table t changed there)
+            let stays : slice_get answers.after.books s ≡ slice_get before.state.books s = ap (λ bs. slice_get bs s) books ∙ get_set_other before.state.books call.shard s answers.extends.after other in
+            ap (λ n. book_at new n s) at ∙ ap (found_book s) found ∙ stays ∙ sym (ap (found_book s) answers.at) ∙ sym (ap (λ n. book_at old n s) at)
+        | false ↦ λ there other. ap (found_book s) (ap (λ ts. slice_get ts t) answers.others ∙ get_set_other old call.table t changed there)
       ] refl differ;
+    }
+
+pub replaces : (old new : List TableState) (call : Call) (reply : Reply) (answers : AnswersAt old call reply new) → Replaces old new call.table call.shard (before_of answers) (after_of answers)
+replaces old new call reply answers =
+    let live : Option BookState → Option State = λ o. option_map (λ (book : BookState). book.live) o in
+    let books = replaces_book old new call reply answers in
+    record {
+      was = live_in old call.table call.shard ∙ ap live books.was;
+      is = live_in new call.table call.shard ∙ ap live books.is;
+      others = λ t s differ. live_in new t s ∙ ap live (books.others t s differ) ∙ sym (live_in old t s);
     }
 
 -- ---- how often a reference is out

@@ -24,6 +24,10 @@ shard_of books shard = option_map (λ (book : BookState). book.live) (slice_get 
 abbrev pub shard_at : List TableState → ℕ → ℕ → Option State
 shard_at tables table shard = option_and_then (λ (found : TableState). shard_of found.state.books shard) (slice_get tables table)
 
+-- and its book
+abbrev pub book_at : List TableState → ℕ → ℕ → Option BookState
+book_at tables table shard = option_and_then (λ (found : TableState). slice_get found.state.books shard) (slice_get tables table)
+
 -- there is such a shard
 pub record HasShard (tables : List TableState) (table shard : ℕ) : Type 0 where
   pub found : TableState

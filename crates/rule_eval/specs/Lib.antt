@@ -10,3 +10,4 @@ pub mod Tracking
 pub mod Eval
 pub mod Ends
 pub mod Limit
+pub mod Examples

@@ -20,6 +20,7 @@ use Rattle.rule_eval.specs.declared.wants.Verdict.TheVariants.{Accept}
 use Rattle.rule_eval.specs.declared.wants.Want.TheVariants.{Done}
 use Rattle.rule_eval.proofs.LimitLaws.{within_lem}
 use Rattle.admit_core.specs.Connection.{Connection}
+use Rattle.admit_core.specs.declared.need.Phase.TheVariants.{Admitted}
 use Rattle.connection_drive.specs.Balance.{same_reference, times_by, times_in}
 use Rattle.world.specs.Balance.{times_held}
 use Rattle.world.specs.Limit.{admitted_of, holds_key, is_admitted, is_in, key_held}
@@ -29,7 +30,8 @@ use Rattle.connection_drive.specs.declared.reference.Reference.{Reference}
 use Rattle.connection_drive.proofs.CallLemmas.{self_reference}
 use Rattle.world.proofs.LimitLemmas.{HasTracked, IsLimited, found_among, passed_within, phase_of}
 use Rattle.world.proofs.PassedLemmas.{count_matched}
-use Rattle.world.proofs.WorldLemmas.{IsWorld, once_out}
+use Rattle.connection_drive.proofs.StartLemmas.{once_out}
+use Rattle.world.proofs.WorldLemmas.{IsWorld}
 
 -- whether a slot holds the ticket of a shard
 abbrev mine : ℕ → ℕ → Option (ℕ × Reference) → Ticket × Key → Bool
@@ -67,15 +69,21 @@ module _ (setup : Setup) (name : List ℕ) (table limit : ℕ) (key : Key) (worl
       let reference : ℕ × Reference = (table, record { shard = part; ticket = held.0 }) in
       omega (arith, count_mine table part held world.connections, stands.balance reference, once_out setup world.tables reference stands.tables)
 
+  -- the ticket of one that is admitted has passed
+  pub ticket_passed : (i : ℕ) (c : Connection Reference) (entry : ℕ × Reference) → slice_get world.connections i ≡ Some c → (tracked : HasTracked setup table limit key world.tables passed c entry) → c.progress.phase ≡ Admitted → tracked.source ≡ key
+      → list_any (same_ticket entry.1.ticket) passed ≡ true
+  ticket_passed i c entry at tracked admitted source =
+      let lived = stands.each i c at in
+      let accepted : next setup c.samples c.answers ≡ Done Accept = ap (λ (s : Setup). next s c.samples c.answers) (sym lived.1) ∙ lived.0.accepted admitted in
+      let within : IsWithin limit c.answers = within_lem setup name table limit c.samples tracked.source c.answers first tracked.is accepted in
+      passed_within limit passed entry.1.ticket c.answers within (tracked.looked source)
+
   of_entry : (i : ℕ) (c : Connection Reference) (entry : ℕ × Reference) → slice_get world.connections i ≡ Some c → HasTracked setup table limit key world.tables passed c entry → is_admitted c.progress.phase ≡ true
       → option_map_or (same_key key) (key_held world.tables (Some entry)) false ≡ true → list_any (λ h. has_passed key passed h && mine table part (Some entry) h) limited.live.tickets ≡ true
   of_entry i c entry at tracked admitted keyed =
       let known : same_key key tracked.source ≡ true = sym (ap (λ o. option_map_or (same_key key) o false) tracked.keyed) ∙ keyed in
       let source : tracked.source ≡ key = sym (same_key-exact key tracked.source known) in
-      let lived = stands.each i c at in
-      let accepted : next setup c.samples c.answers ≡ Done Accept = ap (λ (s : Setup). next s c.samples c.answers) (sym lived.1) ∙ lived.0.accepted (phase_of c.progress.phase admitted) in
-      let within : IsWithin limit c.answers = within_lem setup name table limit c.samples tracked.source c.answers first tracked.is accepted in
-      let passes : list_any (same_ticket entry.1.ticket) passed ≡ true = passed_within limit passed entry.1.ticket c.answers within (tracked.looked source) in
+      let passes : list_any (same_ticket entry.1.ticket) passed ≡ true = ticket_passed i c entry at tracked (phase_of c.progress.phase admitted) source in
       let on : entry.1.shard ≡ part = tracked.on_shard ∙ ap (λ k. shard k setup.shards) source in
       let there : shard_at world.tables entry.0 entry.1.shard ≡ Some limited.live = (λ k. shard_at world.tables (tracked.in_table k) (on k)) ∙ limited.at in
       let of_key : key_of entry.1.ticket limited.live.tickets ≡ Some key =

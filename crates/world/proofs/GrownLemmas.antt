@@ -17,7 +17,8 @@ use Rattle.connection_drive.specs.Tables.{TableState, shard_at}
 use Rattle.connection_drive.specs.declared.call.Call.{Call}
 use Rattle.connection_drive.proofs.SumLemmas.{some_same}
 use Rattle.connection_drive.proofs.CallLemmas.{eq_self}
-use Rattle.connection_drive.proofs.ShardLemmas.{Replaces, after_of, before_of, replaces, step_of}
+use Rattle.connection_drive.proofs.ShardLemmas.{Replaces, after_of, before_of, replaces, replaces_book, step_of}
+use Rattle.world.proofs.RecordLemmas.{IsRecorded, recorded_more}
 use Rattle.world.proofs.StayLemmas.{passed_last, passed_more}
 
 -- the shard has come from an empty table by these events
@@ -25,6 +26,7 @@ pub record IsRun (table part : ℕ) (tables : List TableState) (spec : Spec) (ev
   pub live : State
   pub at : shard_at tables table part ≡ Some live
   pub run : Run (empty_table spec) events replies live
+  pub recorded : IsRecorded table part tables spec events replies
 
 -- with an answer of some shard it has come by later ones; looks that passed have passed for ever, and one of its own may pass
 pub record IsGrown (table part limit : ℕ) (key : Key) (spec : Spec) (made : List Event) (told : List Reply) (tables : List TableState) (call : Call) (reply : Reply) : Type 0 where
@@ -49,13 +51,16 @@ grown table part limit key old new call reply spec made told answers_it comes = 
     replaced = replaces old new call reply answers_it
 
     stays : (nat_eq table call.table && nat_eq part call.shard) ≡ false → (call.table ≡ table → call.shard ≡ part → ⊥) → IsGrown table part limit key spec made told new call reply
-    stays differ never = record {
-      events = made;
-      replies = told;
-      comes = record { live = comes.live; at = replaced.others table part differ ∙ comes.at; run = comes.run };
-      more = λ ticket passed. passed;
-      last = λ t s ticket passes. absurd (never t s);
-    }
+    stays differ never =
+        let before = comes.recorded in
+        let recorded : IsRecorded table part new spec made told = record { book = before.book; at = (replaces_book old new call reply answers_it).others table part differ ∙ before.at; base = before.base; calls = before.calls } in
+        record {
+          events = made;
+          replies = told;
+          comes = record { live = comes.live; at = replaced.others table part differ ∙ comes.at; run = comes.run; recorded = recorded };
+          more = λ ticket passed. passed;
+          last = λ t s ticket passes. absurd (never t s);
+        }
 
     by : (a b : Bool) → nat_eq table call.table ≡ a → nat_eq part call.shard ≡ b → IsGrown table part limit key spec made told new call reply
     by true true t s =
@@ -69,6 +74,7 @@ grown table part limit key old new call reply spec made told answers_it comes = 
             live = after_of answers_it;
             at = (λ k. shard_at new (in_table k) (in_shard k)) ∙ replaced.is;
             run = run_more (empty_table spec) made told (before_of answers_it) call.event reply (after_of answers_it) run (step_of answers_it);
+            recorded = recorded_more table part old new call reply spec made told answers_it comes.recorded (before_of answers_it) run in_table in_shard;
           };
           more = λ ticket passed. passed_more (same_ticket ticket) key limit (empty_table spec) made told (before_of answers_it) call.event reply run passed;
           last = λ t s ticket passes. passed_last (same_ticket ticket) key limit (empty_table spec) made told (before_of answers_it) call.event reply run passes;

@@ -1,3 +1,4 @@
+pub mod RecordLemmas
 pub mod WakeLemmas
 pub mod WorldLemmas
 pub mod PassedLemmas
@@ -13,3 +14,6 @@ pub mod LimitedLemmas
 pub mod RunLemmas
 pub mod ScheduleLemmas
 pub mod JoinLemmas
+pub mod HomeLemmas
+pub mod ShownLemmas
+pub mod RowLemmas

@@ -28,6 +28,7 @@ use Rattle.world.specs.Limit.{is_admitted, key_held}
 use Rattle.connection_drive.specs.Tables.{TableState, shard_at}
 use Rattle.world.specs.World.{WorldState}
 use Rattle.connection_drive.specs.declared.reference.Reference.{Reference}
+use Rattle.world.proofs.RecordLemmas.{IsRecorded}
 
 -- ---- what holds of each connection behind rules that begin so
 
@@ -55,6 +56,7 @@ pub record IsLimited (setup : Setup) (table limit : ℕ) (key : Key) (world : Wo
   pub stores : is_column spec.columns ConnCur ≡ true
   pub at : shard_at world.tables table (shard key setup.shards) ≡ Some live
   pub run : Run (empty_table spec) events replies live
+  pub recorded : IsRecorded table (shard key setup.shards) world.tables spec events replies
   pub each : (i : ℕ) (connection : Connection Reference) (entry : ℕ × Reference) → slice_get world.connections i ≡ Some connection → connection.progress.held.sc0 ≡ Some entry
       → HasTracked setup table limit key world.tables (passing_looks key limit events replies) connection entry
 

@@ -1,28 +1,36 @@
 -- Whatever the schedule, admitted connections hold a key at most as often as the limit.
-use Rattle.std.proofs.Common.{◌≡◌, ⊎_elim, ℕ, ◌≤◌, ◌<◌, ◌^◌, refl, sym, ap, subst, ◌∙◌, arith, Bool, true, List, [], ◌∷◌, length, slice_get, Some, is_some}
+use Rattle.std.proofs.Common.{◌≡◌, ⊎_elim, ℕ, ◌≤◌, ◌<◌, ◌^◌, refl, sym, ap, subst, ◌∙◌, arith, Bool, true, ◌&&◌, List, [], ◌∷◌, length, slice_get, Option, Some, option_map, is_some}
+use Rattle.std.specs.List.{list_any}
 use Rattle.std.specs.Option.{option_and_then}
 use Rattle.std.proofs.lemmas.List.Elements.{All-head, All-tail}
+use Rattle.stick_key.specs.Shard.{shard}
 use Rattle.table_model.specs.Key.{Key}
 use Rattle.table_model.specs.Passed.{passing_looks}
-use Rattle.table_model.specs.State.{State, key_of}
+use Rattle.table_model.specs.State.{State, key_of, same_ticket}
 use Rattle.table_model.specs.declared.rows.Ticket.{Ticket}
+use Rattle.table_model.proofs.KeyLemmas.{same_key-refl}
 use Rattle.rule_model.specs.declared.actions.Slot.TheVariants.{Sc0}
 use Rattle.rule_model.specs.declared.sections.Setup.{Setup}
 use Rattle.rule_eval.specs.Limit.{LimitsFirst}
+use Rattle.shard_book.specs.BookState.{BookState, IsBook}
 use Rattle.admit_core.specs.Connection.{Connection}
 use Rattle.admit_core.specs.declared.held.Held.{Held}
+use Rattle.admit_core.specs.declared.need.Phase.TheVariants.{Admitted}
 use Rattle.connection_drive.specs.Balance.{times_by}
-use Rattle.world.specs.Limit.{AdmittedLimitLaw, key_held}
+use Rattle.world.specs.Limit.{AdmittedLimitLaw, AdmittedPassedLaw, HasPassed, key_held}
+use Rattle.connection_drive.specs.Tables.{book_at, shard_at}
 use Rattle.world.specs.World.{Element, Elements, IsSchedule, WorldState, begun, woken}
 use Rattle.connection_drive.specs.declared.reference.Reference.{Reference}
 use Rattle.world.specs.declared.visit.Visit.{Visit}
-use Rattle.world.proofs.AdmittedLemmas.{limited_count}
-use Rattle.connection_drive.proofs.SumLemmas.{sum_at}
+use Rattle.world.proofs.AdmittedLemmas.{limited_count, ticket_passed}
+use Rattle.connection_drive.proofs.SumLemmas.{some_same, sum_at}
 use Rattle.world.proofs.GoneLemmas.{HasGone, move_gone}
 use Rattle.connection_drive.proofs.TablesLemmas.{get_after_set}
 use Rattle.world.proofs.HeardLemmas.{tracked_still}
 use Rattle.connection_drive.proofs.CallLemmas.{held_out, out_here}
 use Rattle.world.proofs.LimitLemmas.{HasTracked, IsLimited, Looked}
+use Rattle.connection_drive.proofs.ShardLemmas.{live_in}
+use Rattle.world.proofs.RecordLemmas.{IsOwnRun, book_there, own_of_book}
 use Rattle.world.proofs.ShardLemmas.{looked_passed}
 use Rattle.world.proofs.StartLemmas.{begun_limited}
 use Rattle.world.proofs.WorldLemmas.{IsWoken, IsWorld, awake, begun_world, element_world}
@@ -59,7 +67,7 @@ module _ (setup : Setup) (visits : List Visit) (old new : WorldState) (element :
 
   gone : HasGone setup table limit key limited.spec limited.events limited.replies old.tables new.tables goes.after
   gone =
-      move_gone setup name table limit key old.tables limited.spec limited.events limited.replies mover first before.tables limited.stores (record { live = limited.live; at = limited.at; run = limited.run })
+      move_gone setup name table limit key old.tables limited.spec limited.events limited.replies mover first before.tables limited.stores (record { live = limited.live; at = limited.at; run = limited.run; recorded = limited.recorded })
       is_woken.lived (is_woken.setup ∙ (before.each element.0 goes.connection goes.is_it).1) mover_tracked new.tables will.tables element.1 goes.after was_refused goes.moves
 
   pub element_limited : IsLimited setup table limit key new
@@ -71,6 +79,7 @@ module _ (setup : Setup) (visits : List Visit) (old new : WorldState) (element :
     stores = limited.stores;
     at = gone.comes.at;
     run = gone.comes.run;
+    recorded = gone.comes.recorded;
     each = λ i connection entry at holds.
         let later : List Ticket = passing_looks key limit gone.events gone.replies in
         let out : is_some (key_held new.tables (Some entry)) ≡ true = held_keyed setup new i connection entry will at holds in
@@ -99,3 +108,41 @@ pub limit_law : AdmittedLimitLaw
 limit_law setup visits schedule world count name table limit key opens first is goes =
     let stand = elements_limited setup visits name table limit key (begun setup visits) schedule world count is goes first (begun_world setup visits opens) (begun_limited setup visits name table limit key opens first) in
     limited_count setup name table limit key world first stand.0 stand.1
+
+-- ---- who has passed
+
+passed_of : (setup : Setup) (name : List ℕ) (table limit i : ℕ) (world : WorldState) (connection : Connection Reference) (entry : ℕ × Reference) (source : Key) → LimitsFirst setup name table limit → IsWorld setup world
+    → (limited : IsLimited setup table limit source world) → slice_get world.connections i ≡ Some connection → connection.progress.phase ≡ Admitted
+    → (tracked : HasTracked setup table limit source world.tables (passing_looks source limit limited.events limited.replies) connection entry) → tracked.source ≡ source → (entry.0 ≡ table) × HasPassed setup.shards limit world.tables entry
+passed_of setup name table limit i world connection entry source first stands limited at admitted tracked same =
+    let passes : list_any (same_ticket entry.1.ticket) (passing_looks source limit limited.events limited.replies) ≡ true = ticket_passed setup name table limit source world first stands limited i connection entry at tracked admitted same in
+    let part : ℕ = shard source setup.shards in
+    let on : entry.1.shard ≡ part = tracked.on_shard ∙ ap (λ k. shard k setup.shards) same in
+    let of_state : Option State → Option Key = λ o. option_and_then (λ (state : State). key_of entry.1.ticket state.tickets) o in
+    let there : shard_at world.tables entry.0 entry.1.shard ≡ Some limited.live = (λ k. shard_at world.tables (tracked.in_table k) (on k)) ∙ limited.at in
+    let book : BookState = limited.recorded.book in
+    let live : book.live ≡ limited.live = some_same book.live limited.live (sym (live_in world.tables table part ∙ ap (option_map (λ (b : BookState). b.live)) limited.recorded.at) ∙ limited.at) in
+    let is : IsBook book = book_there setup world.tables table part book stands.tables limited.recorded.at in
+    let own : IsOwnRun book is limited.spec limited.events limited.replies =
+    own_of_book table part world.tables limited.spec limited.events limited.replies limited.live limited.recorded is limited.run live in (
+      tracked.in_table,
+      record {
+        key = source;
+        book = book;
+        is = is;
+        at = (λ k. book_at world.tables (tracked.in_table k) (on k)) ∙ limited.recorded.at;
+        on_shard = on;
+        since_empty = own.since_empty;
+        of_key = ap (λ (s : State). key_of entry.1.ticket s.tickets) live ∙ sym (ap of_state there) ∙ tracked.keyed ∙ ap Some same;
+        passed = (λ k. same_key-refl source k && list_any (same_ticket entry.1.ticket) (passing_looks source limit (own.events_are k) (own.replies_are k))) ∙ passes;
+      },
+    )
+
+pub admitted_passed_law : AdmittedPassedLaw
+admitted_passed_law setup visits schedule world count name table limit i connection entry opens first is goes at admitted holds =
+    let stand : (key : Key) → IsWorld setup world × IsLimited setup table limit key world =
+    λ key. elements_limited setup visits name table limit key (begun setup visits) schedule world count is goes first (begun_world setup visits opens) (begun_limited setup visits name table limit key opens first) in
+    let any = (stand []).1.each i connection entry at holds in
+    let own = stand any.source in
+    let tracked = own.1.each i connection entry at holds in
+    passed_of setup name table limit i world connection entry any.source first own.0 own.1 at admitted tracked (some_same tracked.source any.source (sym tracked.is ∙ any.is))

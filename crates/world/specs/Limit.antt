@@ -1,15 +1,19 @@
 -- How many admitted connections hold one key.
-use Rattle.std.specs.Prelude.{ℕ, ◌≤◌, nat_eq, Bool, true, false, ◌&&◌, Option, Some, None, List, count_by, length}
+use Rattle.std.specs.Prelude.{◌≡◌, ℕ, ◌≤◌, nat_eq, Bool, true, false, ◌&&◌, Option, Some, None, List, count_by, length, slice_get}
 use Rattle.std.specs.Option.{option_map_or, option_and_then}
+use Rattle.stick_key.specs.Shard.{shard}
 use Rattle.table_model.specs.Key.{Key, same_key}
-use Rattle.table_model.specs.State.{State, key_of}
+use Rattle.table_model.specs.Passed.{has_passed, passing_looks}
+use Rattle.table_model.specs.Run.{events_of}
+use Rattle.table_model.specs.State.{State, empty_table, key_of}
+use Rattle.shard_book.specs.BookState.{BookState, IsBook, stored_of}
 use Rattle.rule_model.specs.declared.sections.Setup.{Setup}
 use Rattle.rule_eval.specs.Limit.{LimitsFirst}
 use Rattle.admit_core.specs.Connection.{Connection}
 use Rattle.admit_core.specs.declared.need.Phase.{Phase}
 use Rattle.admit_core.specs.declared.need.Phase.TheVariants.{Admitted}
 use Rattle.world.specs.Balance.{AreHeld}
-use Rattle.connection_drive.specs.Tables.{CanOpen, TableState, shard_at}
+use Rattle.connection_drive.specs.Tables.{CanOpen, TableState, book_at, shard_at}
 use Rattle.world.specs.World.{Elements, IsSchedule, WorldState, begun}
 use Rattle.connection_drive.specs.declared.reference.Reference.{Reference}
 use Rattle.world.specs.declared.visit.Visit.{Visit}
@@ -36,6 +40,20 @@ holds_key tables table key connection =
 abbrev pub admitted_of : WorldState → ℕ → Key → ℕ
 admitted_of world table key = count_by (holds_key world.tables table key) world.connections
 
+-- ---- which references have passed
+
+-- by the record of its book since an empty table, a reference that is out, of a key that lies on its shard, had a look whose
+-- row has at most so many references
+pub record HasPassed (shards limit : ℕ) (tables : List TableState) (entry : ℕ × Reference) : Type 0 where
+  pub key : Key
+  pub book : BookState
+  pub is : IsBook book
+  pub at : book_at tables entry.0 entry.1.shard ≡ Some book
+  pub on_shard : entry.1.shard ≡ shard key shards
+  pub since_empty : book.base ≡ empty_table book.live.spec
+  pub of_key : key_of entry.1.ticket book.live.tickets ≡ Some key
+  pub passed : has_passed key (passing_looks key limit (events_of (stored_of book.calls)) is.replies) (entry.1.ticket, key) ≡ true
+
 -- ---- laws
 
 -- whatever the schedule, the references that are out are those that connections hold, each once
@@ -49,3 +67,10 @@ abbrev pub AdmittedLimitLaw : Type 0
 AdmittedLimitLaw = (setup : Setup) (visits : List Visit) (schedule : List (ℕ × ℕ)) (world : WorldState) (count : ℕ) (name : List ℕ) (table limit : ℕ) (key : Key) →
     CanOpen setup → LimitsFirst setup name table limit → IsSchedule (length visits) schedule →
     Elements visits (begun setup visits) schedule world count → admitted_of world table key ≤ limit
+
+-- whatever the schedule, behind such rules the reference that an admitted connection holds by sc0 is one of that table, and has passed
+abbrev pub AdmittedPassedLaw : Type 0
+AdmittedPassedLaw = (setup : Setup) (visits : List Visit) (schedule : List (ℕ × ℕ)) (world : WorldState) (count : ℕ) (name : List ℕ) (table limit i : ℕ) (connection : Connection Reference) (entry : ℕ × Reference) →
+    CanOpen setup → LimitsFirst setup name table limit → IsSchedule (length visits) schedule → Elements visits (begun setup visits) schedule world count →
+    slice_get world.connections i ≡ Some connection → connection.progress.phase ≡ Admitted → connection.progress.held.sc0 ≡ Some entry →
+    (entry.0 ≡ table) × HasPassed setup.shards limit world.tables entry

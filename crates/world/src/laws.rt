@@ -1,6 +1,7 @@
 //! What every world keeps. Each law is the contract of a function that does nothing.
-ghost use Rattle.world.specs.Limit.{AdmittedLimitLaw, ReferencesLaw};
+ghost use Rattle.world.specs.Limit.{AdmittedLimitLaw, AdmittedPassedLaw, ReferencesLaw};
 ghost use Rattle.world.specs.Schedules.{SchedulesJoinLaw};
+ghost use Rattle.world.specs.Shown.{AnsweredRowsLaw, RowsLaw};
 
 /// Whatever the schedule, a reference is out exactly where a connection holds it, each once.
 pub fn references()
@@ -11,6 +12,23 @@ pub fn references()
 /// that stores `conn_cur`, and no other rule tracks by sc0, at most L admitted connections hold any one key by sc0.
 pub fn limit()
     ensures { AdmittedLimitLaw }
+{}
+
+/// Whatever the schedule: behind such rules the reference that an admitted connection holds by sc0 is, by the record of
+/// its book, one that had a look whose row has at most L references.
+pub fn admitted_passed()
+    ensures { AdmittedPassedLaw }
+{}
+
+/// Whatever the schedule, in a table that stores `conn_cur` the row of a key shows of it how many references of the key
+/// connections hold.
+pub fn rows()
+    ensures { RowsLaw }
+{}
+
+/// Whatever the schedule, so does each row that a connection is answered, by a Get or a Look.
+pub fn answered_rows()
+    ensures { AnsweredRowsLaw }
 {}
 
 /// Two schedules joined are one, then the other, and as many elements are refused.
