@@ -8,6 +8,7 @@ mod drive;
 mod open;
 mod reference;
 
+pub use call::Call;
 pub use drive::{advance, advance_to_rest};
 pub use open::open_tables;
 pub use reference::Reference;

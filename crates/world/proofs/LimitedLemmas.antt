@@ -39,7 +39,7 @@ use Rattle.world.proofs.WorldLemmas.{IsWoken, IsWorld, awake, begun_world, eleme
 held_keyed : (setup : Setup) (world : WorldState) (i : ℕ) (connection : Connection Reference) (entry : ℕ × Reference) → IsWorld setup world → slice_get world.connections i ≡ Some connection → connection.progress.held.sc0 ≡ Some entry
     → is_some (key_held world.tables (Some entry)) ≡ true
 held_keyed setup world i connection entry stands at holds =
-    let out : 1 ≤ Rattle.world.specs.Balance.times_out entry world.tables =
+    let out : 1 ≤ Rattle.connection_drive.specs.Balance.times_out entry world.tables =
     held_out world.tables connection.progress.held Sc0 entry
     (λ reference. omega (arith, stands.balance reference, sum_at (λ (c : Connection Reference). times_by reference c.progress.held) world.connections i connection at)) holds in
     let here = out_here world.tables entry out in

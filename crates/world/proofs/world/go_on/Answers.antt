@@ -5,7 +5,7 @@ use Rattle.shard_book.specs.declared.named.Named.{Named}
 use Rattle.world.specs.WorldCode.{StandsFor, world_view}
 use Rattle.world.specs.declared.guest.Guest.{Guest}
 use Rattle.world.specs.declared.visit.Visit.{Visit}
-use Rattle.world.proofs.RunLemmas.{covered_is, none_given, shards_are, tables_are, went}
+use Rattle.world.proofs.RunLemmas.{covered_is, none_given, tables_are, went}
 use Rattle.world.proofs.world.go_on.Goals as goal
 
 pub wake-requires : goal.wake-requires

@@ -1,7 +1,6 @@
 use Rattle.std.proofs.Common.{◌≡◌, ◌++◌, ◌∷◌, [], List, None, length, take, drop, subst, sym, ap, ◌∙◌, arith, is_some}
 use Rattle.std.proofs.lemmas.Grind.{common_steps}
 use Rattle.admit_core.specs.Connection.{Connection, arrived}
-use Rattle.rule_model.specs.declared.sections.Setup.{Setup}
 use Rattle.shard_book.specs.BooksState.{BooksState}
 use Rattle.shard_book.specs.declared.named.Named.{Named}
 use Rattle.connection_drive.specs.Moves.{ComesToRest}

@@ -1,5 +1,4 @@
 use Rattle.std.proofs.Common.{◌≡◌, ◌≤◌, length, take}
-use Rattle.world.specs.WorldCode.{IsReached}
 use Rattle.world.proofs.ScheduleLemmas.{HasRun}
 use Rattle.world.proofs.world.World.run.Given as goal
 
@@ -7,8 +6,7 @@ use Rattle.world.proofs.world.World.run.Given as goal
 abbrev pub invariant-loop-number : goal.invariant-loop-number
 invariant-loop-number g l = record {
   few : l.refused ≤ l.number-index;
-  setup : l.self.setup.now ≡ l.fn.self.setup.now;
-  count : length l.self.guests.items ≡ length l.fn.self.guests.items;
-  reached : IsReached l.self.setup.now l.self.tables.items l.self.guests.items;
-  ran : HasRun l.fn.self.tables.items l.fn.self.guests.items (take l.number-index l.schedule) l.self.tables.items l.self.guests.items l.refused;
+  setup : l.self.setup ≡ l.fn.self.setup;
+  count : length l.self.guests ≡ length l.fn.self.guests;
+  ran : HasRun l.fn.self (take l.number-index l.schedule) l.self l.refused;
 }
