@@ -7,3 +7,4 @@ pub mod Left
 pub mod History
 pub mod Shown
 pub mod Life
+pub mod Examples

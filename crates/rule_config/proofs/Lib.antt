@@ -1,3 +1,4 @@
 pub mod ReadLemmas
 pub mod LawLemmas
 pub mod LimitLemmas
+pub mod ExampleLemmas

@@ -3,3 +3,4 @@ pub mod Statements
 pub mod Lines
 pub mod Config
 pub mod Laws
+pub mod Examples

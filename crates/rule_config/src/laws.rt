@@ -1,5 +1,6 @@
 //! What the definition of a configuration comes to. Each law is the contract of a function that does nothing.
 
+ghost use Rattle.rule_config.specs.Examples.{ExamplesLaw};
 ghost use Rattle.rule_config.specs.Laws.{FaultLaw, Utf8Law};
 
 /// A configuration's fault is that of its first faulty line: the lines before it are read without fault. Where no line
@@ -11,4 +12,9 @@ pub fn first_fault()
 /// A line that is not UTF-8 has that fault, whatever else is wrong with it.
 pub fn not_utf8_first()
     ensures { Utf8Law }
+{}
+
+/// What some small configurations come to: the fault of each with its line, and the rules of one.
+pub fn examples()
+    ensures { ExamplesLaw }
 {}

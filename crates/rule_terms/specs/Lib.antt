@@ -3,3 +3,4 @@ pub mod Values
 pub mod Conditions
 pub mod Drafts
 pub mod Sentences
+pub mod Examples
