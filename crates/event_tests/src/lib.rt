@@ -4,6 +4,8 @@
 #[cfg(test)]
 mod answers;
 #[cfg(test)]
+mod books;
+#[cfg(test)]
 mod draws;
 #[cfg(test)]
 mod reckoning;

@@ -19,7 +19,7 @@ use stored_data::{Act, Column, Datum, StoredSet};
 
 /// What is asked: of the address 10.0.0.HOST, or of the ticket that was told last.
 #[derive(Clone, Copy)]
-enum Ask {
+pub enum Ask {
     Get(u8),
     Track(u8),
     Look,
@@ -35,11 +35,11 @@ enum Ask {
 }
 
 /// What a row shows: the host, its references, what is left of its life in ms, and gpc0.
-type Shown = (u8, u32, u64, u64);
+pub type Shown = (u8, u32, u64, u64);
 
 /// What is told.
 #[derive(Clone, Copy)]
-enum Tell {
+pub enum Tell {
     Absent,
     Row(Shown),
     NoRefs,
@@ -57,10 +57,10 @@ enum Tell {
 }
 
 /// A moment in ms, what is asked at it, and what is told of it.
-type Told = (u32, Ask, Tell);
+pub type Told = (u32, Ask, Tell);
 
 /// What a table of IPv4 addresses that stores gpc0 is made with.
-fn spec(
+pub fn spec(
     alloc: Global,
     size: u32,
     expire: Option<u32>,
@@ -91,7 +91,7 @@ fn spec(
 }
 
 /// The key of a host.
-fn key(alloc: Global, host: u8) -> Result<StickKey, NoMemory> {
+pub fn key(alloc: Global, host: u8) -> Result<StickKey, NoMemory> {
     match convert(alloc, &Sample::V4([10, 0, 0, host]), KeyType::Ip) {
         Ok(Some(key)) => Ok(key),
         _ => Err(NoMemory),
@@ -99,7 +99,7 @@ fn key(alloc: Global, host: u8) -> Result<StickKey, NoMemory> {
 }
 
 /// What is asked, as an event.
-fn event_of(alloc: Global, now: u32, ask: Ask, ticket: Ticket) -> Result<Event, NoMemory>
+pub fn event_of(alloc: Global, now: u32, ask: Ask, ticket: Ticket) -> Result<Event, NoMemory>
     ensures { IfOk result IsTableEvent }
 {
     let now = u64::from(now);
@@ -153,7 +153,7 @@ fn are_rows(rows: &[Row], shown: &[Shown]) -> bool {
 }
 
 /// Whether a reply tells that.
-fn is_told(reply: &Reply, tell: Tell) -> bool {
+pub fn is_told(reply: &Reply, tell: Tell) -> bool {
     match (reply, tell) {
         (Reply::Row(row), Tell::Row(shown)) => is_row(row, shown),
         (Reply::Tracked { ticket, row }, Tell::Tracked(number, shown)) => ticket.number == number
@@ -188,7 +188,7 @@ fn last_ticket(before: Ticket, answer: &Result<Reply, Refusal>) -> Ticket {
     }
 }
 
-const NO_TICKET: Ticket = Ticket { number: 9, slot: 0 };
+pub const NO_TICKET: Ticket = Ticket { number: 9, slot: 0 };
 
 /// Whether a table and a book of one, made with this, both tell that, one after another.
 fn tell_both(alloc: Global, spec: Spec, rows: &[Told]) -> Result<bool, NoMemory>
@@ -214,7 +214,7 @@ fn tell_both(alloc: Global, spec: Spec, rows: &[Told]) -> Result<bool, NoMemory>
 }
 
 /// The table has one event left for the release.
-static END_OF_LIFE: [Told; 9] = [
+pub static END_OF_LIFE: [Told; 9] = [
     (0, Ask::Look, Tell::Refused(Refusal::Stale)),
     (0, Ask::IncGpc0, Tell::Refused(Refusal::Stale)),
     (0, Ask::Track(1), Tell::Tracked(1, (1, 1, 0, 0))),
@@ -233,7 +233,7 @@ fn a_reference_can_be_given_back_at_the_end_of_life(rt: HostRuntime) -> Result<(
     Ok(())
 }
 
-static DATES: [Told; 9] = [
+pub static DATES: [Told; 9] = [
     (0, Ask::Put(1, 7), Tell::Created),
     (20_000, Ask::Get(1), Tell::Row((1, 0, 10_000, 7))),
     (29_999, Ask::Get(1), Tell::Row((1, 0, 1, 7))),
@@ -252,7 +252,7 @@ fn an_entry_is_gone_at_its_date(rt: HostRuntime) -> Result<(), Fail> {
     Ok(())
 }
 
-static ONE_REFERENCE: [Told; 3] = [
+pub static ONE_REFERENCE: [Told; 3] = [
     (0, Ask::Track(1), Tell::Tracked(1, (1, 1, 0, 0))),
     (0, Ask::Track(2), Tell::NoRefs),
     (0, Ask::List(Op::Ge, 0), Tell::Rows(1, &[(1, 1, 0, 0)])),
@@ -332,7 +332,7 @@ fn a_run_of_events_is_answered(rt: HostRuntime) -> Result<(), Fail> {
 }
 
 /// A full table of two entries, which tracks the first host at 1 ms, and purges the second for the third at 3 ms.
-static PURGING: [Told; 7] = [
+pub static PURGING: [Told; 7] = [
     (0, Ask::Put(1, 1), Tell::Created),
     (1, Ask::Track(1), Tell::Tracked(2, (1, 1, 0, 1))),
     (2, Ask::Put(2, 0), Tell::Created),

@@ -1,5 +1,5 @@
 -- A call more keeps a book, and its record's places.
-use Rattle.std.proofs.Common.{◌≡◌, ℕ, ◌+◌, ◌≤◌, List, [], ◌∷◌, ◌++◌, length, true, refl, sym, ap, ◌∙◌, subst, arith, rules}
+use Rattle.std.proofs.Common.{◌≡◌, ℕ, ◌+◌, ◌≤◌, ◌^◌, List, [], ◌∷◌, ◌++◌, length, true, refl, sym, ap, ◌∙◌, subst, arith, rules}
 use Rattle.std.proofs.lemmas.List.Elements.{All-push}
 use Rattle.table_model.specs.State.{State, empty_table}
 use Rattle.table_model.specs.Step.{Step, slot_of}
@@ -12,7 +12,7 @@ use Rattle.table_model.specs.declared.events.Event.{Event}
 use Rattle.table_model.specs.declared.replies.Reply.{Reply}
 use Rattle.table_model.specs.declared.replies.Reply.TheVariants.{Tracked, Released}
 use Rattle.table_model.proofs.StepLemmas.{step_places, given_by, taken_by}
-use Rattle.table_model.proofs.RunLemmas.{lasting_run_more, stored-from-lasting, stored_run_spec}
+use Rattle.table_model.proofs.RunLemmas.{lasting_run_more, stored-from-lasting, stored_run_events, stored_run_spec}
 use Rattle.table_model.specs.Run.{StoredRun}
 use Rattle.table_model.proofs.LegalLemmas.{orderly-from_legal, step_legal, step_tickets-length, empty_legal}
 use Rattle.shard_book.specs.declared.recorded.Recorded.{Recorded}
@@ -41,6 +41,15 @@ book_more base live calls seat event reply next book taken lives step =
       live_legal = step_legal live event reply next book.live_legal taken lives step;
     }
 
+-- the record with one call more, as the code leaves it: places are reserved, and the call is pushed
+pub recorded_more : (base live : State) (old reserved new : List Recorded) (call : Recorded) (seat : ℕ) (event : Event) (reply : Reply) (next : State)
+    → new ≡ reserved ++ call ∷ [] → reserved ≡ old → call ≡ recorded seat event reply
+    → IsBook (record { base = base; calls = old; live = live }) → IsTableEvent event → has_life live event ≡ true → Step live event reply next
+    → IsBook (record { base = base; calls = new; live = next })
+recorded_more base live old reserved new call seat event reply next pushed stays is book taken lives step =
+    let more : IsBook (record { base = base; calls = old ++ recorded seat event reply ∷ []; live = next }) = book_more base live old seat event reply next book taken lives step in
+    subst (λ (calls : List Recorded). IsBook (record { base = base; calls = calls; live = next })) (sym (one_behind old reserved new call (recorded seat event reply) pushed stays is)) more
+
 out-counted : (reply : Reply) (before after : ℕ) → after + taken_by reply ≡ before + given_by reply → after ≡ out_after before reply
 out-counted (Tracked ticket row) before after h = omega (arith, h)
 out-counted Released before after h = omega (arith, h)
@@ -66,6 +75,19 @@ places-more live event reply next used capacity legal step room =
       room = omega (arith, counted, tickets, places, room);
     }
 
+-- the same, with what the code counts: the tickets that are out, and the record's length and capacity
+pub places-recorded : (live : State) (event : Event) (reply : Reply) (next : State) (used capacity out_before new_used new_capacity out_now : ℕ)
+    → IsLegal live → Step live event reply next → out_before ≡ length live.tickets → used + out_before + life_taken event ≤ capacity
+    → new_used ≡ used + 1 → new_capacity ≡ capacity → out_now ≡ out_after out_before reply → HasPlaces next new_used new_capacity out_now
+places-recorded live event reply next used capacity out_before new_used new_capacity out_now legal step counted place more same now =
+    let places : HasPlaces next (used + 1) capacity (out_after (length live.tickets) reply) = places-more live event reply next used capacity legal step (omega arith) in
+    let out : out_now ≡ out_after (length live.tickets) reply = now ∙ ap (λ n. out_after n reply) counted in
+    record { counted = out ∙ places.counted; room = omega (arith, out, places.room) }
+
+-- a ticket that is given back is counted
+pub held_counted : (live : State) (event : Event) (reply : Reply) (next : State) (out : ℕ) → IsLegal live → Step live event reply next → out ≡ length live.tickets → reply ≡ Released → 1 ≤ out
+held_counted live event reply next out legal step counted is = let some : 1 ≤ length live.tickets = held live event reply next legal step is in omega arith
+
 -- a book's run, as one of stored calls
 pub stored_run : (book : BookState) (is : IsBook book) → StoredRun book.base (stored_of book.calls) is.replies book.live
 stored_run book is = stored-from-lasting book.base (stored_of book.calls) is.replies book.live is.run
@@ -73,6 +95,25 @@ stored_run book is = stored-from-lasting book.base (stored_of book.calls) is.rep
 -- a book is of one specification
 pub live_limits : (book : BookState) → IsBook book → IsTableSpec book.live.spec
 live_limits book is = subst IsTableSpec (sym (stored_run_spec book.base (stored_of book.calls) is.replies book.live (stored_run book is))) is.limits
+
+-- ---- how many events there were
+
+pub length-stored_of : (calls : List Recorded) → length (stored_of calls) ≡ length calls
+length-stored_of [] = refl
+length-stored_of (first ∷ rest) = let less : length (stored_of rest) ≡ length rest = length-stored_of rest in omega arith
+
+pub live_events : (book : BookState) → IsBook book → book.live.events ≡ book.base.events + length book.calls
+live_events book is =
+    let run : book.live.events ≡ book.base.events + length (stored_of book.calls) = stored_run_events book.base (stored_of book.calls) is.replies book.live (stored_run book is) in
+    let count : length (stored_of book.calls) ≡ length book.calls = length-stored_of book.calls in
+    omega arith
+
+pub live_events-limit : (book : BookState) → IsBook book → book.live.events ≤ 2 ^ 62
+live_events-limit book is =
+    let limits : IsTableSpec book.live.spec = live_limits book is in
+    let within : book.live.events + length book.live.tickets ≤ book.live.spec.life = is.live_legal.within_life in
+    let life : book.live.spec.life ≤ 2 ^ 62 = limits.life in
+    omega arith
 
 -- ---- the book of an empty table
 

@@ -12,7 +12,7 @@ use Rattle.table_model.proofs.RunLemmas.{lasting-law, run_determined, stored_run
 use Rattle.shard_book.specs.declared.recorded.Recorded.{Recorded}
 use Rattle.shard_book.specs.BookState.{Answered, BookState, Extends, IsBook, answered, of_seat, recorded, stored_of}
 use Rattle.shard_book.specs.Laws.{OneRecordLaw, ReplayLaw, ToldLaw}
-use Rattle.shard_book.proofs.BookLemmas.{stored_of-push, stored_run}
+use Rattle.shard_book.proofs.BookLemmas.{length-stored_of, stored_of-push, stored_run}
 
 pub one-record-law : OneRecordLaw
 one-record-law book is replies new run = run_determined book.base (stored_of book.calls) replies is.replies new book.live run (stored_run book is)
@@ -54,10 +54,6 @@ answered-more : (old : BookState) (seat : ℕ) (event : Event) (reply : Reply) (
 answered-more old seat event reply new was is extends =
     let counts : length was.replies ≡ length old.calls = stored_run_length old.base (stored_of old.calls) was.replies old.live (stored_run old was) ∙ length-stored_of old.calls in
     (λ k. answered (extends.calls k) (replies-more old seat event reply new was is extends k)) ∙ answered-push old.calls was.replies (recorded seat event reply) reply counts
-  where
-    length-stored_of : (calls : List Recorded) → length (stored_of calls) ≡ length calls
-    length-stored_of [] = refl
-    length-stored_of (first ∷ rest) = let less : length (stored_of rest) ≡ length rest = length-stored_of rest in omega arith
 
 -- of a list with one call more
 of_seat-push : (seat : ℕ) (all : List Answered) (one : Answered) → of_seat seat (all ++ one ∷ []) ≡ of_seat seat all ++ of_seat seat (one ∷ [])

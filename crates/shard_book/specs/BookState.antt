@@ -62,6 +62,10 @@ told_to seat book is = of_seat seat (answered book.calls is.replies)
 abbrev pub opened : Spec → BookState
 opened spec = record { base = empty_table spec; calls = []; live = empty_table spec }
 
+-- the live state as the base, with no calls since
+abbrev pub rolled : BookState → BookState
+rolled book = record { base = book.live; calls = []; live = book.live }
+
 -- how a call is recorded: its seat, its event, and the slot that its reply tells
 abbrev pub recorded : ℕ → Event → Reply → Recorded
 recorded seat event reply = record { seat = seat; stored = record { event = event; slot = slot_of reply } }

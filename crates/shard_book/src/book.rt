@@ -1,14 +1,14 @@
 //! A table with its calls since a base.
 
-ghost use Rattle.std.specs.Prelude.{◌≡◌, true, is_some, IfOk, IfErr, OnOk, OnErr, IsOk};
+ghost use Rattle.std.specs.Prelude.{◌≡◌, ◌≤◌, ◌^◌, true, is_some, IfOk, IfErr, OnOk, OnErr, IsOk};
 ghost use Rattle.table_model.specs.State.{key_of};
 ghost use Rattle.table_model.specs.Limits.{IsTableSpec, IsTableEvent};
 ghost use Rattle.table_model.specs.Refusals.{has_life};
 ghost use Rattle.table_model.specs.declared.events.Event.TheVariants.{Release};
-ghost use Rattle.shard_book.specs.BookState.{IsBook, Extends, IsCallRefused, opened};
+ghost use Rattle.shard_book.specs.BookState.{IsBook, Extends, IsCallRefused, opened, rolled};
 
 use crate::Recorded;
-use crate::recorded::{answer, out_after, record_of};
+use crate::recorded::{answer, answer_twice, out_after, record_of};
 use sequence::NoMemory;
 use std::alloc::Global;
 use std::marker::Model;
@@ -74,6 +74,51 @@ impl<T: Table> Book<T> {
             }
             Err(refusal) => Err(refusal),
         }
+    }
+
+    /// The same, the reply given twice, as for the caller and for what the caller keeps. Memory for both is taken before
+    /// anything changes; a `Release` takes none here either.
+    pub fn call_twice(&mut self, seat: u32, event: Event) -> Result<(Reply, Reply), Refusal>
+        requires { IsTableEvent event }
+        ensures before { IsBook self.old }
+        ensures book { OnOk result (IsBook self.new) }
+        ensures ok { IfOk result (λ replies. Extends self.old seat event replies.0 self.new) }
+        ensures twice { IfOk result (λ replies. replies.1 ≡ replies.0) }
+        ensures lives { OnOk result (has_life self.old.live event ≡ true) }
+        ensures refused { IfErr result (IsCallRefused self.old.live event) }
+        ensures release { (now : _) (ticket : _) → event ≡ Release now ticket → is_some (key_of ticket self.old.live.tickets) ≡ true → IsOk result }
+        ensures err { OnErr result (self.new ≡ self.old) }
+    {
+        match answer_twice(&mut self.live, &mut self.calls, self.out, &event) {
+            Ok((reply, again)) => {
+                self.out = out_after(self.out, &reply);
+                self.calls.push_reserved(record_of(seat, event, &reply));
+                Ok((reply, again))
+            }
+            Err(refusal) => Err(refusal),
+        }
+    }
+
+    /// Makes the live state the base, and empties the record. The record's memory stays, and so its places for the
+    /// releases of the tickets that are out. The table is copied: of 100,000 entries that takes some ms. Where a growth
+    /// is refused, nothing changes.
+    pub fn roll(&mut self) -> Result<(), NoMemory>
+        ensures book { IsBook self.new }
+        ensures ok { OnOk result (self.new ≡ rolled self.old) }
+        ensures err { OnErr result (self.new ≡ self.old) }
+    {
+        self.base = self.live.to_plain()?;
+        self.calls.clear();
+        Ok(())
+    }
+
+    /// How many events the live table has counted.
+    pub fn events(&self) -> u64
+        ensures events { result ≡ self.now.live.events }
+        ensures limit { result ≤ 2 ^ 62 }
+        ensures book { IsBook self.now }
+    {
+        self.base.events() + self.calls.as_slice().len() as u64
     }
 
     /// The table from which the record begins.

@@ -72,6 +72,30 @@ pub(crate) fn answer<T: Table>(
     }
 }
 
+/// The same, the reply given twice.
+pub(crate) fn answer_twice<T: Table>(
+    live: &mut T,
+    calls: &mut Vec<Recorded>,
+    out: usize,
+    event: &Event,
+) -> Result<(Reply, Reply), Refusal>
+    requires event { IsTableEvent event.now }
+    requires room { vec_len calls.old + out ≤ vec_capacity calls.old }
+    ensures items { calls.new.items ≡ calls.old.items }
+    ensures room { vec_len calls.new + out ≤ vec_capacity calls.new }
+    ensures place { OnOk result (vec_len calls.new + out + life_taken event.now ≤ vec_capacity calls.new) }
+    ensures ok { IfOk result (λ replies. Step (T.state live.old) event.now replies.0 (T.state live.new)) }
+    ensures twice { IfOk result (λ replies. replies.1 ≡ replies.0) }
+    ensures lives { OnOk result (has_life (T.state live.old) event.now ≡ true) }
+    ensures refused { IfErr result (IsCallRefused (T.state live.old) event.now) }
+    ensures err { OnErr result (T.state live.new ≡ T.state live.old) }
+{
+    match reserve_places(calls, out, event) {
+        Ok(()) => live.step_twice(event),
+        Err(_) => Err(Refusal::Memory),
+    }
+}
+
 /// How many tickets are out after a reply.
 pub(crate) fn out_after(out: usize, reply: &Reply) -> usize
     requires limit { out ≤ 2 ^ 62 }

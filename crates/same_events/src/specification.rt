@@ -1,0 +1,19 @@
+//! Whether two tables are made with the same.
+ghost use Rattle.std.specs.Prelude.{◌≡◌, ◌↔◌, IsTrue};
+
+use crate::same_columns;
+use table_model::Spec;
+
+/// Whether two specifications are the same.
+pub fn same_spec(spec: &Spec, other: &Spec) -> bool
+    ensures { IsTrue result ↔ (spec.now ≡ other.now) }
+{
+    spec.kind == other.kind
+        && spec.size == other.size
+        && spec.expire == other.expire
+        && spec.nopurge == other.nopurge
+        && same_columns(spec.columns.columns(), other.columns.columns())
+        && spec.max_refs == other.max_refs
+        && spec.life == other.life
+        && spec.seed == other.seed
+}

@@ -1,0 +1,28 @@
+use Rattle.std.proofs.Common.{◌+◌, ◌≤◌, vec_len, vec_capacity}
+use Rattle.table_model.specs.State.{State}
+use Rattle.table_model.specs.Refusals.{life_taken}
+use Rattle.table_model.specs.declared.replies.Reply.{Reply}
+use Rattle.shard_book.proofs.BookLemmas.{held_counted, places-recorded, recorded_more}
+use Rattle.shard_book.proofs.book.Book.call_twice.Goals as goal
+
+pub out_after-self-inside-requires-clause-held : goal.out_after-self-inside-requires-clause-held
+out_after-self-inside-requires-clause-held g c is =
+    let live : State = g.T.Table.state c.self.inside.live in
+    let next : State = g.T.Table.state c.answer_twice.new.live in
+    held_counted live c.args.event c.in-Ok.reply next c.self.inside.out c.self.invariant.0.live_legal c.in-Ok.ensures.ok c.self.invariant.1.counted is
+
+pub invariant_of-self : goal.invariant_of-self
+invariant_of-self g c =
+    let reply : Reply = c.in-Ok.reply in
+    let live : State = g.T.Table.state c.self.inside.live in
+    let next : State = g.T.Table.state c.answer_twice.new.live in
+    let place : vec_len c.answer_twice.new.calls + c.self.inside.out + life_taken c.args.event ≤ vec_capacity c.answer_twice.new.calls = c.in-Ok.ensures.place in (
+      recorded_more c.self.inside.base live c.self.inside.calls.items c.answer_twice.new.calls.items c.push_reserved.new.self.items c.record_of.result c.args.seat c.args.event reply next c.push_reserved.ensures.items c.answer_twice.ensures.items c.record_of.ensures c.self.invariant.0 c.requires c.in-Ok.ensures.lives c.in-Ok.ensures.ok,
+      places-recorded live c.args.event reply next (vec_len c.answer_twice.new.calls) (vec_capacity c.answer_twice.new.calls) c.self.inside.out (vec_len c.push_reserved.new.self) (vec_capacity c.push_reserved.new.self) c.out_after-self-inside.result c.self.invariant.0.live_legal c.in-Ok.ensures.ok c.self.invariant.1.counted place c.push_reserved.ensures.len c.push_reserved.ensures.capacity c.out_after-self-inside.ensures,
+    )
+
+pub returns-in-Ok-clause-book : goal.returns-in-Ok-clause-book
+returns-in-Ok-clause-book g c =
+    let live : State = g.T.Table.state c.self.inside.live in
+    let next : State = g.T.Table.state c.answer_twice.new.live in
+    recorded_more c.self.inside.base live c.self.inside.calls.items c.answer_twice.new.calls.items c.push_reserved.new.self.items c.record_of.result c.args.seat c.args.event c.in-Ok.reply next c.push_reserved.ensures.items c.answer_twice.ensures.items c.record_of.ensures c.self.invariant.0 c.requires c.in-Ok.ensures.lives c.in-Ok.ensures.ok

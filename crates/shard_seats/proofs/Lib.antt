@@ -1,0 +1,3 @@
+pub mod SeatLemmas
+pub mod ToldLemmas
+pub mod LawLemmas

@@ -1,0 +1,3 @@
+pub mod SeatState
+pub mod Told
+pub mod Laws
