@@ -2,3 +2,4 @@ pub mod RecordLemmas
 pub mod TableLemmas
 pub mod ChangeLemmas
 pub mod CountLemmas
+pub mod RowLemmas
