@@ -2,6 +2,7 @@
 #![tactic(auto)]
 
 mod expiry;
+mod filters;
 mod rows;
 
 ghost use Rattle.std.specs.Prelude.{◌≡◌, ◌+◌, ◌<◌, ◌≤◌, ◌^◌, IfOk, length};
