@@ -3,3 +3,6 @@ pub mod TableLemmas
 pub mod ChangeLemmas
 pub mod CountLemmas
 pub mod RowLemmas
+pub mod ChoiceLemmas
+pub mod SeenLemmas
+pub mod ClearLemmas

@@ -1,6 +1,7 @@
 //! The pooled stick table: each event costs the same whatever the table's size.
 #![tactic(auto)]
 
+mod clearing;
 mod expiry;
 mod filters;
 mod rows;
