@@ -6,3 +6,4 @@ pub mod RowLemmas
 pub mod ChoiceLemmas
 pub mod SeenLemmas
 pub mod ClearLemmas
+pub mod ListingLemmas

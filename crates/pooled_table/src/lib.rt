@@ -4,6 +4,7 @@
 mod clearing;
 mod expiry;
 mod filters;
+mod listing;
 mod rows;
 
 ghost use Rattle.std.specs.Prelude.{◌≡◌, ◌+◌, ◌<◌, ◌≤◌, ◌^◌, IfOk, length};
