@@ -5,6 +5,7 @@ mod clearing;
 mod expiry;
 mod filters;
 mod listing;
+mod plain_copy;
 mod rows;
 
 ghost use Rattle.std.specs.Prelude.{◌≡◌, ◌+◌, ◌<◌, ◌≤◌, ◌^◌, IfOk, length};
