@@ -1,10 +1,8 @@
 //! A plain table in the same state.
-ghost use Rattle.std.specs.Prelude.{◌≡◌, ℕ, ◌+◌, ◌<◌, ◌^◌, IfOk, IsSome, length, map};
+ghost use Rattle.std.specs.Prelude.{◌≡◌, ℕ, ◌+◌, ◌<◌, ◌^◌, IfOk, IsSome, length};
 ghost use Rattle.std.specs.List.{AllByRecursion};
 ghost use Rattle.std.specs.Option.{option_map};
-ghost use Rattle.entry_store.specs.Slots.{entries_of};
 ghost use Rattle.entry_store.specs.Stock.{held_at};
-ghost use Rattle.table_model.specs.Key.{key_cmp};
 ghost use Rattle.table_model.specs.declared.rows.Ticket.{Ticket as ATicket};
 ghost use Rattle.pooled_table.specs.Shown.{keyed, moment_at, records_of};
 ghost use Rattle.pooled_table.specs.Table.{tickets_of};
