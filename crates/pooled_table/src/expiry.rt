@@ -10,7 +10,7 @@ ghost use Rattle.pooled_table.specs.Shown.{records_of, AreCounted, IsRising, IsD
 use entry_store::Store;
 
 /// Whether what was refreshed at a moment outlives the clock.
-fn is_alive(expire: Option<u32>, moment: u64, clock: u64) -> bool
+pub(crate) fn is_alive(expire: Option<u32>, moment: u64, clock: u64) -> bool
     requires { clock < 2 ^ 62 }
     ensures { result ≡ option_map_or (λ life. nat_lt clock (moment + life)) expire true }
 {

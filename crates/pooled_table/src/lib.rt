@@ -1,7 +1,12 @@
 //! The pooled stick table: each event costs the same whatever the table's size.
 #![tactic(auto)]
 
+mod clearing;
 mod expiry;
+mod filters;
+mod listing;
+mod plain_copy;
+mod rows;
 
 ghost use Rattle.std.specs.Prelude.{◌≡◌, ◌+◌, ◌<◌, ◌≤◌, ◌^◌, IfOk, length};
 
