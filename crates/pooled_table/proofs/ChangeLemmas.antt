@@ -106,6 +106,8 @@ module _ (s new : Stock) (alike : AreAlike s new) where
         let g = was-there slot h there in
         ap (λ (e : Entry). e.refs) (sym g.3) ∙ table.counted slot g.0 g.1 ∙ ap (λ k. refs k (tickets_of s book)) g.2 ∙ ap (refs h.key) (sym (tickets-alike book.tickets));
     held = held-alike book.tickets table.held;
+    numbered = table.numbered;
+    issued = table.issued;
     past = λ slot h there.
         let g = was-there slot h there in
         let p = table.past slot g.0 g.1 in

@@ -2,3 +2,9 @@ pub mod RecordLemmas
 pub mod TableLemmas
 pub mod ChangeLemmas
 pub mod CountLemmas
+pub mod RisingLemmas
+pub mod WriteLemmas
+pub mod StoredLemmas
+pub mod TicketLemmas
+pub mod ReleaseLemmas
+pub mod RoomLemmas

@@ -1,2 +1,4 @@
 pub mod Shown
 pub mod Table
+pub mod Steps
+pub mod Space
