@@ -83,7 +83,7 @@ module _ (s new : Stock) (alike : AreAlike s new) where
   rising-alike [] h = tt
   rising-alike (y ∷ ys) h = (all-alike y ys h.0, rising-alike ys h.1)
 
-  tickets-alike : (bt : List (Ticket × ℕ)) → map (with_key new) bt ≡ map (with_key s) bt
+  pub tickets-alike : (bt : List (Ticket × ℕ)) → map (with_key new) bt ≡ map (with_key s) bt
   tickets-alike [] = refl
   tickets-alike (t ∷ bt) = ap (λ key. (t.0, key) ∷ map (with_key new) bt) (same-key t.1) ∙ ap (λ ts. with_key s t ∷ ts) (tickets-alike bt)
 

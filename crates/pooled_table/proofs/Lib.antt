@@ -6,5 +6,9 @@ pub mod RisingLemmas
 pub mod WriteLemmas
 pub mod StoredLemmas
 pub mod TicketLemmas
+pub mod RefreshLemmas
 pub mod ReleaseLemmas
 pub mod RoomLemmas
+pub mod StoreLemmas
+pub mod PutLemmas
+pub mod TrackLemmas

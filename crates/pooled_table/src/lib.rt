@@ -3,8 +3,10 @@
 
 mod entries;
 mod expiry;
+mod pairs;
 mod references;
 mod room;
+mod tracking;
 
 ghost use Rattle.std.specs.Prelude.{◌≡◌};
 
