@@ -12,3 +12,10 @@ pub mod RoomLemmas
 pub mod StoreLemmas
 pub mod PutLemmas
 pub mod TrackLemmas
+pub mod RowLemmas
+pub mod ChoiceLemmas
+pub mod SeenLemmas
+pub mod ClearLemmas
+pub mod ListingLemmas
+pub mod LookLemmas
+pub mod TrackedLemmas

@@ -69,7 +69,7 @@ pub same-tickets : (old new : Stock) (bt : List (Ticket × ℕ)) → AllByRecurs
 same-tickets old new [] h = refl
 same-tickets old new (t ∷ bt) h = ap (λ (o : Option Held). (t.0, key_in o) ∷ map (with_key new) bt) h.0 ∙ ap (λ ts. with_key old t ∷ ts) (same-tickets old new bt h.1)
 
-still-held : (old new : Stock) (bt : List (Ticket × ℕ)) → AllByRecursion (λ (t : Ticket × ℕ). held_at new t.1 ≡ held_at old t.1) bt → AllByRecursion (λ (t : Ticket × ℕ). IsSome (held_at old t.1)) bt → AllByRecursion (λ (t : Ticket × ℕ). IsSome (held_at new t.1)) bt
+pub still-held : (old new : Stock) (bt : List (Ticket × ℕ)) → AllByRecursion (λ (t : Ticket × ℕ). held_at new t.1 ≡ held_at old t.1) bt → AllByRecursion (λ (t : Ticket × ℕ). IsSome (held_at old t.1)) bt → AllByRecursion (λ (t : Ticket × ℕ). IsSome (held_at new t.1)) bt
 still-held old new [] h held = tt
 still-held old new (t ∷ bt) h held = (subst IsSome (sym h.0) held.0, still-held old new bt h.1 held.1)
 

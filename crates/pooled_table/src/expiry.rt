@@ -13,7 +13,7 @@ use entry_store::Store;
 use table_model::Reply;
 
 /// Whether what was refreshed at a moment outlives the clock.
-fn is_alive(expire: Option<u32>, moment: u64, clock: u64) -> bool
+pub(crate) fn is_alive(expire: Option<u32>, moment: u64, clock: u64) -> bool
     requires { clock < 2 ^ 62 }
     ensures { result ≡ option_map_or (λ life. nat_lt clock (moment + life)) expire true }
 {

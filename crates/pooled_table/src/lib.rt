@@ -1,11 +1,17 @@
 //! The pooled stick table: each event costs the same whatever the table's size.
 #![tactic(auto)]
 
+mod clearing;
 mod entries;
 mod expiry;
+mod filters;
+mod listing;
+mod looks;
 mod pairs;
 mod references;
 mod room;
+mod rows;
+mod tracked;
 mod tracking;
 
 ghost use Rattle.std.specs.Prelude.{◌≡◌};

@@ -1,0 +1,98 @@
+//! Which entries a filter means, and which the clock leaves.
+ghost use Rattle.std.specs.Prelude.{◌≡◌, ◌<◌, ◌^◌, ◌&&◌, Some, IsSome, false};
+ghost use Rattle.std.specs.Option.{option_map_or};
+ghost use Rattle.entry_store.specs.Stock.{Held, held_at};
+ghost use Rattle.table_model.specs.Filters.{compares as compares_by, not_stored as not_stored_in};
+ghost use Rattle.pooled_table.specs.Seen.{is_kept, is_meant, is_meant_as};
+
+use crate::expiry::is_alive;
+use entry_store::Store;
+use std::cmp::Ordering;
+use stored_data::{Datum, StoredSet};
+use table_model::{Filter, Op};
+
+fn compares(op: Op, a: u64, b: u64) -> bool
+    ensures { result ≡ compares_by op a b }
+{
+    match op {
+        Op::Eq => a == b,
+        Op::Ne => a != b,
+        Op::Le => a <= b,
+        Op::Ge => a >= b,
+        Op::Lt => a < b,
+        Op::Gt => a > b,
+    }
+}
+
+/// The datum that a filter compares and the table doesn't store.
+pub(crate) fn not_stored(columns: &StoredSet, choice: &Filter) -> Option<Datum>
+    ensures { result ≡ not_stored_in columns.now choice.now }
+{
+    match choice {
+        Filter::Compare(datum, _, _) => {
+            if columns.holds(*datum) {
+                None
+            } else {
+                Some(*datum)
+            }
+        }
+        Filter::Everything | Filter::Nothing | Filter::Key(_) => None,
+    }
+}
+
+/// Whether a filter means the entry of a slot that has one, by the values that its row shows at this moment in ms.
+fn means(store: &Store, clock: u64, choice: &Filter, slot: u32) -> bool
+    requires { IsSome (held_at store.now slot) }
+    ensures { (held : Held) → held_at store.now slot ≡ Some held → result ≡ is_meant clock choice.now held }
+{
+    match choice {
+        Filter::Everything => true,
+        Filter::Nothing => false,
+        Filter::Key(key) => key.cmp(store.key(slot)) == Ordering::Equal,
+        Filter::Compare(datum, op, bound) => {
+            let refs = store.entry(slot).refs;
+            let value = store.get(slot, *datum, clock).unwrap_or(u64::from(refs));
+            compares(*op, value, *bound)
+        }
+    }
+}
+
+/// Whether a slot has an entry that a filter means, and that a reference holds or, as asked, none does.
+pub(crate) fn matches(store: &Store, clock: u64, choice: &Filter, tracked: bool, slot: u32) -> bool
+    ensures { result ≡ option_map_or (is_meant_as clock choice.now tracked) (held_at store.now slot) false }
+{
+    if store.handle_at(slot).is_none() {
+        return false;
+    }
+    if store.entry(slot).refs > 0 {
+        tracked && means(store, clock, choice, slot)
+    } else {
+        !tracked && means(store, clock, choice, slot)
+    }
+}
+
+/// Whether a slot has an entry that is there when the clock has come to this moment.
+pub(crate) fn is_live(store: &Store, expire: Option<u32>, clock: u64, slot: u32) -> bool
+    requires { clock < 2 ^ 62 }
+    ensures { result ≡ option_map_or (is_kept clock expire) (held_at store.now slot) false }
+{
+    if store.handle_at(slot).is_none() {
+        return false;
+    }
+    let entry = store.entry(slot);
+    entry.refs > 0 || is_alive(expire, entry.moment, clock)
+}
+
+/// Whether a slot has an entry that is there when the clock has come to this moment, and that a filter means.
+pub(crate) fn is_listed(
+    store: &Store,
+    expire: Option<u32>,
+    clock: u64,
+    choice: &Filter,
+    slot: u32,
+) -> bool
+    requires { clock < 2 ^ 62 }
+    ensures { result ≡ option_map_or (λ held. is_kept clock expire held && is_meant clock choice.now held) (held_at store.now slot) false }
+{
+    is_live(store, expire, clock, slot) && means(store, clock, choice, slot)
+}
