@@ -83,7 +83,7 @@ module _ (s new : Stock) (alike : AreAlike s new) where
   rising-alike [] h = tt
   rising-alike (y ∷ ys) h = (all-alike y ys h.0, rising-alike ys h.1)
 
-  tickets-alike : (bt : List (Ticket × ℕ)) → map (with_key new) bt ≡ map (with_key s) bt
+  pub tickets-alike : (bt : List (Ticket × ℕ)) → map (with_key new) bt ≡ map (with_key s) bt
   tickets-alike [] = refl
   tickets-alike (t ∷ bt) = ap (λ key. (t.0, key) ∷ map (with_key new) bt) (same-key t.1) ∙ ap (λ ts. with_key s t ∷ ts) (tickets-alike bt)
 
@@ -106,6 +106,8 @@ module _ (s new : Stock) (alike : AreAlike s new) where
         let g = was-there slot h there in
         ap (λ (e : Entry). e.refs) (sym g.3) ∙ table.counted slot g.0 g.1 ∙ ap (λ k. refs k (tickets_of s book)) g.2 ∙ ap (refs h.key) (sym (tickets-alike book.tickets));
     held = held-alike book.tickets table.held;
+    numbered = table.numbered;
+    issued = table.issued;
     past = λ slot h there.
         let g = was-there slot h there in
         let p = table.past slot g.0 g.1 in

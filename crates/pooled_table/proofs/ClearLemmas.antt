@@ -30,7 +30,7 @@ use Rattle.pooled_table.specs.Shown.{record_of, keyed, records_of, AreCounted, I
 use Rattle.pooled_table.specs.Table.{tickets_of, state_of, IsTable}
 use Rattle.pooled_table.specs.Seen.{is_meant, is_meant_as}
 use Rattle.pooled_table.proofs.RecordLemmas.{held-from, lookup-at, records-without}
-use Rattle.pooled_table.proofs.TableLemmas.{entries-stay, same-tickets, still-held, records-length}
+use Rattle.pooled_table.proofs.TableLemmas.{left-table, left-tickets, records-length}
 use Rattle.pooled_table.proofs.SeenLemmas.{meant-as-is, count-meant}
 
 -- ---- one entry goes
@@ -112,33 +112,18 @@ module _ (expire : Option ℕ) (s : Stock) (kept : IsStock s) (tickets : List (T
 
 -- ---- the table whose entries went
 module _ (spec : Spec) (clock events : ℕ) (old new : Stock) (book : Tickets) (table : IsTable spec clock events old book) (left : IsLeft old new) where
-  stay : AllByRecursion (λ (t : Ticket × ℕ). held_at new t.1 ≡ held_at old t.1) book.tickets
-  stay = entries-stay old new left (λ key. refs key (tickets_of old book)) table.counted book.tickets table.held (λ key. omega arith)
+  same-tickets-left : tickets_of new book ≡ tickets_of old book
+  same-tickets-left = left-tickets spec clock events clock (omega arith) old new book table left
 
-  pub left-tickets : tickets_of new book ≡ tickets_of old book
-  left-tickets = same-tickets old new book.tickets stay
-
-  pub left-table : IsStock new → IsRising new new.queue → new.columns ≡ old.columns → new.newest ≡ old.newest → length new.slots ≡ length old.slots → IsTable spec clock events new book
-  left-table stock rising columns newest sized = record {
-    bounded = subst (IsBounded spec clock events) (sym left-tickets) table.bounded;
-    stock = stock;
-    rising = rising;
-    counted = λ slot h there. table.counted slot h (left.fewer slot h there) ∙ ap (refs h.key) (sym left-tickets);
-    held = still-held old new book.tickets stay table.held;
-    past = λ slot h there. table.past slot h (left.fewer slot h there);
-    store_newest = let n = table.store_newest in omega (arith, newest, n);
-    book_newest = table.book_newest;
-    columns = columns ∙ table.columns;
-    sized = sized ∙ table.sized;
-    capacity = table.capacity;
-  }
+  pub cleared-table : IsStock new → IsRising new new.queue → new.columns ≡ old.columns → new.newest ≡ old.newest → length new.slots ≡ length old.slots → IsTable spec clock events new book
+  cleared-table = left-table spec clock events clock (omega arith) old new book table left table.bounded.clock_ok
 
   -- what a clear of all that a filter means comes to
   pub cleared-is : (choice : Filter) (removed kept : ℕ) → records_of spec.expire new ≡ filter (λ entry. not (is_matched clock (tickets_of old book) choice false entry)) (records_of spec.expire old)
       → IsStock new → removed ≡ held_count old - held_count new → kept ≡ count_by (λ (o : Option Held). option_map_or (is_meant_as clock choice true) o false) old.slots
       → cleared (state_of spec clock events old book) choice ≡ (Cleared removed kept, state_of spec clock events new book)
   cleared-is choice removed kept records stock few many =
-      (λ i. (Cleared (gone i) (stayed i), record { spec = spec; clock = clock; events = events; records = sym records i; tickets = sym left-tickets i }))
+      (λ i. (Cleared (gone i) (stayed i), record { spec = spec; clock = clock; events = events; records = sym records i; tickets = sym same-tickets-left i }))
     where
       matched : Key × Record → Bool
       matched = is_matched clock (tickets_of old book) choice false

@@ -20,7 +20,7 @@ use Rattle.pooled_table.proofs.RecordLemmas.{lookup-at}
 use Rattle.pooled_table.proofs.ChangeLemmas.{values-state}
 
 -- the key of a ticket is that of its entry
-lookup-keys : (s : Stock) (test : Ticket → Bool) (bt : List (Ticket × ℕ)) → lookup test (map (with_key s) bt) ≡ option_map (λ slot. key_in (held_at s slot)) (lookup test bt)
+pub lookup-keys : (s : Stock) (test : Ticket → Bool) (bt : List (Ticket × ℕ)) → lookup test (map (with_key s) bt) ≡ option_map (λ slot. key_in (held_at s slot)) (lookup test bt)
 lookup-keys s test [] = refl
 lookup-keys s test (t ∷ bt) = go (lookup-keys s test bt) (test t.0)
   where

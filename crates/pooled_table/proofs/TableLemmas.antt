@@ -36,14 +36,13 @@ use Rattle.pooled_table.proofs.RecordLemmas.{distinct-records}
 use Rattle.entry_store.specs.Slots.{entries_of}
 use Rattle.ticket_book.specs.Tickets.{Tickets, no_tickets}
 use Rattle.table_model.specs.Key.{Key, key_cmp, same_key}
-use Rattle.table_model.specs.State.{refs, stays, empty_table}
-use Rattle.table_model.specs.Step.{begun}
+use Rattle.table_model.specs.State.{refs, stays, empty_table, advance}
 use Rattle.table_model.specs.declared.rows.Ticket.{Ticket}
 use Rattle.table_model.specs.declared.rows.Record.{Record}
 use Rattle.table_model.specs.declared.specification.Spec.{Spec}
 use Rattle.table_model.proofs.KeyLemmas.{same_key-refl}
 use Rattle.pooled_table.specs.Shown.{keyed, records_of, AreCounted, IsRising, IsLeft}
-use Rattle.pooled_table.specs.Table.{key_in, with_key, tickets_of, state_of, IsTable}
+use Rattle.pooled_table.specs.Table.{key_in, with_key, number_of, tickets_of, state_of, IsTable}
 
 -- ---- tickets keep their entries
 module _ (old new : Stock) (left : IsLeft old new) (total : Key → ℕ) (counted : (slot : ℕ) (held : Held) → held_at old slot ≡ Some held → held.entry.refs ≡ total held.key) where
@@ -84,32 +83,68 @@ module _ (spec : Spec) (clock events now at : ℕ) (is : at ≡ max clock now) (
   tickets-stay : tickets_of new book ≡ tickets_of old book
   tickets-stay = same-tickets old new book.tickets stay
 
-  pub begun-is : state_of spec at (events + 1) new book ≡ begun (state_of spec clock events old book) now
-  begun-is =
-      ap (λ rs. record { spec = spec; clock = at; events = events + 1; records = rs; tickets = tickets_of new book }) (records (tickets_of old book) table.counted)
-      ∙ ap (λ ts. record { spec = spec; clock = at; events = events + 1; records = filter (stays at (tickets_of old book)) (records_of spec.expire old); tickets = ts }) tickets-stay
-      ∙ ap (λ moment. record { spec = spec; clock = moment; events = events + 1; records = filter (stays moment (tickets_of old book)) (records_of spec.expire old); tickets = tickets_of old book }) is
+  pub advanced-is : state_of spec at events new book ≡ advance (state_of spec clock events old book) now
+  advanced-is =
+      ap (λ rs. record { spec = spec; clock = at; events = events; records = rs; tickets = tickets_of new book }) (records (tickets_of old book) table.counted)
+      ∙ ap (λ ts. record { spec = spec; clock = at; events = events; records = filter (stays at (tickets_of old book)) (records_of spec.expire old); tickets = ts }) tickets-stay
+      ∙ ap (λ moment. record { spec = spec; clock = moment; events = events; records = filter (stays moment (tickets_of old book)) (records_of spec.expire old); tickets = tickets_of old book }) is
 
-  pub begun-kept : now < 2 ^ 62 → events + length (tickets_of old book) < spec.life → IsStock new → IsRising new new.queue → new.columns ≡ old.columns → new.newest ≡ old.newest → length new.slots ≡ length old.slots
-      → IsTable spec at (events + 1) new book
-  begun-kept moment life stock rising columns newest sized = record {
-    bounded = record {
+-- what is left of a table, at a clock that may have gone on
+module _ (spec : Spec) (clock events at : ℕ) (on : clock ≤ at) (old new : Stock) (book : Tickets) (table : IsTable spec clock events old book) (left : IsLeft old new) where
+  left-stay : AllByRecursion (λ (t : Ticket × ℕ). held_at new t.1 ≡ held_at old t.1) book.tickets
+  left-stay = entries-stay old new left (λ key. refs key (tickets_of old book)) table.counted book.tickets table.held (λ key. omega arith)
+
+  pub left-tickets : tickets_of new book ≡ tickets_of old book
+  left-tickets = same-tickets old new book.tickets left-stay
+
+  pub left-table : at < 2 ^ 62 → IsStock new → IsRising new new.queue → new.columns ≡ old.columns → new.newest ≡ old.newest → length new.slots ≡ length old.slots → IsTable spec at events new book
+  left-table moment stock rising columns newest sized = record {
+    bounded = subst (IsBounded spec at events) (sym left-tickets) (record {
       spec_ok = table.bounded.spec_ok;
-      clock_ok = let before = table.bounded.clock_ok in omega (arith, before, moment, is);
-      life_ok = let same : length (tickets_of new book) ≡ length (tickets_of old book) = ap length tickets-stay in omega (arith, same, life);
-      tickets_ok = let same : length (tickets_of new book) ≡ length (tickets_of old book) = ap length tickets-stay in let before = table.bounded.tickets_ok in omega (arith, same, before);
-    };
+      clock_ok = moment;
+      life_ok = table.bounded.life_ok;
+      tickets_ok = table.bounded.tickets_ok;
+    });
     stock = stock;
     rising = rising;
-    counted = λ slot h there. table.counted slot h (left.fewer slot h there) ∙ ap (refs h.key) (sym tickets-stay);
-    held = still-held old new book.tickets stay table.held;
-    past = λ slot h there. let p = table.past slot h (left.fewer slot h there) in (omega (arith, p.0), omega (arith, p.1, is));
+    counted = λ slot h there. table.counted slot h (left.fewer slot h there) ∙ ap (refs h.key) (sym left-tickets);
+    held = still-held old new book.tickets left-stay table.held;
+    numbered = table.numbered;
+    issued = table.issued;
+    past = λ slot h there. let p = table.past slot h (left.fewer slot h there) in (p.0, omega (arith, p.1, on));
     store_newest = let n = table.store_newest in omega (arith, newest, n);
-    book_newest = let n = table.book_newest in omega (arith, n);
+    book_newest = table.book_newest;
     columns = columns ∙ table.columns;
     sized = sized ∙ table.sized;
     capacity = table.capacity;
   }
+
+-- an event is counted
+pub later-numbers : (events : ℕ) (numbers : List ℕ) → AllByRecursion (λ number. number ≤ events) numbers → AllByRecursion (λ number. number ≤ events + 1) numbers
+later-numbers events [] h = tt
+later-numbers events (n ∷ ns) h = (omega (arith, h.0), later-numbers events ns h.1)
+
+pub counted-table : (spec : Spec) (clock events : ℕ) (s : Stock) (book : Tickets) → IsTable spec clock events s book → events + length (tickets_of s book) < spec.life → IsTable spec clock (events + 1) s book
+counted-table spec clock events s book table life = record {
+  bounded = record {
+    spec_ok = table.bounded.spec_ok;
+    clock_ok = table.bounded.clock_ok;
+    life_ok = omega (arith, life);
+    tickets_ok = table.bounded.tickets_ok;
+  };
+  stock = table.stock;
+  rising = table.rising;
+  counted = table.counted;
+  held = table.held;
+  numbered = table.numbered;
+  issued = later-numbers events (map number_of book.tickets) table.issued;
+  past = λ slot h there. let p = table.past slot h there in (omega (arith, p.0), p.1);
+  store_newest = let n = table.store_newest in omega (arith, n);
+  book_newest = let n = table.book_newest in omega (arith, n);
+  columns = table.columns;
+  sized = table.sized;
+  capacity = table.capacity;
+}
 
 -- ---- how many records there are
 count-shown : (expire : Option ℕ) (slots : List (Option Held)) → count_by is_some (map (option_map (keyed expire)) slots) ≡ count_by is_some slots
@@ -136,7 +171,7 @@ new-state spec s book is told =
     (λ t. state_of spec 0 0 (is t) (told t)) ∙ ap (λ rs. record { spec = spec; clock = 0; events = 0; records = rs; tickets = [] }) (no-records spec.expire spec.size)
 
 -- ---- an entry that goes
-free-left : (s : Stock) (slot : ℕ) → IsStock s → IsFree s slot → IsLeft s (without_slot s slot)
+pub free-left : (s : Stock) (slot : ℕ) → IsStock s → IsFree s slot → IsLeft s (without_slot s slot)
 free-left s slot kept f = record {
   fewer = λ j h there. was j h there (cases_eq j slot);
   tracked = λ j h there some. get_or-set_other s.slots slot j None None (λ same.
@@ -178,6 +213,8 @@ module _ (spec : Spec) (clock events : ℕ) (s : Stock) (book : Tickets) (table 
       rising = rising-without s slot s.queue table.rising;
       counted = λ j h there. table.counted j h ((free-left s slot table.stock f).fewer j h there) ∙ ap (refs h.key) (sym tickets-out);
       held = still-held s (without_slot s slot) book.tickets stays-out table.held;
+      numbered = table.numbered;
+      issued = table.issued;
       past = λ j h there. table.past j h ((free-left s slot table.stock f).fewer j h there);
       store_newest = table.store_newest;
       book_newest = table.book_newest;

@@ -1,10 +1,10 @@
 -- What is seen of an entry by itself: its references are those that it counts.
-use Rattle.std.specs.Prelude.{ℕ, nat_lt, Bool, true, false, not, ◌&&◌, ◌||◌, if◌then◌else◌, List, map, Option, Some, None, unwrap_or}
+use Rattle.std.specs.Prelude.{◌≡◌, ℕ, nat_lt, Bool, true, false, not, ◌&&◌, ◌||◌, if◌then◌else◌, List, map, Option, Some, None, unwrap_or}
 use Rattle.std.specs.Option.{option_and_then}
 use Rattle.stored_data.specs.Acts.{value_at}
 use Rattle.stored_data.specs.declared.stored_set.Column.{Column}
 use Rattle.stored_data.specs.declared.values.Field.{Field}
-use Rattle.entry_store.specs.Stock.{Held}
+use Rattle.entry_store.specs.Stock.{Held, Stock, held_at}
 use Rattle.table_model.specs.Filters.{compares}
 use Rattle.entry_store.specs.Slots.{entries_of}
 use Rattle.table_model.specs.Key.{Key, key_cmp, same_key}
@@ -22,6 +22,17 @@ cells_of columns clock refs values = map (λ (column : Column). record { datum =
 -- whether it stays when the clock has come to a moment
 abbrev pub is_kept : ℕ → Option ℕ → Held → Bool
 is_kept clock expire held = nat_lt 0 held.entry.refs || outlives clock (record_of expire held)
+
+-- the slot has a key's entry, which stays
+pub record IsLive (s : Stock) (expire : Option ℕ) (clock : ℕ) (key : Key) (slot : ℕ) : Type 0 where
+  pub held : Held
+  pub there : held_at s slot ≡ Some held
+  pub keyed : held.key ≡ key
+  pub kept : is_kept clock expire held ≡ true
+
+-- a key has no entry that stays
+abbrev pub IsGone : Stock → Option ℕ → ℕ → Key → Type 0
+IsGone s expire clock key = (slot : ℕ) (held : Held) → held_at s slot ≡ Some held → held.key ≡ key → is_kept clock expire held ≡ false
 
 -- whether a filter means it
 abbrev pub is_meant : ℕ → Filter → Held → Bool

@@ -1,6 +1,6 @@
 -- What a `StickTable` keeps of its parts.
-use Rattle.std.specs.Prelude.{◌≡◌, ℕ, ◌≤◌, List, [], map, length, Option, Some, None, IsSome}
-use Rattle.std.specs.List.{AllByRecursion}
+use Rattle.std.specs.Prelude.{◌≡◌, ℕ, ◌≤◌, nat_eq, List, [], map, length, Option, Some, None, IsSome}
+use Rattle.std.specs.List.{AllByRecursion, IsDistinct}
 use Rattle.entry_store.specs.Stock.{Held, Stock, IsStock, held_at}
 use Rattle.ticket_book.specs.Tickets.{Tickets}
 use Rattle.stick_table.specs.Invariant.{IsBounded}
@@ -19,6 +19,10 @@ key_in (Some held) = held.key
 abbrev pub with_key : Stock → Ticket × ℕ → Ticket × Key
 with_key s ticket = (ticket.0, key_in (held_at s ticket.1))
 
+-- the number of a ticket
+abbrev pub number_of : Ticket × ℕ → ℕ
+number_of ticket = ticket.0.number
+
 -- the tickets that are out, with their keys
 abbrev pub tickets_of : Stock → Tickets → List (Ticket × Key)
 tickets_of s book = map (with_key s) book.tickets
@@ -35,6 +39,9 @@ pub record IsTable (spec : Spec) (clock events : ℕ) (s : Stock) (book : Ticket
   -- each entry has as many references as its key has tickets, and each ticket has an entry
   pub counted : AreCounted s (tickets_of s book)
   pub held : AllByRecursion (λ (ticket : Ticket × ℕ). IsSome (held_at s ticket.1)) book.tickets
+  -- no two tickets have one number, and each was made by an event of the past
+  pub numbered : IsDistinct nat_eq (map number_of book.tickets)
+  pub issued : AllByRecursion (λ number. number ≤ events) (map number_of book.tickets)
   -- what was refreshed was so by an event, at a clock, of the past
   pub past : (slot : ℕ) (held : Held) → held_at s slot ≡ Some held → (held.entry.stamp ≤ events) × (held.entry.moment ≤ clock)
   pub store_newest : s.newest ≤ events

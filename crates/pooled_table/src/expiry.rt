@@ -3,11 +3,14 @@ ghost use Rattle.std.specs.Prelude.{◌≡◌, ◌+◌, ◌<◌, ◌^◌, nat_lt
 ghost use Rattle.std.specs.Option.{option_map_or};
 ghost use Rattle.entry_store.specs.Stock.{IsStock};
 ghost use Rattle.table_model.specs.Key.{Key};
-ghost use Rattle.table_model.specs.State.{stays};
+ghost use Rattle.table_model.specs.State.{advance as advanced, stays};
+ghost use Rattle.table_model.specs.Step.{begun, expire as reply_to_expire};
 ghost use Rattle.table_model.specs.declared.rows.Ticket.{Ticket};
 ghost use Rattle.pooled_table.specs.Shown.{records_of, AreCounted, IsRising, IsDead, AreAlive, IsLeft};
 
+use crate::StickTable;
 use entry_store::Store;
+use table_model::Reply;
 
 /// Whether what was refreshed at a moment outlives the clock.
 pub(crate) fn is_alive(expire: Option<u32>, moment: u64, clock: u64) -> bool
@@ -36,7 +39,7 @@ fn dead_front(store: &Store, expire: Option<u32>, clock: u64) -> Option<u32>
 }
 
 /// Removes what the clock has reached the date of.
-pub(crate) fn drop_dead(store: &mut Store, expire: Option<u32>, clock: u64)
+fn drop_dead(store: &mut Store, expire: Option<u32>, clock: u64)
     requires clock { clock < 2 ^ 62 }
     requires rising { IsRising store.old store.old.queue }
     ensures records { (tickets : List (Ticket × Key)) → AreCounted store.old tickets → records_of expire store.new ≡ filter (stays clock tickets) (records_of expire store.old) }
@@ -49,5 +52,37 @@ pub(crate) fn drop_dead(store: &mut Store, expire: Option<u32>, clock: u64)
 {
     while let Some(slot) = dead_front(store, expire, clock) {
         store.remove(slot);
+    }
+}
+
+impl StickTable {
+    /// The moment of an event has come.
+    pub(crate) fn advance(&mut self, now: u64)
+        requires { now < 2 ^ 62 }
+        ensures { self.new ≡ advanced self.old now }
+    {
+        let clock = self.clock.max(now);
+        drop_dead(&mut self.store, self.spec.expire, clock);
+        self.clock = clock;
+    }
+
+    /// The moment of an event has come, and it is counted.
+    pub(crate) fn begin(&mut self, now: u64)
+        requires moment { now < 2 ^ 62 }
+        requires life { self.old.events + length self.old.tickets < self.old.spec.life }
+        ensures { self.new ≡ begun self.old now }
+    {
+        self.advance(now);
+        self.events += 1;
+    }
+
+    pub(crate) fn expire(&mut self, now: u64) -> Reply
+        requires moment { now < 2 ^ 62 }
+        requires life { self.old.events + length self.old.tickets < self.old.spec.life }
+        ensures { reply_to_expire self.old (begun self.old now) ≡ (result, self.new) }
+    {
+        let before = self.store.len();
+        self.begin(now);
+        Reply::Expired(u64::from(before.saturating_sub(self.store.len())))
     }
 }

@@ -13,7 +13,7 @@ use stored_data::StoredSet;
 use table_model::{Cell, Cells, Row, Spec};
 
 /// The ms that are left at a clock of what was refreshed at a moment before it; 0 without `expire`.
-fn left_at(expire: Option<u32>, moment: u64, clock: u64) -> u64
+pub(crate) fn left_at(expire: Option<u32>, moment: u64, clock: u64) -> u64
     requires { moment ≤ clock }
     ensures { result ≡ unwrap_or (option_map (λ life. moment + life) expire) 0 - clock }
 {

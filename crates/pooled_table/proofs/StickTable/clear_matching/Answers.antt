@@ -3,14 +3,14 @@ use Rattle.entry_store.specs.Stock.{held_count}
 use Rattle.table_model.specs.State.{State}
 use Rattle.table_model.specs.Step.{cleared}
 use Rattle.pooled_table.specs.Table.{tickets_of}
-use Rattle.pooled_table.proofs.ClearLemmas.{left-table, cleared-is}
+use Rattle.pooled_table.proofs.ClearLemmas.{cleared-table, cleared-is}
 use Rattle.pooled_table.proofs.StickTable.clear_matching.Goals as goal
 
 pub invariant_of-self : goal.invariant_of-self
 invariant_of-self c =
     let t = c.self.inside in
     let d = c.remove_matching.ensures in
-    left-table t.spec t.clock t.events t.store c.remove_matching.new.store t.book c.self.invariant d.left d.stock d.rising d.columns d.newest d.slots
+    cleared-table t.spec t.clock t.events t.store c.remove_matching.new.store t.book c.self.invariant d.left d.stock d.rising d.columns d.newest d.slots
 
 pub returns : goal.returns
 returns c =

@@ -1,0 +1,83 @@
+-- What is shown of a key that is tracked once more.
+use Rattle.std.proofs.Common.{◌≡◌, ℕ, ◌+◌, ◌-◌, ◌<◌, ◌≤◌, refl, sym, ◌∙◌, ap, subst, arith, List, [], ◌∷◌, length, filter, map, Bool, true, false, cond, Option, Some, None, unwrap_or}
+use Rattle.std.specs.Prelude.{max}
+use Rattle.std.specs.BTreeMap.{is_at}
+use Rattle.std.specs.List.{AllByRecursion}
+use Rattle.std.specs.Map.{lookup}
+use Rattle.std.specs.Option.{option_map, option_map_or}
+use Rattle.std.specs.Ordering.{is_eq}
+use Rattle.std.specs.declared.cmp.Ordering.{Ordering}
+use Rattle.std.specs.declared.cmp.Ordering.TheVariants.{Less, Equal, Greater}
+use Rattle.std.proofs.lemmas.List.{length-map}
+use Rattle.std.proofs.lemmas.Map.Lookups.{exact_bytes}
+use Rattle.stored_data.specs.Acts.{acted}
+use Rattle.stored_data.specs.declared.act.Act.TheVariants.{Connection}
+use Rattle.stored_data.specs.declared.values.Field.{Field}
+use Rattle.slot_handle.specs.declared.Handle.{Handle}
+use Rattle.entry_store.specs.Stock.{Held, Stock, IsAt, IsAbsent, held_at}
+use Rattle.entry_store.proofs.CountLemmas.{all-entries}
+use Rattle.ticket_book.specs.Tickets.{Tickets}
+use Rattle.table_model.specs.Key.{Key, key_cmp}
+use Rattle.table_model.specs.State.{State, refs, record_at, row_of, stays, zero_record}
+use Rattle.table_model.specs.Step.{begun, connected}
+use Rattle.table_model.specs.declared.rows.Cell.{Cell}
+use Rattle.table_model.specs.declared.rows.Record.{Record}
+use Rattle.table_model.specs.declared.rows.Row.{Row}
+use Rattle.table_model.specs.declared.rows.Ticket.{Ticket}
+use Rattle.table_model.specs.declared.specification.Spec.{Spec}
+use Rattle.pooled_table.specs.Seen.{is_kept, IsLive, IsGone, cells_of}
+use Rattle.pooled_table.specs.Shown.{record_of, keyed, records_of}
+use Rattle.pooled_table.specs.Table.{with_key, tickets_of, state_of, IsTable}
+use Rattle.pooled_table.proofs.LookLemmas.{live-record}
+use Rattle.pooled_table.proofs.RecordLemmas.{held-from}
+use Rattle.pooled_table.proofs.SeenLemmas.{kept-is}
+use Rattle.pooled_table.proofs.StoreLemmas.{refs-absent}
+
+-- where all of a key fail, a filter leaves none
+none-left : {K X : Type 0} (R : K → K → Ordering) (p : K × X → Bool) (k : K) (es : List (K × X)) → AllByRecursion (λ e. R k e.0 ≡ Equal → p e ≡ false) es → lookup (is_at (R k)) (filter p es) ≡ None
+none-left R p k [] h = refl
+none-left R p k (e ∷ es) h = go (none-left R p k es h.1) (R k e.0) refl (p e) refl
+  where
+    miss : lookup (is_at (R k)) (filter p es) ≡ None → is_eq (R k e.0) ≡ false → (b : Bool) → lookup (is_at (R k)) (cond b (e ∷ filter p es) (filter p es)) ≡ None
+    miss rest other true = ap (λ t. cond t (Some e.1) (lookup (is_at (R k)) (filter p es))) other ∙ rest
+    miss rest other false = rest
+
+    go : lookup (is_at (R k)) (filter p es) ≡ None → (o : Ordering) → R k e.0 ≡ o → (b : Bool) → p e ≡ b → lookup (is_at (R k)) (filter p (e ∷ es)) ≡ None
+    go rest Less is b passes = miss rest (ap is_eq is) (p e)
+    go rest Greater is b passes = miss rest (ap is_eq is) (p e)
+    go rest Equal is b passes = ap (λ q. lookup (is_at (R k)) (cond q (e ∷ filter p es) (filter p es))) (h.0 is) ∙ rest
+
+module _ (spec : Spec) (clock events : ℕ) (s : Stock) (book : Tickets) (table : IsTable spec clock events s book) (key : Key) where
+  pub refs-there : (handle : Handle) (at : IsAt s key handle) → at.held.entry.refs ≡ refs key (tickets_of s book)
+  refs-there handle at = table.counted handle.slot at.held at.there ∙ ap (λ k. refs k (tickets_of s book)) at.keyed
+
+  pub refs-none : IsAbsent s key → ◌≡◌ {A = ℕ} 0 (refs key (tickets_of s book))
+  refs-none none = sym (refs-absent s key none book.tickets table.held)
+
+  module _ (at : ℕ) where
+    gone-record : IsGone s spec.expire at key → record_at key (filter (stays at (tickets_of s book)) (records_of spec.expire s)) ≡ None
+    gone-record gone =
+        none-left key_cmp (stays at (tickets_of s book)) key (records_of spec.expire s) (all-entries key_cmp exact_bytes (λ (e : Key × Record). key_cmp key e.0 ≡ Equal → stays at (tickets_of s book) e ≡ false) (map (option_map (keyed spec.expire)) s.slots) (λ j e there same.
+        let b = held-from spec.expire s table.stock j e there in
+        subst (λ (x : Key × Record). stays at (tickets_of s book) x ≡ false) b.2
+        (sym (kept-is (tickets_of s book) at spec.expire b.0 (table.counted j b.0 b.1)) ∙ gone j b.0 b.1 (ap (λ (x : Key × Record). x.0) b.2 ∙ sym (exact_bytes key e.0 same)))))
+
+    -- the data of a key's entry
+    pub values-live : (slot : ℕ) (l : IsLive s spec.expire at key slot) → l.held.values ≡ (unwrap_or (record_at key (filter (stays at (tickets_of s book)) (records_of spec.expire s))) (zero_record spec.columns)).values
+    values-live slot l =
+        sym (ap (λ k. (unwrap_or (record_at k (filter (stays at (tickets_of s book)) (records_of spec.expire s))) (zero_record spec.columns)).values) (sym l.keyed)
+        ∙ ap (λ (o : Option Record). (unwrap_or o (zero_record spec.columns)).values) (live-record spec clock events s book table at slot l.held l.there ∙ ap (λ b. cond b (Some (record_of spec.expire l.held)) None) l.kept))
+
+    pub values-gone : IsGone s spec.expire at key → (zero_record spec.columns).values ≡ (unwrap_or (record_at key (filter (stays at (tickets_of s book)) (records_of spec.expire s))) (zero_record spec.columns)).values
+    values-gone gone = sym (ap (λ (o : Option Record). (unwrap_or o (zero_record spec.columns)).values) (gone-record gone))
+
+-- the row of a key that is tracked once more
+pub connected-row : (state : State) (now clock : ℕ) (key shown : Key) (count left : ℕ) (values acts : List Field) (cells : List Cell) → clock ≡ max state.clock now → shown ≡ key → count ≡ refs key state.tickets + 1
+    → values ≡ (unwrap_or (record_at key (filter (stays clock state.tickets) state.records)) (zero_record state.spec.columns)).values
+    → acts ≡ acted values clock Connection → cells ≡ cells_of state.spec.columns clock count acts
+    → left ≡ unwrap_or (option_map (λ life. clock + life) state.spec.expire) 0 - clock
+    → ◌≡◌ {A = Row} (record { key = shown; refs = count; left = left; cells = cells }) (row_of state.spec.columns (max state.clock now) (refs key state.tickets + 1) key (connected (begun state now) key))
+connected-row state now clock key shown count left values acts cells is named counts was acting shows lives =
+    (λ i. record { key = named i; refs = counts i; left = lives i; cells = (shows ∙ (λ j. cells_of state.spec.columns clock (counts j) (acting j))) i })
+    ∙ ap (λ (vs : List Field). record { key = key; refs = refs key state.tickets + 1; left = unwrap_or (option_map (λ life. clock + life) state.spec.expire) 0 - clock; cells = cells_of state.spec.columns clock (refs key state.tickets + 1) (acted vs clock Connection) }) was
+    ∙ ap (λ (at : ℕ). record { key = key; refs = refs key state.tickets + 1; left = unwrap_or (option_map (λ life. at + life) state.spec.expire) 0 - at; cells = cells_of state.spec.columns at (refs key state.tickets + 1) (acted (unwrap_or (record_at key (filter (stays at state.tickets) state.records)) (zero_record state.spec.columns)).values at Connection) }) is

@@ -1,0 +1,23 @@
+-- Room for one more entry.
+use Rattle.std.specs.Prelude.{◌≡◌, ◌<◌, List, length, Some, None}
+use Rattle.entry_store.specs.Stock.{Stock, IsStock, held_count}
+use Rattle.table_model.specs.Key.{Key}
+use Rattle.table_model.specs.Room.{room_in}
+use Rattle.table_model.specs.declared.rows.Ticket.{Ticket}
+use Rattle.table_model.specs.declared.specification.Spec.{Spec}
+use Rattle.pooled_table.specs.Shown.{records_of, AreCounted, IsRising, IsLeft}
+
+-- room was made: of the records that there were the rest is what the definition leaves, and a slot is free
+pub record IsRoomy (spec : Spec) (old new : Stock) : Type 0 where
+  pub records : (tickets : List (Ticket × Key)) → AreCounted old tickets → room_in spec tickets (records_of spec.expire old) ≡ Some (records_of spec.expire new)
+  pub space : held_count new < length new.slots
+  pub left : IsLeft old new
+  pub stock : IsStock new
+  pub rising : IsRising new new.queue
+  pub columns : new.columns ≡ old.columns
+  pub newest : new.newest ≡ old.newest
+  pub size : length new.slots ≡ length old.slots
+
+-- there is no room
+abbrev pub IsFull : Spec → Stock → Type 0
+IsFull spec s = (tickets : List (Ticket × Key)) → AreCounted s tickets → room_in spec tickets (records_of spec.expire s) ≡ None
