@@ -26,17 +26,17 @@ given false found x gives = absurd (none-some x gives)
 made_of : (host : List ℕ → Option Address) (text : List ℕ) (endpoint : Endpoint) (address : Address) (port : ℕ) → list_any (is_byte 58) text ≡ true →
     host (before_last (is_byte 58) text) ≡ Some address → port_of (after_last (is_byte 58) text) ≡ Some port →
     ◌≡◌ {A = Option Endpoint} (Some (record { address = address; port = port })) (Some endpoint) → HasParts host text endpoint
-made_of host text endpoint address port colon front back made =
+made_of host text endpoint address port colon prefix back made =
     let whole : Endpoint = record { address = address; port = port } in
     let same : whole ≡ endpoint = cc in
-    subst (HasParts host text) same (record { colon = colon; host_is = front; port_is = back })
+    subst (HasParts host text) same (record { colon = colon; host_is = prefix; port_is = back })
 
 parts_of : (host : List ℕ → Option Address) (text : List ℕ) (endpoint : Endpoint) → endpoint_of host text ≡ Some endpoint → HasParts host text endpoint
 parts_of host text endpoint gives =
     let known = given (list_any (is_byte 58) text) (host (before_last (is_byte 58) text) >>= (λ address. port_of (after_last (is_byte 58) text) >>= (λ port. Some (record { address = address; port = port })))) endpoint gives in
-    option_and_then_some (λ address. port_of (after_last (is_byte 58) text) >>= (λ port. Some (record { address = address; port = port }))) (host (before_last (is_byte 58) text)) endpoint known.1 (λ address front rest.
+    option_and_then_some (λ address. port_of (after_last (is_byte 58) text) >>= (λ port. Some (record { address = address; port = port }))) (host (before_last (is_byte 58) text)) endpoint known.1 (λ address prefix rest.
     option_and_then_some (λ port. Some (record { address = address; port = port })) (port_of (after_last (is_byte 58) text)) endpoint rest (λ port back made.
-    made_of host text endpoint address port known.0 front back made))
+    made_of host text endpoint address port known.0 prefix back made))
 
 with_parts : (host : List ℕ → Option Address) (text : List ℕ) (endpoint : Endpoint) → HasParts host text endpoint → endpoint_of host text ≡ Some endpoint
 with_parts host text endpoint known = rw (known.colon, known.host_is, known.port_is) refl

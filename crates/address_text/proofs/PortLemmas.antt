@@ -21,10 +21,10 @@ pub last_colon : (text : List ℕ) (end : ℕ) → 0 < end → end ≤ length te
     × (take (length text - (end - 1 + 1)) (drop (end - 1 + 1) text) ≡ after_last (is_byte 58) text)
 last_colon text end some inside here none =
     let rest = behind text (end - 1) (omega (arith, some, inside)) here (λ k above below. none k (omega (arith, above, some)) below) in
-    let front : length text - (length text - (end - 1 + 1)) - 1 ≡ end - 1 = omega (arith, inside, some) in
+    let prefix : length text - (length text - (end - 1 + 1)) - 1 ≡ end - 1 = omega (arith, inside, some) in
     let back : length text - (length text - (end - 1 + 1)) ≡ end - 1 + 1 = omega (arith, inside, some) in
     let all : take (length text - (end - 1 + 1)) (drop (end - 1 + 1) text) ≡ drop (end - 1 + 1) text = take_all _ _ (omega (arith, length-drop (end - 1 + 1) text)) in
-    (list_any_at (is_byte 58) text (end - 1) 0 (omega (arith, some, inside)) (eq-eqb (get_or text (end - 1) 0) 58 here), rw (rest, front) refl, rw (all, rest, back) refl)
+    (list_any_at (is_byte 58) text (end - 1) 0 (omega (arith, some, inside)) (eq-eqb (get_or text (end - 1) 0) 58 here), rw (rest, prefix) refl, rw (all, rest, back) refl)
 
 pub no_colon : (text : List ℕ) → ((k : ℕ) → k < length text → get_or text k 0 ≡ 58 → ⊥) → list_any (is_byte 58) text ≡ false
 no_colon text none = list_any_none (is_byte 58) text (All-from_get_or (λ byte. is_byte 58 byte ≡ false) text 0 (λ k inside. ne_eqb (get_or text k 0) 58 (none k inside)))

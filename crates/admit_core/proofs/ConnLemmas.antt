@@ -12,7 +12,7 @@ use Rattle.rule_eval.specs.declared.slots.Slots.{Slots}
 use Rattle.rule_eval.specs.declared.wants.Answer.{Answer}
 use Rattle.rule_eval.specs.declared.wants.Answer.TheVariants as answers
 use Rattle.rule_eval.specs.declared.wants.Asked.{Asked}
-use Rattle.rule_eval.specs.declared.wants.Asked.TheVariants.{Settled}
+use Rattle.rule_eval.specs.declared.wants.Asked.TheVariants.{Decided}
 use Rattle.rule_eval.specs.declared.wants.Verdict.{Verdict}
 use Rattle.rule_eval.specs.declared.wants.Want.{Want}
 use Rattle.rule_eval.specs.declared.wants.Want.TheVariants.{Get, Track, Look, Count, Done}
@@ -108,12 +108,12 @@ judged_need want progress none judged = ap (λ given. need_given given want prog
     in_phase Rejected at judged = cc
     in_phase Ended at judged = cc
 
-pub not_settled : (want : Want) (asked : Asked) → asked ≡ asked_by want → ((verdict : Verdict) → asked ≡ Settled verdict → ⊥) → is_done want ≡ false
-not_settled (Done verdict) asked is other = absurd (other verdict is)
-not_settled (Get table key) asked is other = refl
-not_settled (Track slot table key) asked is other = refl
-not_settled (Look slot) asked is other = refl
-not_settled (Count slot act) asked is other = refl
+pub not_decided : (want : Want) (asked : Asked) → asked ≡ asked_by want → ((verdict : Verdict) → asked ≡ Decided verdict → ⊥) → is_done want ≡ false
+not_decided (Done verdict) asked is other = absurd (other verdict is)
+not_decided (Get table key) asked is other = refl
+not_decided (Track slot table key) asked is other = refl
+not_decided (Look slot) asked is other = refl
+not_decided (Count slot act) asked is other = refl
 
 -- what the tables of what is held are after an answer to the rules
 pub received_same : {R : Type 0} (want : Want) (progress : Progress R) (asked : Asked) (answer : Answer) (reference : Option R) (held : Held R) (slots later : Slots)

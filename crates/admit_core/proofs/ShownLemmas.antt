@@ -13,7 +13,7 @@ use Rattle.stored_data.specs.declared.act.Act.TheVariants.{Connection}
 use Rattle.stored_data.specs.declared.datum.Datum.{Datum}
 use Rattle.stored_data.specs.declared.datum.Datum.TheVariants.{ConnCur}
 use Rattle.stored_data.specs.declared.stored_set.Column.{Column}
-use Rattle.stored_data.specs.declared.values.Field.{Field}
+use Rattle.stored_data.specs.declared.values.StoredValue.{StoredValue}
 use Rattle.table_model.specs.Key.{Key, key_cmp, same_key}
 use Rattle.table_model.specs.Laws.{values_after}
 use Rattle.table_model.specs.Legal.{AreDataOf, AreFieldsOf, IsLegal}
@@ -39,32 +39,32 @@ use Rattle.admit_core.specs.Shown.{LookLaw, ReadingLaw, RowLaw, is_reading}
 
 -- ---- data without a datum
 
-acted_none : (fields : List Field) (now : ℕ) (act : Act) (datum : Datum) → content_of fields datum ≡ None → content_of (acted fields now act) datum ≡ None
+acted_none : (fields : List StoredValue) (now : ℕ) (act : Act) (datum : Datum) → content_of fields datum ≡ None → content_of (acted fields now act) datum ≡ None
 acted_none [] now act datum h = refl
 acted_none (field ∷ fields) now act datum h =
-    elim (place field.datum == place datum) as (λ b. option_map (λ (f : Field). f.content) (cond b (Some field) (find (λ (f : Field). place f.datum == place datum) fields)) ≡ None
-    → option_map (λ (f : Field). f.content) (cond b (Some (changed_field now act field)) (find (λ (f : Field). place f.datum == place datum) (acted fields now act))) ≡ None) [
+    elim (place field.datum == place datum) as (λ b. option_map (λ (f : StoredValue). f.content) (cond b (Some field) (find (λ (f : StoredValue). place f.datum == place datum) fields)) ≡ None
+    → option_map (λ (f : StoredValue). f.content) (cond b (Some (changed_field now act field)) (find (λ (f : StoredValue). place f.datum == place datum) (acted fields now act))) ≡ None) [
       | true ↦ λ h. cc
       | false ↦ λ h. acted_none fields now act datum h
     ] h
 
-put_none : (fields : List Field) (other datum : Datum) (value : ℕ) → content_of fields datum ≡ None → content_of (with_value fields other value) datum ≡ None
+put_none : (fields : List StoredValue) (other datum : Datum) (value : ℕ) → content_of fields datum ≡ None → content_of (with_value fields other value) datum ≡ None
 put_none [] other datum value h = refl
 put_none (field ∷ fields) other datum value h =
     elim (place field.datum == place other) as (λ c. content_of (cond c (record { datum = field.datum; content = put_content value field.content }) field ∷ with_value fields other value) datum ≡ None) [
-      | true ↦ elim (place field.datum == place datum) as (λ b. option_map (λ (f : Field). f.content) (cond b (Some field) (find (λ (f : Field). place f.datum == place datum) fields)) ≡ None
-          → option_map (λ (f : Field). f.content) (cond b (Some (record { datum = field.datum; content = put_content value field.content })) (find (λ (f : Field). place f.datum == place datum) (with_value fields other value))) ≡ None) [
+      | true ↦ elim (place field.datum == place datum) as (λ b. option_map (λ (f : StoredValue). f.content) (cond b (Some field) (find (λ (f : StoredValue). place f.datum == place datum) fields)) ≡ None
+          → option_map (λ (f : StoredValue). f.content) (cond b (Some (record { datum = field.datum; content = put_content value field.content })) (find (λ (f : StoredValue). place f.datum == place datum) (with_value fields other value))) ≡ None) [
             | true ↦ λ h. cc
             | false ↦ λ h. put_none fields other datum value h
           ] h
-      | false ↦ elim (place field.datum == place datum) as (λ b. option_map (λ (f : Field). f.content) (cond b (Some field) (find (λ (f : Field). place f.datum == place datum) fields)) ≡ None
-          → option_map (λ (f : Field). f.content) (cond b (Some field) (find (λ (f : Field). place f.datum == place datum) (with_value fields other value))) ≡ None) [
+      | false ↦ elim (place field.datum == place datum) as (λ b. option_map (λ (f : StoredValue). f.content) (cond b (Some field) (find (λ (f : StoredValue). place f.datum == place datum) fields)) ≡ None
+          → option_map (λ (f : StoredValue). f.content) (cond b (Some field) (find (λ (f : StoredValue). place f.datum == place datum) (with_value fields other value))) ≡ None) [
             | true ↦ λ h. cc
             | false ↦ λ h. put_none fields other datum value h
           ] h
     ]
 
-puts_none : (pairs : List Cell) (fields : List Field) (datum : Datum) → content_of fields datum ≡ None → content_of (put_pairs pairs fields) datum ≡ None
+puts_none : (pairs : List Cell) (fields : List StoredValue) (datum : Datum) → content_of fields datum ≡ None → content_of (put_pairs pairs fields) datum ≡ None
 puts_none [] fields datum h = h
 puts_none (pair ∷ pairs) fields datum h = puts_none pairs (with_value fields pair.datum pair.value) datum (put_none fields pair.datum datum pair.value h)
 
@@ -74,10 +74,10 @@ zero_none [] = refl
 zero_none (column ∷ columns) =
     elim (place column.datum == place ConnCur) as (λ b. (place column.datum == place ConnCur) ≡ b → content_of (map zero_field (cond (not b) (column ∷ filter is_kept columns) (filter is_kept columns))) ConnCur ≡ None) [
       | true ↦ λ is. zero_none columns
-      | false ↦ λ is. ap (λ b. option_map (λ (f : Field). f.content) (cond b (Some (zero_field column)) (find (λ (f : Field). place f.datum == place ConnCur) (zero_of columns)))) is ∙ zero_none columns
+      | false ↦ λ is. ap (λ b. option_map (λ (f : StoredValue). f.content) (cond b (Some (zero_field column)) (find (λ (f : StoredValue). place f.datum == place ConnCur) (zero_of columns)))) is ∙ zero_none columns
     ] refl
 
-values_none : (clock : ℕ) (event : Event) (values : List Field) → content_of values ConnCur ≡ None → content_of (values_after clock event values) ConnCur ≡ None
+values_none : (clock : ℕ) (event : Event) (values : List StoredValue) → content_of values ConnCur ≡ None → content_of (values_after clock event values) ConnCur ≡ None
 values_none clock (Track now key) values h = acted_none values clock Connection ConnCur h
 values_none clock (Count now ticket act) values h = acted_none values clock act ConnCur h
 values_none clock (Put now key pairs) values h = puts_none pairs values ConnCur h
@@ -152,13 +152,13 @@ look_law spec events replies state now ticket r later stored run step =
 
 -- ---- legal states
 
-kept_none : (column : Column) (columns : List Column) (fields : List Field) → ((fs : List Field) → AreFieldsOf (filter is_kept columns) fs → content_of fs ConnCur ≡ None) → (place column.datum == place ConnCur) ≡ false
+kept_none : (column : Column) (columns : List Column) (fields : List StoredValue) → ((fs : List StoredValue) → AreFieldsOf (filter is_kept columns) fs → content_of fs ConnCur ≡ None) → (place column.datum == place ConnCur) ≡ false
     → AreFieldsOf (column ∷ filter is_kept columns) fields → content_of fields ConnCur ≡ None
 kept_none column columns [] later is are = absurd are
 kept_none column columns (field ∷ fields) later is are =
-    ap (λ b. option_map (λ (f : Field). f.content) (cond b (Some field) (find (λ (f : Field). place f.datum == place ConnCur) fields))) (ap (λ d. place d == place ConnCur) are.0.datum ∙ is) ∙ later fields are.1
+    ap (λ b. option_map (λ (f : StoredValue). f.content) (cond b (Some field) (find (λ (f : StoredValue). place f.datum == place ConnCur) fields))) (ap (λ d. place d == place ConnCur) are.0.datum ∙ is) ∙ later fields are.1
 
-fields_none : (columns : List Column) (fields : List Field) → AreFieldsOf (filter is_kept columns) fields → content_of fields ConnCur ≡ None
+fields_none : (columns : List Column) (fields : List StoredValue) → AreFieldsOf (filter is_kept columns) fields → content_of fields ConnCur ≡ None
 fields_none [] [] are = refl
 fields_none [] (field ∷ fields) are = absurd are
 fields_none (column ∷ columns) fields are =

@@ -238,7 +238,7 @@ impl<'a, R> Conn<'a, R> {
             return;
         }
         let asked = self.eval.asks();
-        if let Asked::Settled(_) = asked {
+        if let Asked::Decided(_) = asked {
             nothing_came(reference);
             self.counted += 1;
             return;
@@ -278,7 +278,7 @@ impl<'a, R> Conn<'a, R> {
     {
         match self.phase {
             Phase::New | Phase::Judging => match self.eval.asks() {
-                Asked::Settled(_) => self.counted += 1,
+                Asked::Decided(_) => self.counted += 1,
                 _ => self.phase = Phase::Rejected,
             },
             Phase::Admitted => {
@@ -299,7 +299,7 @@ impl<'a, R> Conn<'a, R> {
     {
         self.phase = match self.phase {
             Phase::New | Phase::Judging => match self.eval.asks() {
-                Asked::Settled(Verdict::Accept) => Phase::Admitted,
+                Asked::Decided(Verdict::Accept) => Phase::Admitted,
                 _ => Phase::Rejected,
             },
             _ => Phase::Ended,

@@ -4,7 +4,7 @@ use Rattle.std.proofs.lemmas.List.{take_all, take-append-drop}
 use Rattle.std.proofs.Math.Seq.{take-add}
 use Rattle.byte_ports.specs.Bytes.{Grows, GrowsInPart, IsPrefix, Takes}
 
--- a front was taken, and then a front of the rest
+-- a prefix was taken, and then a prefix of the rest
 pub front_grown : (told : Type 0) (before mid after bytes rest : List ℕ) (n m : ℕ) → rest ≡ drop n bytes → Grows told before mid (take n bytes) → Grows told mid after (take m rest) → Grows told before after (take (n + m) bytes)
 front_grown told before mid after bytes rest n m is first second shown =
     second shown ∙ ap (λ l. mid ++ take m l) is ∙ ap (λ l. l ++ take m (drop n bytes)) (first shown) ∙ append_assoc before (take n bytes) (take m (drop n bytes))
@@ -34,23 +34,23 @@ taken_zero told before mid after piece buffer n none first second =
     taken_none told before mid after piece first (λ shown. second shown ∙ ap (λ k. take k buffer ++ after) none)
 
 -- a prefix stays one behind a text that both begin with
-pub prefix_behind : (text front whole : List ℕ) → IsPrefix front whole → IsPrefix (text ++ front) (text ++ whole)
-prefix_behind text front whole begins = (begins.0, ap (λ l. text ++ l) begins.1 ∙ sym (append_assoc text front begins.0))
+pub prefix_behind : (text prefix whole : List ℕ) → IsPrefix prefix whole → IsPrefix (text ++ prefix) (text ++ whole)
+prefix_behind text prefix whole begins = (begins.0, ap (λ l. text ++ l) begins.1 ∙ sym (append_assoc text prefix begins.0))
 
 -- a prefix of a text is one of the text with more behind it
-pub prefix_of_more : (front whole more : List ℕ) → IsPrefix front whole → IsPrefix front (whole ++ more)
-prefix_of_more front whole more begins = (begins.0 ++ more, ap (λ l. l ++ more) begins.1 ∙ append_assoc front begins.0 more)
+pub prefix_of_more : (prefix whole more : List ℕ) → IsPrefix prefix whole → IsPrefix prefix (whole ++ more)
+prefix_of_more prefix whole more begins = (begins.0 ++ more, ap (λ l. l ++ more) begins.1 ∙ append_assoc prefix begins.0 more)
 
--- what was taken up to some place is a front of a text
-pub in_front : (told : Type 0) (before after bytes text : List ℕ) (n : ℕ) → bytes ≡ text → Grows told before after (take n bytes) → GrowsInPart told before after text
-in_front told before after bytes text n is grows =
+-- what was taken up to some place is a prefix of a text
+pub in_prefix : (told : Type 0) (before after bytes text : List ℕ) (n : ℕ) → bytes ≡ text → Grows told before after (take n bytes) → GrowsInPart told before after text
+in_prefix told before after bytes text n is grows =
     (take n bytes, (drop n bytes, sym is ∙ sym (take-append-drop n bytes)), grows)
 
--- a text was written, and then a front of another
+-- a text was written, and then a prefix of another
 pub in_part : (told : Type 0) (before mid after text more : List ℕ) → Grows told before mid text → GrowsInPart told mid after more → GrowsInPart told before after (text ++ more)
 in_part told before mid after text more first second =
     (text ++ second.0, prefix_behind text second.0 more second.1, grown_twice told before mid after text second.0 first second.2)
 
--- a front of a text is one of the text with more behind it
+-- a prefix of a text is one of the text with more behind it
 pub in_part_of_more : (told : Type 0) (before after text more : List ℕ) → GrowsInPart told before after text → GrowsInPart told before after (text ++ more)
 in_part_of_more told before after text more part = (part.0, prefix_of_more part.0 text more part.1, part.2)

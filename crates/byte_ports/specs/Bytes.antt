@@ -17,10 +17,10 @@ IsAtEnd told left = told → left ≡ []
 abbrev pub IsOneMore : ℕ → ℕ → Type 0
 IsOneMore before after = after ≡ (before + 1) % 2 ^ 64
 
--- the whole begins with the front
+-- the whole begins with the prefix
 abbrev pub IsPrefix : List ℕ → List ℕ → Type 0
-IsPrefix front whole = (rest : List ℕ) × (whole ≡ front ++ rest)
+IsPrefix prefix whole = (rest : List ℕ) × (whole ≡ prefix ++ rest)
 
--- where the port tells its bytes, what it has taken has grown by a front of the piece
+-- where the port tells its bytes, what it has taken has grown by a prefix of the piece
 abbrev pub GrowsInPart : Type 0 → List ℕ → List ℕ → List ℕ → Type 0
-GrowsInPart told before after piece = (front : List ℕ) × IsPrefix front piece × Grows told before after front
+GrowsInPart told before after piece = (prefix : List ℕ) × IsPrefix prefix piece × Grows told before after prefix

@@ -39,7 +39,7 @@ pub trait Source {
     // How often a call failed, modulo 2 ^ 64.
     ghost failures: { Self → ℕ };
 
-    /// Fills a front of the buffer with the next bytes, and answers how many they are. 0 bytes into a buffer with
+    /// Fills a prefix of the buffer with the next bytes, and answers how many they are. 0 bytes into a buffer with
     /// room mean that the input has ended. `Failed` comes exactly where the device failed, and takes no bytes.
     fn read(&mut self, buffer: &mut [u8]) -> Result<usize, Failed>
         ensures bound { IfOk result (λ count. count ≤ length buffer.old) }
@@ -61,7 +61,7 @@ pub trait Sink {
     // How often a call failed, modulo 2 ^ 64.
     ghost failures: { Self → ℕ };
 
-    /// Takes a front of the bytes, at least one where there is one, and answers how many. `Failed` comes exactly
+    /// Takes a prefix of the bytes, at least one where there is one, and answers how many. `Failed` comes exactly
     /// where the device failed, and takes no bytes.
     fn write(&mut self, bytes: &[u8]) -> Result<usize, Failed>
         ensures bound { IfOk result (λ count. count ≤ length bytes.now) }

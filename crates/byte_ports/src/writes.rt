@@ -16,9 +16,9 @@ pub fn write_all<W: Sink>(writer: &mut W, bytes: &[u8]) -> Result<(), Stopped>
     ensures bytes { OnOk result (Grows W.tells (W.written writer.old) (W.written writer.new) bytes.now) }
     ensures ok { OnOk result (W.failures writer.new ≡ W.failures writer.old) }
 
-    // What was taken before it stopped is a front of the bytes.
+    // What was taken before it stopped is a prefix of the bytes.
     ensures stopped { IfErr result (λ stopped. stopped.written ≤ length bytes.now) }
-    ensures front { IfErr result (λ stopped. Grows W.tells (W.written writer.old) (W.written writer.new) (take stopped.written bytes.now)) }
+    ensures prefix { IfErr result (λ stopped. Grows W.tells (W.written writer.old) (W.written writer.new) (take stopped.written bytes.now)) }
     ensures err { OnErr result (IsOneMore (W.failures writer.old) (W.failures writer.new)) }
 {
     let mut written = 0;

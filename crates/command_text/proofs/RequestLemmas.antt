@@ -9,22 +9,22 @@ use Rattle.command_text.specs.declared.message.Message.{Message}
 
 -- what was read, with these in front
 abbrev pub behind : List Cell → Result (List Cell) Message → Result (List Cell) Message
-behind front (Ok cells) = Ok (front ++ cells)
-behind front (Err message) = Err message
+behind prefix (Ok cells) = Ok (prefix ++ cells)
+behind prefix (Err message) = Err message
 
 pub behind-none : (read : Result (List Cell) Message) → behind [] read ≡ read
 behind-none (Ok cells) = refl
 behind-none (Err message) = refl
 
-pub behind-more : (front : List Cell) (cell : Cell) (read : Result (List Cell) Message) → behind front (with_cell (Ok cell) read) ≡ behind (front ++ cell ∷ []) read
-behind-more front cell (Ok cells) = ap Ok (sym (append_assoc front (cell ∷ []) cells))
-behind-more front cell (Err message) = refl
+pub behind-more : (prefix : List Cell) (cell : Cell) (read : Result (List Cell) Message) → behind prefix (with_cell (Ok cell) read) ≡ behind (prefix ++ cell ∷ []) read
+behind-more prefix cell (Ok cells) = ap Ok (sym (append_assoc prefix (cell ∷ []) cells))
+behind-more prefix cell (Err message) = refl
 
 -- a pair more was read
-pub one_more : (front new : List Cell) (cell : Cell) (word value : List ℕ) (left mid rest : List (List ℕ)) → left ≡ word ∷ mid → mid ≡ value ∷ rest
-    → Ok cell ≡ cell_of (datum_of (unwrap_or (datum_name word) [])) (number_of value) → new ≡ front ++ cell ∷ [] → behind new (cells_of rest) ≡ behind front (cells_of left)
-one_more front new cell word value left mid rest first second is more =
+pub one_more : (prefix new : List Cell) (cell : Cell) (word value : List ℕ) (left mid rest : List (List ℕ)) → left ≡ word ∷ mid → mid ≡ value ∷ rest
+    → Ok cell ≡ cell_of (datum_of (unwrap_or (datum_name word) [])) (number_of value) → new ≡ prefix ++ cell ∷ [] → behind new (cells_of rest) ≡ behind prefix (cells_of left)
+one_more prefix new cell word value left mid rest first second is more =
     ap (λ cells. behind cells (cells_of rest)) more
-    ∙ sym (behind-more front cell (cells_of rest))
-    ∙ ap (λ read. behind front (with_cell read (cells_of rest))) is
-    ∙ ap (λ ws. behind front (cells_of ws)) (sym (first ∙ ap (λ ws. word ∷ ws) second))
+    ∙ sym (behind-more prefix cell (cells_of rest))
+    ∙ ap (λ read. behind prefix (with_cell read (cells_of rest))) is
+    ∙ ap (λ ws. behind prefix (cells_of ws)) (sym (first ∙ ap (λ ws. word ∷ ws) second))

@@ -27,7 +27,7 @@ pub enum Answer {
 
 impl Answer {
     /// What a table's reply is answered. A reply that shows no row takes no memory.
-    pub fn to_reply(
+    pub fn of_reply(
         alloc: Global,
         table: &[u8],
         spec: &Spec,

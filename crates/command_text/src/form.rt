@@ -47,8 +47,8 @@ pub fn datum_name(word: &[u8]) -> Option<&[u8]>
     if word.len() < 5 {
         return None;
     }
-    let (front, name) = word.split_at(5);
-    if front == b"data.".as_slice() {
+    let (prefix, name) = word.split_at(5);
+    if prefix == b"data.".as_slice() {
         Some(name)
     } else {
         None

@@ -113,12 +113,12 @@ pub(crate) fn read_time(text: &[u8]) -> Result<u32, Fault>
 
 /// What stands before the first parenthesis, and the rest.
 pub fn before_parenthesis(text: &[u8]) -> (&[u8], &[u8])
-    ensures front { result.0.now ≡ spec.before_parenthesis text.now }
+    ensures prefix { result.0.now ≡ spec.before_parenthesis text.now }
     ensures rest { result.1.now ≡ spec.from_parenthesis text.now }
 {
-    let front = before(text, b'(');
-    let (_, rest) = text.split_at(front.len());
-    (front, rest)
+    let prefix = before(text, b'(');
+    let (_, rest) = text.split_at(prefix.len());
+    (prefix, rest)
 }
 
 /// What stands between the parentheses round a text, where it begins and ends with them.

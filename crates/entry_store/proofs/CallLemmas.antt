@@ -4,7 +4,7 @@ use Rattle.std.specs.Option.{option_map}
 use Rattle.std.specs.List.{Contains}
 use Rattle.slot_handle.specs.declared.Handle.{Handle}
 use Rattle.stored_data.specs.Acts.{zero_of}
-use Rattle.stored_data.specs.declared.values.Field.{Field}
+use Rattle.stored_data.specs.declared.values.StoredValue.{StoredValue}
 use Rattle.entry_pool.specs.Contents as Pools
 use Rattle.entry_pool.specs.Contents.{Contents, entry_at}
 use Rattle.key_index.specs.Keys as Indexes
@@ -130,7 +130,7 @@ module _ (pool : Contents Entry) (index : Keys) (order : Queue) (grid : Grid) (p
       held (ap (λ (e : Entry). e.refs) (sym one) ∙ f.alone)
 
   -- ---- other data
-  module _ (slot : ℕ) (change : List Field → List Field) (some : IsSome (held_at s slot)) (grid' : Grid) (g : grid' ≡ with_row grid slot (change (row_at grid slot))) where
+  module _ (slot : ℕ) (change : List StoredValue → List StoredValue) (some : IsSome (held_at s slot)) (grid' : Grid) (g : grid' ≡ with_row grid slot (change (row_at grid slot))) where
     held_here : (x : Held) × (held_at (shown pool index order grid) slot ≡ Some x)
     held_here = some_held pool index order grid parts slot (subst (λ (x : Stock). IsSome (held_at x slot)) (sym is) some)
 

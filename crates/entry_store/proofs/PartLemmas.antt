@@ -10,7 +10,7 @@ use Rattle.stored_data.specs.declared.stored_set.Column.{Column}
 use Rattle.std.proofs.lemmas.Bool.{true≢false}
 use Rattle.std.proofs.lemmas.List.Sums.{sum_by-cons}
 use Rattle.slot_handle.specs.declared.Handle.{Handle}
-use Rattle.stored_data.specs.declared.values.Field.{Field}
+use Rattle.stored_data.specs.declared.values.StoredValue.{StoredValue}
 use Rattle.entry_pool.specs.Contents as Pools
 use Rattle.entry_pool.specs.Contents.{Contents, entry_at}
 use Rattle.key_index.specs.Keys as Indexes
@@ -36,32 +36,32 @@ abbrev indexed_under : K → Option ℕ
 indexed_under = option_map (λ (k : Indexes.Entry). k.generation)
 
 -- ---- slots
-slots-get : (ps : List P) (ks : List K) (rs : List (List Field)) (at : ℕ) → length ks ≡ length ps → length rs ≡ length ps → get_or (slots_in ps ks rs) at None ≡ held_in (get_or ps at None) (get_or ks at None) (get_or rs at [])
+slots-get : (ps : List P) (ks : List K) (rs : List (List StoredValue)) (at : ℕ) → length ks ≡ length ps → length rs ≡ length ps → get_or (slots_in ps ks rs) at None ≡ held_in (get_or ps at None) (get_or ks at None) (get_or rs at [])
 slots-get [] ks rs at same other = refl
 slots-get (p ∷ ps) [] rs at same other = absurd (omega (arith, same))
 slots-get (p ∷ ps) (k ∷ ks) [] at same other = absurd (omega (arith, other))
 slots-get (p ∷ ps) (k ∷ ks) (r ∷ rs) zero same other = refl
 slots-get (p ∷ ps) (k ∷ ks) (r ∷ rs) (suc at) same other = slots-get ps ks rs at (omega (arith, same)) (omega (arith, other))
 
-slots-set : (ps : List P) (ks : List K) (rs : List (List Field)) (at : ℕ) (p : P) (k : K) (r : List Field) → length ks ≡ length ps → length rs ≡ length ps → slots_in (set ps at p) (set ks at k) (set rs at r) ≡ set (slots_in ps ks rs) at (held_in p k r)
+slots-set : (ps : List P) (ks : List K) (rs : List (List StoredValue)) (at : ℕ) (p : P) (k : K) (r : List StoredValue) → length ks ≡ length ps → length rs ≡ length ps → slots_in (set ps at p) (set ks at k) (set rs at r) ≡ set (slots_in ps ks rs) at (held_in p k r)
 slots-set [] ks rs at p k r same other = refl
 slots-set (q ∷ ps) [] rs at p k r same other = absurd (omega (arith, same))
 slots-set (q ∷ ps) (j ∷ ks) [] at p k r same other = absurd (omega (arith, other))
 slots-set (q ∷ ps) (j ∷ ks) (s ∷ rs) zero p k r same other = refl
 slots-set (q ∷ ps) (j ∷ ks) (s ∷ rs) (suc at) p k r same other = ap (λ slots. held_in q j s ∷ slots) (slots-set ps ks rs at p k r (omega (arith, same)) (omega (arith, other)))
 
-length-slots : (ps : List P) (ks : List K) (rs : List (List Field)) → length ks ≡ length ps → length rs ≡ length ps → length (slots_in ps ks rs) ≡ length ps
+length-slots : (ps : List P) (ks : List K) (rs : List (List StoredValue)) → length ks ≡ length ps → length rs ≡ length ps → length (slots_in ps ks rs) ≡ length ps
 length-slots [] ks rs same other = refl
 length-slots (p ∷ ps) [] rs same other = absurd (omega (arith, same))
 length-slots (p ∷ ps) (k ∷ ks) [] same other = absurd (omega (arith, other))
 length-slots (p ∷ ps) (k ∷ ks) (r ∷ rs) same other = let rest = length-slots ps ks rs (omega (arith, same)) (omega (arith, other)) in omega (arith, rest)
 
-held-some : (p : P) (k : K) (r : List Field) → pooled_under p ≡ indexed_under k → is_some (held_in p k r) ≡ is_some p
+held-some : (p : P) (k : K) (r : List StoredValue) → pooled_under p ≡ indexed_under k → is_some (held_in p k r) ≡ is_some p
 held-some None k r same = refl
 held-some (Some e) None r same = absurd (none_some (sym same))
 held-some (Some e) (Some k) r same = refl
 
-count-slots : (ps : List P) (ks : List K) (rs : List (List Field)) → length ks ≡ length ps → length rs ≡ length ps → ((slot : ℕ) → pooled_under (get_or ps slot None) ≡ indexed_under (get_or ks slot None)) → count_by is_some (slots_in ps ks rs) ≡ count_by is_some ps
+count-slots : (ps : List P) (ks : List K) (rs : List (List StoredValue)) → length ks ≡ length ps → length rs ≡ length ps → ((slot : ℕ) → pooled_under (get_or ps slot None) ≡ indexed_under (get_or ks slot None)) → count_by is_some (slots_in ps ks rs) ≡ count_by is_some ps
 count-slots [] ks rs same other agree = refl
 count-slots (p ∷ ps) [] rs same other agree = absurd (omega (arith, same))
 count-slots (p ∷ ps) (k ∷ ks) [] same other agree = absurd (omega (arith, other))
@@ -104,7 +104,7 @@ module _ (pool : Contents Entry) (index : Keys) (order : Queue) (grid : Grid) (p
   pub at : (slot : ℕ) → held_at (shown pool index order grid) slot ≡ held_in (entry_at pool slot) (Indexes.entry_at index slot) (get_or grid.rows slot [])
   at slot = slots-get pool.slots index.slots grid.rows slot same other
 
-  made-in : (p : P) (k : K) (r : List Field) (h : Held) → pooled_under p ≡ indexed_under k → held_in p k r ≡ Some h
+  made-in : (p : P) (k : K) (r : List StoredValue) (h : Held) → pooled_under p ≡ indexed_under k → held_in p k r ≡ Some h
       → (p ≡ Some (record { generation = h.generation; value = h.entry })) × (k ≡ Some (record { key = h.key; generation = h.generation })) × (h.values ≡ r)
   made-in None k r h agree is = absurd (none_some is)
   made-in (Some e) None r h agree is = absurd (none_some is)
@@ -172,7 +172,7 @@ module _ (pool : Contents Entry) (index : Keys) (order : Queue) (grid : Grid) (p
       by_slot (Some h) is some = (h, is)
 
   -- ---- what is left after a write
-  pub parts_insert : (handle : Handle) (value : Entry) (key : List ℕ) (row : List Field) (queue : List ℕ)
+  pub parts_insert : (handle : Handle) (value : Entry) (key : List ℕ) (row : List StoredValue) (queue : List ℕ)
       → AreParts (Pools.with_inserted pool handle value) (Indexes.with_key index key handle) (record { capacity = order.capacity; slots = queue }) (with_row grid handle.slot row)
   parts_insert handle value key row queue = record {
     pooled = length-set pool.slots handle.slot _ ∙ parts.pooled;
@@ -182,7 +182,7 @@ module _ (pool : Contents Entry) (index : Keys) (order : Queue) (grid : Grid) (p
     agree = agree-set pool.slots index.slots handle.slot _ _ same parts.agree refl;
   }
 
-  pub shown_insert : (handle : Handle) (value : Entry) (key : List ℕ) (row : List Field) (queue : List ℕ)
+  pub shown_insert : (handle : Handle) (value : Entry) (key : List ℕ) (row : List StoredValue) (queue : List ℕ)
       → shown (Pools.with_inserted pool handle value) (Indexes.with_key index key handle) (record { capacity = order.capacity; slots = queue }) (with_row grid handle.slot row)
       ≡ stock grid.columns handle.generation (set (shown pool index order grid).slots handle.slot (Some (record { key = key; generation = handle.generation; entry = value; values = row }))) queue
   shown_insert handle value key row queue = ap (λ slots. stock grid.columns handle.generation slots queue) (slots-set pool.slots index.slots grid.rows handle.slot _ _ row same other)
@@ -229,10 +229,10 @@ module _ (pool : Contents Entry) (index : Keys) (order : Queue) (grid : Grid) (p
       ∙ ap (λ o. set (shown pool index order grid).slots handle.slot o)
       (ap (λ i. held_in new i (get_or grid.rows handle.slot [])) m.in_index
       ∙ ap (λ g. held_in (Some (Pools.entry g value)) (Some k) (get_or grid.rows handle.slot [])) (sym dated)
-      ∙ ap (λ (row : List Field). Some (record h { entry = value; values = row })) (sym m.in_rows)
+      ∙ ap (λ (row : List StoredValue). Some (record h { entry = value; values = row })) (sym m.in_rows)
       ∙ sym (ap (option_map (λ (held : Held). record held { entry = value })) there)))
 
-  pub parts_row : (slot : ℕ) (row : List Field) → AreParts pool index order (with_row grid slot row)
+  pub parts_row : (slot : ℕ) (row : List StoredValue) → AreParts pool index order (with_row grid slot row)
   parts_row slot row = record {
     pooled = parts.pooled;
     indexed = parts.indexed;
@@ -241,7 +241,7 @@ module _ (pool : Contents Entry) (index : Keys) (order : Queue) (grid : Grid) (p
     agree = parts.agree;
   }
 
-  pub shown_row : (slot : ℕ) (h : Held) (change : List Field → List Field) → held_at (shown pool index order grid) slot ≡ Some h
+  pub shown_row : (slot : ℕ) (h : Held) (change : List StoredValue → List StoredValue) → held_at (shown pool index order grid) slot ≡ Some h
       → shown pool index order (with_row grid slot (change (row_at grid slot))) ≡ with_values (shown pool index order grid) slot change
   shown_row slot h change there =
       let m = made slot h there in
@@ -252,7 +252,7 @@ module _ (pool : Contents Entry) (index : Keys) (order : Queue) (grid : Grid) (p
       ∙ ap (λ o. set (shown pool index order grid).slots slot o)
       (ap (λ p. held_in p (get_or index.slots slot None) (change (row_at grid slot))) m.in_pool
       ∙ ap (λ i. held_in (Some (record { generation = h.generation; value = h.entry })) i (change (row_at grid slot))) m.in_index
-      ∙ ap (λ (row : List Field). Some (record h { values = change row })) (sym m.in_rows)
+      ∙ ap (λ (row : List StoredValue). Some (record h { values = change row })) (sym m.in_rows)
       ∙ sym (ap (option_map (λ (held : Held). record held { values = change held.values })) there)))
 
 -- ---- the same of what is seen
@@ -308,7 +308,7 @@ stock-empty size columns = record {
       | inr h ↦ none_some (sym (get_or_past (replicate size None) i None (subst (λ m. m ≤ i) (sym (length-replicate size None)) h)) ∙ one)
     ]
 
-none-slots : (size : ℕ) (values : List Field) → slots_in (replicate size None) (replicate size None) (replicate size values) ≡ replicate size None
+none-slots : (size : ℕ) (values : List StoredValue) → slots_in (replicate size None) (replicate size None) (replicate size values) ≡ replicate size None
 none-slots zero values = refl
 none-slots (suc size) values = ap (λ (slots : List (Option Held)). None ∷ slots) (none-slots size values)
 

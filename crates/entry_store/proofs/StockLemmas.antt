@@ -6,7 +6,7 @@ use Rattle.std.specs.List.{IsDistinct, Contains}
 use Rattle.std.proofs.lemmas.List.{get_or-set_same, get_or-set_other}
 use Rattle.std.proofs.lemmas.Bool.{cases_eq}
 use Rattle.stored_data.specs.declared.stored_set.Column.{Column}
-use Rattle.stored_data.specs.declared.values.Field.{Field}
+use Rattle.stored_data.specs.declared.values.StoredValue.{StoredValue}
 use Rattle.expiry_order.specs.Queue.{without}
 use Rattle.entry_store.specs.Stock.{Held, Stock, stock, held_at, IsAbsent, IsFree, IsStock, entered, with_inserted, without_slot, with_entry, with_values}
 use Rattle.entry_store.specs.declared.entry.Entry.{Entry}
@@ -109,7 +109,7 @@ refreshed s slot h entry kept inside there =
     (entered_has (without s.queue slot) slot entry.refs)
     (λ j apart. let e = entered_others (without s.queue slot) slot entry.refs j apart in let w = without_others s.queue slot j apart in ((λ q. w.0 (e.0 q)), (λ q. e.1 (w.1 q))))
 
-pub revalued : (s : Stock) (slot : ℕ) (h : Held) (change : List Field → List Field) → IsStock s → slot < length s.slots → held_at s slot ≡ Some h → IsStock (with_values s slot change)
+pub revalued : (s : Stock) (slot : ℕ) (h : Held) (change : List StoredValue → List StoredValue) → IsStock s → slot < length s.slots → held_at s slot ≡ Some h → IsStock (with_values s slot change)
 revalued s slot h change kept inside there =
     rewritten s slot h (λ (held : Held). record held { values = change held.values }) s.queue kept inside there refl kept.once
     (λ q. let f = (kept.queued slot).0 q in ap (λ (x : Held). x.entry.refs) (same_some (sym there ∙ f.there)) ∙ f.alone)

@@ -1,7 +1,7 @@
 -- How a `Store` lies in its parts. No public clause cites this module.
 use Rattle.std.specs.Prelude.{◌≡◌, ℕ, List, [], ◌∷◌, length, Option, Some, None}
 use Rattle.std.specs.Option.{option_map}
-use Rattle.stored_data.specs.declared.values.Field.{Field}
+use Rattle.stored_data.specs.declared.values.StoredValue.{StoredValue}
 use Rattle.entry_pool.specs.Contents as Pools
 use Rattle.entry_pool.specs.Contents.{Contents, entry_at}
 use Rattle.key_index.specs.Keys as Indexes
@@ -12,11 +12,11 @@ use Rattle.entry_store.specs.Stock.{Held, Stock, stock}
 use Rattle.entry_store.specs.declared.entry.Entry.{Entry}
 
 -- what a slot has: the pool's entry, the index's key and the row
-abbrev pub held_in : Option (Pools.Entry Entry) → Option Indexes.Entry → List Field → Option Held
+abbrev pub held_in : Option (Pools.Entry Entry) → Option Indexes.Entry → List StoredValue → Option Held
 held_in (Some e) (Some k) values = Some record { key = k.key; generation = e.generation; entry = e.value; values = values }
 held_in _ _ values = None
 
-abbrev pub slots_in : List (Option (Pools.Entry Entry)) → List (Option Indexes.Entry) → List (List Field) → List (Option Held)
+abbrev pub slots_in : List (Option (Pools.Entry Entry)) → List (Option Indexes.Entry) → List (List StoredValue) → List (Option Held)
 slots_in (e ∷ entries) (k ∷ keys) (row ∷ rows) = held_in e k row ∷ slots_in entries keys rows
 slots_in _ _ _ = []
 

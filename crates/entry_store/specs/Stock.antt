@@ -4,7 +4,7 @@ use Rattle.std.specs.Option.{option_map}
 use Rattle.std.specs.List.{Contains, IsDistinct}
 use Rattle.slot_handle.specs.declared.Handle.{Handle}
 use Rattle.stored_data.specs.declared.stored_set.Column.{Column}
-use Rattle.stored_data.specs.declared.values.Field.{Field}
+use Rattle.stored_data.specs.declared.values.StoredValue.{StoredValue}
 use Rattle.expiry_order.specs.Queue.{without}
 use Rattle.entry_store.specs.declared.entry.Entry.{Entry}
 
@@ -13,7 +13,7 @@ pub record Held : Type 0 where
   pub key : List ℕ
   pub generation : ℕ
   pub entry : Entry
-  pub values : List Field
+  pub values : List StoredValue
 
 -- the columns, the greatest generation used, each slot's entry or nothing, and the slots of entries that no reference
 -- holds, in the order in which they came to the back
@@ -84,5 +84,5 @@ abbrev pub with_entry : Stock → ℕ → Entry → Stock
 with_entry s slot entry = with_slot s slot (option_map (λ (held : Held). record held { entry = entry }) (held_at s slot)) (entered (without s.queue slot) slot entry.refs)
 
 -- the store, where the slot's data are made others
-abbrev pub with_values : Stock → ℕ → (List Field → List Field) → Stock
+abbrev pub with_values : Stock → ℕ → (List StoredValue → List StoredValue) → Stock
 with_values s slot change = with_slot s slot (option_map (λ (held : Held). record held { values = change held.values }) (held_at s slot)) s.queue

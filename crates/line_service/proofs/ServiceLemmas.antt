@@ -39,9 +39,9 @@ module _ {S : Type 0} (says : S → Option (List ℕ) → List ℕ → S → Typ
   }
 
   -- the answer to the line that is held stops
-  pub stops_within : (stops : S → Option (List ℕ) → List ℕ → S → Type 0) (old now new : S) (whole : List ℕ) (later : List (List ℕ)) (line : Option (List ℕ)) (count : ℕ) (output front : List ℕ)
-      → Progress says old whole later line count output now → stops now line front new → StopsAfter says stops old whole count (output ++ front) new
-  stops_within stops old now new whole later line count output front p here = record {
+  pub stops_within : (stops : S → Option (List ℕ) → List ℕ → S → Type 0) (old now new : S) (whole : List ℕ) (later : List (List ℕ)) (line : Option (List ℕ)) (count : ℕ) (output prefix : List ℕ)
+      → Progress says old whole later line count output now → stops now line prefix new → StopsAfter says stops old whole count (output ++ prefix) new
+  stops_within stops old now new whole later line count output prefix p here = record {
     done = p.done;
     next = p.next;
     later = later;
@@ -50,8 +50,8 @@ module _ {S : Type 0} (says : S → Option (List ℕ) → List ℕ → S → Typ
     done_output = output;
     between = now;
     served = p.served;
-    front = front;
-    stopped = inr (subst (λ l. stops now l front new) p.held_is here);
+    prefix = prefix;
+    stopped = inr (subst (λ l. stops now l prefix new) p.held_is here);
     output_is = refl;
   }
 
@@ -67,7 +67,7 @@ module _ {S : Type 0} (says : S → Option (List ℕ) → List ℕ → S → Typ
     done_output = output;
     between = now;
     served = p.served;
-    front = [];
+    prefix = [];
     stopped = inl (refl, refl);
     output_is = sym (append-nil output);
   }

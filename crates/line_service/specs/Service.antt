@@ -35,6 +35,6 @@ pub record StopsAfter {S : Type 0} (says : S → Option (List ℕ) → List ℕ 
   pub done_output : List ℕ
   pub between : S
   pub served : Chain (Serves says) old done done_output between
-  pub front : List ℕ
-  pub stopped : ((front ≡ []) × (now ≡ between)) ⊎ stops between (held next) front now
-  pub output_is : output ≡ done_output ++ front
+  pub prefix : List ℕ
+  pub stopped : ((prefix ≡ []) × (now ≡ between)) ⊎ stops between (held next) prefix now
+  pub output_is : output ≡ done_output ++ prefix

@@ -20,9 +20,9 @@ pub Chain-more : {S X : Type 0} (step : S → X → List ℕ → S → Type 0) (
 Chain-more step old mid new xs x text more chain here = Chain-append step old mid new xs (x ∷ []) text more chain (Chain-one step mid new x more here)
 
 -- a stop in the item behind a chain
-pub stops_in : {S X : Type 0} (step : S → X → List ℕ → S → Type 0) (old mid new : S) (items done later : List X) (next : X) (text front unwritten : List ℕ) → items ≡ done ++ next ∷ later
-    → Chain step old done text mid → step mid next (front ++ unwritten) new → StopsIn step old items (length done) (text ++ front) new
-stops_in step old mid new items done later next text front unwritten are chain could = record {
+pub stops_in : {S X : Type 0} (step : S → X → List ℕ → S → Type 0) (old mid new : S) (items done later : List X) (next : X) (text prefix unwritten : List ℕ) → items ≡ done ++ next ∷ later
+    → Chain step old done text mid → step mid next (prefix ++ unwritten) new → StopsIn step old items (length done) (text ++ prefix) new
+stops_in step old mid new items done later next text prefix unwritten are chain could = record {
   done = done;
   next = next;
   later = later;
@@ -31,7 +31,7 @@ stops_in step old mid new items done later next text front unwritten are chain c
   done_text = text;
   between = mid;
   chain = chain;
-  front = front;
+  prefix = prefix;
   unwritten = unwritten;
   could = could;
   text_is = refl;
@@ -58,9 +58,9 @@ does_all {S} {X} step old now items left count text none done_so_far =
     subst P (sym (done_so_far.items_are ∙ ap (λ l. done_so_far.done ++ l) none ∙ append-nil done_so_far.done)) done_so_far.chain
 
 -- the next item's text stops within
-pub does_stop : {S X : Type 0} (step : S → X → List ℕ → S → Type 0) (old now new : S) (items left later : List X) (next : X) (count : ℕ) (text front unwritten : List ℕ) → left ≡ next ∷ later
-    → DoesUpTo step old items left count text now → step now next (front ++ unwritten) new → StopsIn step old items count (text ++ front) new
-does_stop step old now new items left later next count text front unwritten here done_so_far could =
-    let P : ℕ → Type 0 = λ n. StopsIn step old items n (text ++ front) new in
+pub does_stop : {S X : Type 0} (step : S → X → List ℕ → S → Type 0) (old now new : S) (items left later : List X) (next : X) (count : ℕ) (text prefix unwritten : List ℕ) → left ≡ next ∷ later
+    → DoesUpTo step old items left count text now → step now next (prefix ++ unwritten) new → StopsIn step old items count (text ++ prefix) new
+does_stop step old now new items left later next count text prefix unwritten here done_so_far could =
+    let P : ℕ → Type 0 = λ n. StopsIn step old items n (text ++ prefix) new in
     subst P done_so_far.counted
-    (stops_in step old now new items done_so_far.done later next text front unwritten (done_so_far.items_are ∙ ap (λ l. done_so_far.done ++ l) here) done_so_far.chain could)
+    (stops_in step old now new items done_so_far.done later next text prefix unwritten (done_so_far.items_are ∙ ap (λ l. done_so_far.done ++ l) here) done_so_far.chain could)

@@ -13,7 +13,7 @@ pub record DoesUpTo {S X : Type 0} (step : S → X → List ℕ → S → Type 0
   pub counted : length done ≡ count
   pub chain : Chain step old done text now
 
--- so many of the items are done, and the text is theirs and a front of what the next one could have written as it led to `new`
+-- so many of the items are done, and the text is theirs and a prefix of what the next one could have written as it led to `new`
 pub record StopsIn {S X : Type 0} (step : S → X → List ℕ → S → Type 0) (old : S) (items : List X) (count : ℕ) (text : List ℕ) (new : S) : Type 0 where
   pub done : List X
   pub next : X
@@ -23,7 +23,7 @@ pub record StopsIn {S X : Type 0} (step : S → X → List ℕ → S → Type 0)
   pub done_text : List ℕ
   pub between : S
   pub chain : Chain step old done done_text between
-  pub front : List ℕ
+  pub prefix : List ℕ
   pub unwritten : List ℕ
-  pub could : step between next (front ++ unwritten) new
-  pub text_is : text ≡ done_text ++ front
+  pub could : step between next (prefix ++ unwritten) new
+  pub text_is : text ≡ done_text ++ prefix

@@ -80,7 +80,7 @@ pub fn without_cr(line: &[u8]) -> &[u8]
     ensures { result.now ≡ spec.without_cr line.now }
 {
     match line.split_last() {
-        Some((last, front)) if *last == b'\r' => front,
+        Some((last, prefix)) if *last == b'\r' => prefix,
         _ => line,
     }
 }

@@ -7,7 +7,7 @@ use Rattle.std.specs.Cmp.Lexicographic.{nat_list_cmp_total}
 use Rattle.std.proofs.lemmas.Bool.{cases_eq}
 use Rattle.std.proofs.lemmas.List.{get_or-set_same, get_or-set_other, length-set, map-set}
 use Rattle.std.proofs.lemmas.Map.Lookups.{exact_bytes}
-use Rattle.stored_data.specs.declared.values.Field.{Field}
+use Rattle.stored_data.specs.declared.values.StoredValue.{StoredValue}
 use Rattle.entry_pool.proofs.SlotLemmas.{get_within}
 use Rattle.entry_store.specs.Stock.{Held, Stock, IsStock, held_at, with_values}
 use Rattle.entry_store.specs.declared.entry.Entry.{Entry}
@@ -33,7 +33,7 @@ shape h = (h.key, h.entry)
 abbrev pub AreAlike : Stock → Stock → Type 0
 AreAlike s new = (slot : ℕ) → option_map shape (held_at new slot) ≡ option_map shape (held_at s slot)
 
-pub alike-values : (s : Stock) (slot : ℕ) (h : Held) (change : List Field → List Field) → held_at s slot ≡ Some h → AreAlike s (with_values s slot change)
+pub alike-values : (s : Stock) (slot : ℕ) (h : Held) (change : List StoredValue → List StoredValue) → held_at s slot ≡ Some h → AreAlike s (with_values s slot change)
 alike-values s slot h change there j = by_place (cases_eq j slot)
   where
     by_place : (j ≡ slot) ⊎ (j ≡ slot → ⊥) → option_map shape (held_at (with_values s slot change) j) ≡ option_map shape (held_at s j)
@@ -120,12 +120,12 @@ module _ (s new : Stock) (alike : AreAlike s new) where
   }
 
 -- ---- the data of an entry
-pub values-table : (spec : Spec) (clock events : ℕ) (s : Stock) (book : Tickets) → IsTable spec clock events s book → (slot : ℕ) (h : Held) (change : List Field → List Field) → held_at s slot ≡ Some h → IsTable spec clock events (with_values s slot change) book
+pub values-table : (spec : Spec) (clock events : ℕ) (s : Stock) (book : Tickets) → IsTable spec clock events s book → (slot : ℕ) (h : Held) (change : List StoredValue → List StoredValue) → held_at s slot ≡ Some h → IsTable spec clock events (with_values s slot change) book
 values-table spec clock events s book table slot h change there =
     alike-table s (with_values s slot change) (alike-values s slot h change there) spec clock events book table
     (revalued s slot h change table.stock (get_within s.slots slot h there) there) refl refl refl (length-set s.slots slot _)
 
-pub values-state : (spec : Spec) (clock events : ℕ) (s : Stock) (book : Tickets) → IsTable spec clock events s book → (slot : ℕ) (h : Held) (change : List Field → List Field) → held_at s slot ≡ Some h
+pub values-state : (spec : Spec) (clock events : ℕ) (s : Stock) (book : Tickets) → IsTable spec clock events s book → (slot : ℕ) (h : Held) (change : List StoredValue → List StoredValue) → held_at s slot ≡ Some h
     → state_of spec clock events (with_values s slot change) book ≡ with_record (state_of spec clock events s book) h.key (record (record_of spec.expire h) { values = change h.values })
 values-state spec clock events s book table slot h change there =
     ap (λ rs. record { spec = spec; clock = clock; events = events; records = rs; tickets = tickets_of (with_values s slot change) book })

@@ -7,7 +7,7 @@ use Rattle.std.proofs.lemmas.Bool.{true≢false}
 use Rattle.std.proofs.lemmas.List.{get_or-set_same, get_or-set_other, length-set, set-set, set-get_or}
 use Rattle.std.proofs.lemmas.List.Sums.{sum_by-cons}
 use Rattle.stored_data.specs.Acts.{zero_of}
-use Rattle.stored_data.specs.declared.values.Field.{Field}
+use Rattle.stored_data.specs.declared.values.StoredValue.{StoredValue}
 use Rattle.entry_pool.proofs.SlotLemmas.{get_within}
 use Rattle.entry_store.specs.Stock.{Held, Stock, IsStock, IsAbsent, held_at, with_entry, with_values, with_inserted}
 use Rattle.entry_store.proofs.StockLemmas.{none_some, same_some, inserted, not_queued}
@@ -32,7 +32,7 @@ use Rattle.pooled_table.proofs.StoredLemmas.{replaced-records, inserted-records}
 use Rattle.pooled_table.proofs.RefreshLemmas.{fresh, refresh-written, refreshed-table}
 
 -- the record of a key whose data an event changes
-abbrev pub changed : State → Key → (List Field → List Field) → Record
+abbrev pub changed : State → Key → (List StoredValue → List StoredValue) → Record
 changed state key change =
     let found : Record = found_or_zero state key in
     touched state (record found { values = change found.values })
@@ -76,11 +76,11 @@ absent-from expire s kept key none j h there same = none_some (sym none ∙ ap (
 
 -- ---- data that change once more, or don't
 module _ (s : Stock) (slot : ℕ) where
-  values-option : (f g : List Field → List Field) (o : Option Held) → option_map (λ (held : Held). record held { values = g held.values }) (option_map (λ (held : Held). record held { values = f held.values }) o) ≡ option_map (λ (held : Held). record held { values = g (f held.values) }) o
+  values-option : (f g : List StoredValue → List StoredValue) (o : Option Held) → option_map (λ (held : Held). record held { values = g held.values }) (option_map (λ (held : Held). record held { values = f held.values }) o) ≡ option_map (λ (held : Held). record held { values = g (f held.values) }) o
   values-option f g None = refl
   values-option f g (Some h) = refl
 
-  pub values-again : (h : Held) (f g : List Field → List Field) → held_at s slot ≡ Some h → with_values (with_values s slot f) slot g ≡ with_values s slot (λ values. g (f values))
+  pub values-again : (h : Held) (f g : List StoredValue → List StoredValue) → held_at s slot ≡ Some h → with_values (with_values s slot f) slot g ≡ with_values s slot (λ values. g (f values))
   values-again h f g there =
       let inside = get_within s.slots slot h there in
       ap (λ (slots : List (Option Held)). record s { slots = slots })
@@ -95,11 +95,11 @@ module _ (s : Stock) (slot : ℕ) where
   pub values-same : with_values s slot (λ values. values) ≡ s
   values-same = ap (λ (slots : List (Option Held)). record s { slots = slots }) (ap (set s.slots slot) (same-option (held_at s slot)) ∙ set-get_or s.slots slot None)
 
-  pub values-at : (h : Held) (f : List Field → List Field) → held_at s slot ≡ Some h → held_at (with_values s slot f) slot ≡ Some (record h { values = f h.values })
+  pub values-at : (h : Held) (f : List StoredValue → List StoredValue) → held_at s slot ≡ Some h → held_at (with_values s slot f) slot ≡ Some (record h { values = f h.values })
   values-at h f there = get_or-set_same s.slots slot (option_map (λ (held : Held). record held { values = f held.values }) (held_at s slot)) None (get_within s.slots slot h there) ∙ ap (option_map (λ (held : Held). record held { values = f held.values })) there
 
 -- ---- an entry that is there
-module _ (spec : Spec) (clock events : ℕ) (s : Stock) (book : Tickets) (table : IsTable spec clock events s book) (slot : ℕ) (h : Held) (there : held_at s slot ≡ Some h) (change : List Field → List Field) (count : ℕ) where
+module _ (spec : Spec) (clock events : ℕ) (s : Stock) (book : Tickets) (table : IsTable spec clock events s book) (slot : ℕ) (h : Held) (there : held_at s slot ≡ Some h) (change : List StoredValue → List StoredValue) (count : ℕ) where
   abbrev middle : Stock
   middle = with_values s slot change
 
@@ -143,7 +143,7 @@ module _ (spec : Spec) (clock events : ℕ) (s : Stock) (book : Tickets) (table 
 
 -- ---- an entry that is made
 module _ (spec : Spec) (clock events : ℕ) (s : Stock) (book : Tickets) (table : IsTable spec clock events s book) (key : Key) (none : record_at key (records_of spec.expire s) ≡ None) where
-  pub full-stored : IsFull spec s → (change : List Field → List Field) → stored (state_of spec clock (events + 1) s book) key (changed (state_of spec clock (events + 1) s book) key change) ≡ None
+  pub full-stored : IsFull spec s → (change : List StoredValue → List StoredValue) → stored (state_of spec clock (events + 1) s book) key (changed (state_of spec clock (events + 1) s book) key change) ≡ None
   full-stored full change = stored-full (state_of spec clock (events + 1) s book) key (changed (state_of spec clock (events + 1) s book) key change) none (full (tickets_of s book) table.counted)
 
   pub absent-roomy : (r : Stock) → IsRoomy spec s r → IsAbsent r key
@@ -188,7 +188,7 @@ module _ (spec : Spec) (clock events : ℕ) (s : Stock) (book : Tickets) (table 
         (λ j g apart is. others g.key (same-false g.key key (absent-roomy r room j g is)) ∙ ap (refs g.key) (sym (left-tickets spec clock events clock (omega arith) s r book table room.left)))
         (inserted r slot made room.stock inside free (absent-roomy r room)) newly-rising (omega arith) refl (length-set r.slots slot _)
 
-    module _ (change : List Field → List Field) where
+    module _ (change : List StoredValue → List StoredValue) where
       abbrev pub new-made : Stock
       new-made = with_values newly slot change
 

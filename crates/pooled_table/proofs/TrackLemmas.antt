@@ -7,7 +7,7 @@ use Rattle.std.proofs.lemmas.List.{length-map, map-append}
 use Rattle.std.proofs.lemmas.List.Sums.{count_by-le-length}
 use Rattle.stored_data.specs.Acts.{acted}
 use Rattle.stored_data.specs.declared.act.Act.TheVariants.{Connection}
-use Rattle.stored_data.specs.declared.values.Field.{Field}
+use Rattle.stored_data.specs.declared.values.StoredValue.{StoredValue}
 use Rattle.entry_store.specs.Stock.{Held, Stock, held_at}
 use Rattle.ticket_book.specs.Tickets.{Tickets, is_unused, with_ticket}
 use Rattle.stick_table.specs.References.{entered}
@@ -27,7 +27,7 @@ use Rattle.pooled_table.proofs.TicketLemmas.{tickets-more, next-more, refs-push,
 use Rattle.pooled_table.proofs.StoreLemmas.{changed, new-there, there-tickets, there-held, there-at, there-table, there-stored, full-stored, made, newly, newly-written, newly-tickets, newly-held, newly-table, none-out, new-made, made-tickets, made-table, made-stored}
 
 -- what a reference counts
-abbrev pub connect : ℕ → List Field → List Field
+abbrev pub connect : ℕ → List StoredValue → List StoredValue
 connect clock values = acted values clock Connection
 
 -- ---- the definition's cases
@@ -68,7 +68,7 @@ module _ (spec : Spec) (clock events : ℕ) (s : Stock) (book : Tickets) (table 
       omega (arith, counts, most, all, limit)
 
   module _ (life : events + length (tickets_of s book) + 2 ≤ spec.life) (left : length (tickets_of s book) < spec.max_refs) (ticket : Ticket) (number : ticket.number ≡ events + 1) where
-    module _ (slot : ℕ) (h : Held) (there : held_at s slot ≡ Some h) (change : List Field → List Field) where
+    module _ (slot : ℕ) (h : Held) (there : held_at s slot ≡ Some h) (change : List StoredValue → List StoredValue) where
       abbrev now-there : Stock
       now-there = new-there spec clock events s book table slot h there change (h.entry.refs + 1)
 
@@ -97,7 +97,7 @@ module _ (spec : Spec) (clock events : ℕ) (s : Stock) (book : Tickets) (table 
           (there-stored spec clock events s book table slot h there change (h.entry.refs + 1))
           ∙ ap {B = Option Ticket × State} (λ ts. (Some ticket, record (state_of spec clock (events + 1) now-there book) { tickets = ts })) (sym (push-key now-there book ticket slot _ (there-at spec clock events s book table slot h there change (h.entry.refs + 1))))
 
-    module _ (key : Key) (none : record_at key (records_of spec.expire s) ≡ None) (r : Stock) (room : IsRoomy spec s r) (slot : ℕ) (inside : slot < length r.slots) (free : held_at r slot ≡ None) (change : List Field → List Field) where
+    module _ (key : Key) (none : record_at key (records_of spec.expire s) ≡ None) (r : Stock) (room : IsRoomy spec s r) (slot : ℕ) (inside : slot < length r.slots) (free : held_at r slot ≡ None) (change : List StoredValue → List StoredValue) where
       abbrev now-made : Stock
       now-made = newly spec clock events s book table key none r room slot inside free 1
 
@@ -139,7 +139,7 @@ module _ (spec : Spec) (clock events : ℕ) (s : Stock) (book : Tickets) (table 
           (made-stored spec clock events s book table key none r room slot inside free 1 change)
           ∙ ap {B = Option Ticket × State} (λ ts. (Some ticket, record (state_of spec clock (events + 1) now-changed book) { tickets = ts })) tickets
 
-  pub track-full-is : (key : Key) → record_at key (records_of spec.expire s) ≡ None → IsFull spec s → (slot : ℕ) (change : List Field → List Field)
+  pub track-full-is : (key : Key) → record_at key (records_of spec.expire s) ≡ None → IsFull spec s → (slot : ℕ) (change : List StoredValue → List StoredValue)
       → entered (state_of spec clock (events + 1) s book) key slot (changed (state_of spec clock (events + 1) s book) key change) ≡ (None, state_of spec clock (events + 1) s book)
   track-full-is key none full slot change =
       entered-full (state_of spec clock (events + 1) s book) key slot (changed (state_of spec clock (events + 1) s book) key change) (full-stored spec clock events s book table key none full change)

@@ -12,7 +12,7 @@ use Rattle.std.proofs.lemmas.List.{length-map}
 use Rattle.std.proofs.lemmas.Map.Lookups.{exact_bytes}
 use Rattle.stored_data.specs.Acts.{acted}
 use Rattle.stored_data.specs.declared.act.Act.TheVariants.{Connection}
-use Rattle.stored_data.specs.declared.values.Field.{Field}
+use Rattle.stored_data.specs.declared.values.StoredValue.{StoredValue}
 use Rattle.slot_handle.specs.declared.Handle.{Handle}
 use Rattle.entry_store.specs.Stock.{Held, Stock, IsAt, IsAbsent, held_at}
 use Rattle.entry_store.proofs.CountLemmas.{all-entries}
@@ -72,12 +72,12 @@ module _ (spec : Spec) (clock events : ℕ) (s : Stock) (book : Tickets) (table 
     values-gone gone = sym (ap (λ (o : Option Record). (unwrap_or o (zero_record spec.columns)).values) (gone-record gone))
 
 -- the row of a key that is tracked once more
-pub connected-row : (state : State) (now clock : ℕ) (key shown : Key) (count left : ℕ) (values acts : List Field) (cells : List Cell) → clock ≡ max state.clock now → shown ≡ key → count ≡ refs key state.tickets + 1
+pub connected-row : (state : State) (now clock : ℕ) (key shown : Key) (count left : ℕ) (values acts : List StoredValue) (cells : List Cell) → clock ≡ max state.clock now → shown ≡ key → count ≡ refs key state.tickets + 1
     → values ≡ (unwrap_or (record_at key (filter (stays clock state.tickets) state.records)) (zero_record state.spec.columns)).values
     → acts ≡ acted values clock Connection → cells ≡ cells_of state.spec.columns clock count acts
     → left ≡ unwrap_or (option_map (λ life. clock + life) state.spec.expire) 0 - clock
     → ◌≡◌ {A = Row} (record { key = shown; refs = count; left = left; cells = cells }) (row_of state.spec.columns (max state.clock now) (refs key state.tickets + 1) key (connected (begun state now) key))
 connected-row state now clock key shown count left values acts cells is named counts was acting shows lives =
     (λ i. record { key = named i; refs = counts i; left = lives i; cells = (shows ∙ (λ j. cells_of state.spec.columns clock (counts j) (acting j))) i })
-    ∙ ap (λ (vs : List Field). record { key = key; refs = refs key state.tickets + 1; left = unwrap_or (option_map (λ life. clock + life) state.spec.expire) 0 - clock; cells = cells_of state.spec.columns clock (refs key state.tickets + 1) (acted vs clock Connection) }) was
+    ∙ ap (λ (vs : List StoredValue). record { key = key; refs = refs key state.tickets + 1; left = unwrap_or (option_map (λ life. clock + life) state.spec.expire) 0 - clock; cells = cells_of state.spec.columns clock (refs key state.tickets + 1) (acted vs clock Connection) }) was
     ∙ ap (λ (at : ℕ). record { key = key; refs = refs key state.tickets + 1; left = unwrap_or (option_map (λ life. at + life) state.spec.expire) 0 - at; cells = cells_of state.spec.columns at (refs key state.tickets + 1) (acted (unwrap_or (record_at key (filter (stays at state.tickets) state.records)) (zero_record state.spec.columns)).values at Connection) }) is

@@ -3,7 +3,7 @@ use Rattle.std.specs.Prelude.{◌≡◌, ℕ, nat_lt, Bool, true, false, not, �
 use Rattle.std.specs.Option.{option_and_then}
 use Rattle.stored_data.specs.Acts.{value_at}
 use Rattle.stored_data.specs.declared.stored_set.Column.{Column}
-use Rattle.stored_data.specs.declared.values.Field.{Field}
+use Rattle.stored_data.specs.declared.values.StoredValue.{StoredValue}
 use Rattle.entry_store.specs.Stock.{Held, Stock, held_at}
 use Rattle.table_model.specs.Filters.{compares}
 use Rattle.entry_store.specs.Slots.{entries_of}
@@ -16,7 +16,7 @@ use Rattle.table_model.specs.declared.filters.Filter.TheVariants.{Everything, No
 use Rattle.pooled_table.specs.Shown.{record_of}
 
 -- the cells of a row, of an entry that has so many references
-abbrev pub cells_of : List Column → ℕ → ℕ → List Field → List Cell
+abbrev pub cells_of : List Column → ℕ → ℕ → List StoredValue → List Cell
 cells_of columns clock refs values = map (λ (column : Column). record { datum = column.datum; value = unwrap_or (value_at values column.datum clock) refs }) columns
 
 -- whether it stays when the clock has come to a moment

@@ -92,8 +92,8 @@ pub reads_reached : (all left later : List (List ℕ)) (line : List ℕ) (number
 reads_reached all left later line number read h e =
     let many : number + length left ≡ length all = reads_few all left number read h in
     let place : number + 1 - 1 ≡ length h.done = omega (arith, h.counted) in
-    let front : take (number + 1 - 1) all ≡ h.done = ap (λ n. take n all) place ∙ ap (λ l. take (length h.done) l) h.all_are ∙ take-append_seam h.done left in
-    (omega arith, omega (arith, ap length e), (read, ap read_of front ∙ h.read_is))
+    let prefix : take (number + 1 - 1) all ≡ h.done = ap (λ n. take n all) place ∙ ap (λ l. take (length h.done) l) h.all_are ∙ take-append_seam h.done left in
+    (omega arith, omega (arith, ap length e), (read, ap read_of prefix ∙ h.read_is))
 
 -- what is wrong with the next line, against what all give
 pub reads_refused : (all left later : List (List ℕ)) (line : List ℕ) (number : ℕ) (read : Reading) (error : ReadError) → Reads all left number read → left ≡ line ∷ later

@@ -197,7 +197,7 @@ impl<'a> Eval<'a> {
                 Request::Track { slot, table, .. } => Asked::Reference { slot, table },
                 Request::Count { .. } => Asked::Event,
             },
-            Point::Done(verdict) => Asked::Settled(verdict),
+            Point::Done(verdict) => Asked::Decided(verdict),
         }
     }
 

@@ -31,7 +31,7 @@ pub enum Asked {
     /// A reference to an entry of a table, for a slot that has none.
     Reference { slot: Slot, table: u32 },
     /// Nothing more: the rules have come to this verdict.
-    Settled(Verdict),
+    Decided(Verdict),
 }
 
 /// What is asked next. A table's number is its place among the tables of the setup.

@@ -187,11 +187,11 @@ criterion_of-fault own (name ∷ values) fault e = by_found (option_and_then (λ
     by_found (Some criterion) e = cc
 
 -- a term in front of the terms of the first conjunction
-with_term-front : (term : Term) (first : Result (List Term) Fault) (others : Result (List (List Term)) Fault)
+with_term-prefix : (term : Term) (first : Result (List Term) Fault) (others : Result (List (List Term)) Fault)
     → ((first >>= λ terms. Ok (term ∷ terms)) >>= λ terms. others >>= λ more. Ok (terms ∷ more)) ≡ with_term term (first >>= λ terms. others >>= λ more. Ok (terms ∷ more))
-with_term-front term (Err fault) others = refl
-with_term-front term (Ok terms) (Err fault) = refl
-with_term-front term (Ok terms) (Ok more) = refl
+with_term-prefix term (Err fault) others = refl
+with_term-prefix term (Ok terms) (Err fault) = refl
+with_term-prefix term (Ok terms) (Ok more) = refl
 
 -- the terms that begin with what a word stands for
 abbrev pub terms_from : List ℕ → List Acl → Bool → List ℕ → List (List ℕ) → Result (List Term) Fault
@@ -210,7 +210,7 @@ by_brace own acls negated words None none = by_criterion (criterion_of own (in_b
         Ok (record { negated = negated; criteria = criterion ∷ [] } ∷ terms)) (slice_split is_or words) ≡ Err BadCondition
     by_criterion (Err fault) e = ap Err (criterion_of-fault own (in_braces (first_of (slice_split is_or words))) fault e)
     by_criterion (Ok criterion) e =
-        with_term-front (record { negated = negated; criteria = criterion ∷ [] }) (terms_of own acls Braced (first_of (slice_split is_or words))) (each (terms_of own acls First) (others_of (slice_split is_or words)))
+        with_term-prefix (record { negated = negated; criteria = criterion ∷ [] }) (terms_of own acls Braced (first_of (slice_split is_or words))) (each (terms_of own acls First) (others_of (slice_split is_or words)))
         ∙ ap (with_term (record { negated = negated; criteria = criterion ∷ [] })) (closed-none own acls words none)
 by_brace own acls negated words (Some inner) some =
     let read = closed-some own acls words inner.0 inner.1 some in
@@ -224,7 +224,7 @@ by_brace own acls negated words (Some inner) some =
         ≡ (read >>= λ criterion. with_term (record { negated = negated; criteria = criterion ∷ [] }) (rest_of own acls Next inner.1))
     by_criterion outside (Err fault) = refl
     by_criterion outside (Ok criterion) =
-        with_term-front (record { negated = negated; criteria = criterion ∷ [] }) (terms_of own acls Braced (first_of (slice_split is_or words))) (each (terms_of own acls First) (others_of (slice_split is_or words)))
+        with_term-prefix (record { negated = negated; criteria = criterion ∷ [] }) (terms_of own acls Braced (first_of (slice_split is_or words))) (each (terms_of own acls First) (others_of (slice_split is_or words)))
         ∙ ap (with_term (record { negated = negated; criteria = criterion ∷ [] })) outside
 
 -- the steps of a term
@@ -254,11 +254,11 @@ by_parts own acls negated None = refl
 by_parts own acls negated (Some inner) = by_inner own acls negated inner (criterion_of own inner.0)
 
 -- the terms of a conjunction that go on with what a word stands for
-signed-front : (own : List ℕ) (acls : List Acl) (negated : Bool) (word : List ℕ) (words : List (List ℕ))
+signed-prefix : (own : List ℕ) (acls : List Acl) (negated : Bool) (word : List ℕ) (words : List (List ℕ))
     → with_others own acls (terms_from own acls negated word (first_of (slice_split is_or words))) (slice_split is_or words)
     ≡ (signed own acls negated word words >>= goes_on own acls)
 unfolding criteria_of stands_for
-signed-front own acls negated word words = by_refused (is_closing word || is_negated word || is_or word) (is_opening word)
+signed-prefix own acls negated word words = by_refused (is_closing word || is_negated word || is_or word) (is_opening word)
   where
     first : List (List ℕ)
     first = first_of (slice_split is_or words)
@@ -267,7 +267,7 @@ signed-front own acls negated word words = by_refused (is_closing word || is_neg
         Ok (record { negated = negated; criteria = criteria } ∷ terms)) (slice_split is_or words)
         ≡ (((read >>= λ criteria. Ok (and_left words criteria)) >>= λ read. Ok (as_term negated read)) >>= goes_on own acls)
     by_declared (Err fault) = refl
-    by_declared (Ok criteria) = with_term-front (record { negated = negated; criteria = criteria }) (terms_of own acls Next first) (each (terms_of own acls First) (others_of (slice_split is_or words)))
+    by_declared (Ok criteria) = with_term-prefix (record { negated = negated; criteria = criteria }) (terms_of own acls Next first) (each (terms_of own acls First) (others_of (slice_split is_or words)))
 
     by_opened : (read : Result Criterion Fault) → with_others own acls ((read >>= λ criterion. Ok (criterion ∷ [])) >>= λ criteria. terms_of own acls Braced first >>= λ terms.
         Ok (record { negated = negated; criteria = criteria } ∷ terms)) (slice_split is_or words)
@@ -320,12 +320,12 @@ rest_of-term own acls word words e = rest_of-later own acls First word words e �
       where
         by_or : (v : Bool) → is_or next ≡ v → rest_of own acls Negated (next ∷ later) ≡ (signed own acls true next later >>= goes_on own acls)
         by_or true f = rest_of-or own acls Negated next later f ∙ sym (ap (λ read. read >>= goes_on own acls) (signed-or own acls true next later f))
-        by_or false f = rest_of-later own acls Negated next later f ∙ signed-front own acls true next later
+        by_or false f = rest_of-later own acls Negated next later f ∙ signed-prefix own acls true next later
 
     by_not : (v : Bool) → with_others own acls (if v then terms_of own acls Negated first else terms_from own acls (is_negated word) rest first) (slice_split is_or words)
         ≡ ((if v then behind_not own acls words else signed own acls (is_negated word) rest words) >>= goes_on own acls)
     by_not true = by_next words
-    by_not false = signed-front own acls (is_negated word) rest words
+    by_not false = signed-prefix own acls (is_negated word) rest words
 
 -- no more words are left than there were
 abbrev IsShorter : {X : Type 0} → Result (X × List (List ℕ)) Fault → List (List ℕ) → Type 0
@@ -364,7 +364,7 @@ signed-shorter own acls negated word words = by_tests (is_closing word || is_neg
     by_tests false true = by_braced (braced own words) (braced-shorter own acls words)
     by_tests false false = by_declared (declared (declarations_of acls word))
 
--- a term takes words from the front
+-- a term takes words from the beginning
 pub term_of-shorter : (own : List ℕ) (acls : List Acl) (word : List ℕ) (words : List (List ℕ)) (term : Term) (left : List (List ℕ)) → term_of own acls word words ≡ Ok (term, left) → length left ≤ length words
 unfolding term_of
 term_of-shorter own acls word words term left e = by_term (term_of own acls word words) e (by_not (bytes_eq word (codes "!")) words)

@@ -14,7 +14,7 @@ use Rattle.rule_terms.specs.Conditions.{alone, at_least_one}
 
 -- what was read, with this in front
 abbrev pub ahead : {X : Type 0} → List X → Option (List X) → Option (List X)
-ahead front read = option_map (λ more. front ++ more) read
+ahead prefix read = option_map (λ more. prefix ++ more) read
 
 -- the patterns of the words that are left, which begin with a value where one is lacking
 abbrev pub patterns_left : Bool → Operator → List (List ℕ) → Option (List Pattern)

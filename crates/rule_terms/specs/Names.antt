@@ -23,7 +23,7 @@ named name (row ∷ rows) = if bytes_eq name row.0 then Some row.1 else named na
 
 -- the rest of a text that begins so
 abbrev pub behind : List ℕ → List ℕ → Option (List ℕ)
-behind front text = if bytes_eq (take (length front) text) front then Some (drop (length front) text) else None
+behind prefix text = if bytes_eq (take (length prefix) text) prefix then Some (drop (length prefix) text) else None
 
 -- the rest of a text that ends so
 abbrev pub before : List ℕ → List ℕ → Option (List ℕ)

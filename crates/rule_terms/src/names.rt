@@ -66,10 +66,10 @@ fn read_fetch(name: &[u8]) -> Option<Fetch>
 }
 
 /// The rest of a text that begins so.
-fn behind<'a>(front: &[u8], text: &'a [u8]) -> Option<&'a [u8]>
-    ensures { option_map (λ rest. rest.now) result ≡ spec.behind front.now text.now }
+fn behind<'a>(prefix: &[u8], text: &'a [u8]) -> Option<&'a [u8]>
+    ensures { option_map (λ rest. rest.now) result ≡ spec.behind prefix.now text.now }
 {
-    text.strip_prefix(front)
+    text.strip_prefix(prefix)
 }
 
 /// The rest of a text that ends so.
@@ -135,12 +135,12 @@ fn slot_subject(slot: Slot, name: &[u8]) -> Option<Subject>
 fn on_slot(slot: Slot, text: &[u8]) -> Option<&[u8]>
     ensures { option_map (λ name. name.now) result ≡ spec.on_slot slot text.now }
 {
-    let (front, end) = match slot {
+    let (prefix, end) = match slot {
         Slot::Sc0 => (b"sc0_", b"(0)"),
         Slot::Sc1 => (b"sc1_", b"(1)"),
         Slot::Sc2 => (b"sc2_", b"(2)"),
     };
-    if let Some(name) = behind(front, text) {
+    if let Some(name) = behind(prefix, text) {
         return Some(name);
     }
     let Some(rest) = behind(b"sc_", text) else {

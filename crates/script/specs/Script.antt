@@ -184,7 +184,7 @@ LineSays (Commands moment commands) old text new = AnswersLine answering refusin
 LineSays (Open moment id address port) old text new = Opens moment id address port old text new
 LineSays (Close moment id bytes_in bytes_out) old text new = Closes moment id bytes_in bytes_out old text new
 
--- what a line writes stops behind a front of what it could have written as it led to `new`
+-- what a line writes stops behind a prefix of what it could have written as it led to `new`
 abbrev pub LineStops : Line → ScriptState → List ℕ → ScriptState → Type 0
 LineStops Empty old text new = ⊥
 LineStops Bad old text new = IsPrefix text bad_line × (new ≡ old)

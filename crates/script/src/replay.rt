@@ -36,7 +36,7 @@ pub struct ReplayFault {
 }
 
 /// Serves each line of a script from empty tables, until the script ends. Ok comes only at its end, and then exactly
-/// the script's text was written. After a fault that is the text of the lines done, and a front of what the next could
+/// the script's text was written. After a fault that is the text of the lines done, and a prefix of what the next could
 /// have written. Where there is no memory for the tables, nothing is read or written.
 pub fn replay_script<R: Source, W: Sink>(
     alloc: Global,

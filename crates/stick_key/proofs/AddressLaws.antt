@@ -28,8 +28,8 @@ spell_small dotted_end (part ∷ next ∷ parts) all spell =
     rw spell.1.1 (four_hex_digits part spell.0.0.1 spell.0.1, spell_small dotted_end (next ∷ parts) spell.1.0 spell.1.2)
 
 groups-append : (xs ys : List ℕ) → AreGroups xs → AreGroups ys → AreGroups (xs ++ ys)
-groups-append [] ys front back = back
-groups-append (x ∷ xs) ys front back = (front.0, groups-append xs ys front.1 back)
+groups-append [] ys prefix back = back
+groups-append (x ∷ xs) ys prefix back = (prefix.0, groups-append xs ys prefix.1 back)
 
 groups-zeros : (n : ℕ) → AreGroups (replicate n 0)
 groups-zeros zero = tt
@@ -38,7 +38,7 @@ groups-zeros (suc n) = (omega arith, groups-zeros n)
 spells_small : (text all : List ℕ) → Spells text all → AreGroups all
 spells_small text all (inl full) = spell_small _ full.parts all full.spell
 spells_small text all (inr short) =
-    rw short.all (groups-append short.high (replicate short.zeros 0 ++ short.low) (spell_small _ short.front short.high short.spell_front)
+    rw short.all (groups-append short.high (replicate short.zeros 0 ++ short.low) (spell_small _ short.prefix short.high short.spell_front)
     (groups-append (replicate short.zeros 0) short.low (groups-zeros short.zeros) (spell_small _ short.back short.low short.spell_back)))
 
 bytes_small : (all : List ℕ) → AreGroups all → AreBytes (flat_map group_bytes all)

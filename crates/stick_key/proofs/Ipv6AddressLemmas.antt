@@ -84,10 +84,10 @@ gap_here c d test = grind (arith, nat_tests)
 no_gap_here : (c d : ℕ) → ((58 == c) && ((58 == d) && true)) ≡ false → c ≡ 58 → d ≡ 58 → ⊥
 no_gap_here c d test first second = grind (arith, nat_tests)
 
-no_gap_before : (c d : ℕ) (rest front after : List ℕ) → (c ≡ 58 → d ≡ 58 → ⊥) → d ∷ rest ≡ front ++ 58 ∷ 58 ∷ after → NoGap (front ++ 58 ∷ []) → NoGap (c ∷ (front ++ 58 ∷ []))
+no_gap_before : (c d : ℕ) (rest prefix after : List ℕ) → (c ≡ 58 → d ≡ 58 → ⊥) → d ∷ rest ≡ prefix ++ 58 ∷ 58 ∷ after → NoGap (prefix ++ 58 ∷ []) → NoGap (c ∷ (prefix ++ 58 ∷ []))
 unfolding NoGap
 no_gap_before c d rest [] after here same none = (λ first second. here first (cc), tt)
-no_gap_before c d rest (x ∷ front) after here same none = (λ first second. here first (cc), none)
+no_gap_before c d rest (x ∷ prefix) after here same none = (λ first second. here first (cc), none)
 
 -- a text that is cut holds its gap between the sides, and none before
 record IsCut (text : List ℕ) (sides : List ℕ × List ℕ) : Type 0 where
@@ -147,14 +147,14 @@ eight_long high low all room same = omega (arith, room, ap length same, length-s
 
 shortened_of : (text high low all : List ℕ) (sides : List ℕ × List ℕ) → IsCut text sides → side_of false sides.0 ≡ Some high → side_of true sides.1 ≡ Some low →
     (if nat_lt (length high + length low) 8 then Some (high ++ (replicate (8 - (length high + length low)) 0 ++ low)) else None) ≡ Some all → (length all ≡ 8) × Spells text all
-shortened_of text high low all sides cut front back gives =
+shortened_of text high low all sides cut prefix back gives =
     let known = zeros_of high low all gives in (
       eight_long high low all known.0 known.1,
       sides_sound text sides.0 sides.1 all cut.whole (record {
         high = high;
         low = low;
         zeros = 8 - (length high + length low);
-        spell_high = side_of-is false sides.0 high front;
+        spell_high = side_of-is false sides.0 high prefix;
         spell_low = side_of-is true sides.1 low back;
         some_zeros = omega (arith, known.0);
         all = known.1;
@@ -170,9 +170,9 @@ eight_of-is text None all cut gives =
     (eight, full_of text all eight (rw same at (side_of-is true text found side))))
 eight_of-is text (Some sides) all cut gives =
     option_and_then_some (λ high. option_and_then (λ low. if nat_lt (length high + length low) 8 then Some (high ++ (replicate (8 - (length high + length low)) 0 ++ low)) else None) (side_of true sides.1))
-    (side_of false sides.0) all gives (λ high front rest.
+    (side_of false sides.0) all gives (λ high prefix rest.
     option_and_then_some (λ low. if nat_lt (length high + length low) 8 then Some (high ++ (replicate (8 - (length high + length low)) 0 ++ low)) else None) (side_of true sides.1) all rest (λ low back test.
-    shortened_of text high low all sides (sides_of-is text sides cut) front back test))
+    shortened_of text high low all sides (sides_of-is text sides cut) prefix back test))
 
 -- and the other way round
 side_full : (text all : List ℕ) → Spell true (slice_split (λ b. b == 58) text) all → SpellSide true text all

@@ -21,8 +21,8 @@ hex_plain [] digits = tt
 hex_plain (c ∷ part) digits = let small = digits.0 in (grind (arith, nat_tests), hex_plain part digits.1)
 
 plain_append : (xs ys : List ℕ) → AllByRecursion (λ byte. (byte == 58) ≡ false) xs → AllByRecursion (λ byte. (byte == 58) ≡ false) ys → AllByRecursion (λ byte. (byte == 58) ≡ false) (xs ++ ys)
-plain_append [] ys front back = back
-plain_append (x ∷ xs) ys front back = (front.0, plain_append xs ys front.1 back)
+plain_append [] ys prefix back = back
+plain_append (x ∷ xs) ys prefix back = (prefix.0, plain_append xs ys prefix.1 back)
 
 decimal_plain : (part : List ℕ) → AllDigits 10 part → AllByRecursion (λ byte. (byte == 58) ≡ false) part
 decimal_plain [] digits = tt
@@ -167,10 +167,10 @@ gap_unique a b x y none_a none_b same =
 
 -- what stands round the gap of a shortened text
 pub shortened_complete : (text all : List ℕ) (short : IsShortened text all) →
-    HasNoGap (join_with_byte 58 short.front ++ 58 ∷ []) × SpellSide false (join_with_byte 58 short.front) short.high × SpellSide true (join_with_byte 58 short.back) short.low
+    HasNoGap (join_with_byte 58 short.prefix ++ 58 ∷ []) × SpellSide false (join_with_byte 58 short.prefix) short.high × SpellSide true (join_with_byte 58 short.back) short.low
 shortened_complete text all short = (
-  no_gap-is _ (no_gap_join short.front (spell_parts false short.front short.high short.spell_front)),
-  side_complete false short.front short.high short.spell_front,
+  no_gap-is _ (no_gap_join short.prefix (spell_parts false short.prefix short.high short.spell_front)),
+  side_complete false short.prefix short.high short.spell_front,
   side_complete true short.back short.low short.spell_back,
 )
 

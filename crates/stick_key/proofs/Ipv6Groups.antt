@@ -21,30 +21,30 @@ more_back dotted_end part [] last some group spell = absurd (omega arith)
 more_back dotted_end part (next ∷ parts) last some group spell = (group, (last, refl, spell))
 
 -- one group more
-pub spelled_more : (dotted_end : Bool) (text rest after part front : List ℕ) (group : ℕ) →
+pub spelled_more : (dotted_end : Bool) (text rest after part prefix : List ℕ) (group : ℕ) →
     slice_split (λ byte. byte == 58) rest ≡ part ∷ slice_split (λ byte. byte == 58) after → IsHexGroup part → group ≡ digits_value 16 part →
-    ((last : List ℕ) → Spell dotted_end (slice_split (λ byte. byte == 58) rest) last → Spell dotted_end (slice_split (λ byte. byte == 58) text) (front ++ last)) →
-    (last : List ℕ) → Spell dotted_end (slice_split (λ byte. byte == 58) after) last → Spell dotted_end (slice_split (λ byte. byte == 58) text) ((front ++ group ∷ []) ++ last)
-spelled_more dotted_end text rest after part front group found is_group same so_far last spell =
+    ((last : List ℕ) → Spell dotted_end (slice_split (λ byte. byte == 58) rest) last → Spell dotted_end (slice_split (λ byte. byte == 58) text) (prefix ++ last)) →
+    (last : List ℕ) → Spell dotted_end (slice_split (λ byte. byte == 58) after) last → Spell dotted_end (slice_split (λ byte. byte == 58) text) ((prefix ++ group ∷ []) ++ last)
+spelled_more dotted_end text rest after part prefix group found is_group same so_far last spell =
     rw (append_assoc, same) (so_far (digits_value 16 part ∷ last) (rw found (more_back dotted_end part (slice_split (λ byte. byte == 58) after) last (some_part (λ byte. byte == 58) after) is_group spell)))
 
 -- and nothing else
-pub only_more : (dotted_end : Bool) (text rest after part front : List ℕ) (group : ℕ) →
+pub only_more : (dotted_end : Bool) (text rest after part prefix : List ℕ) (group : ℕ) →
     slice_split (λ byte. byte == 58) rest ≡ part ∷ slice_split (λ byte. byte == 58) after → group ≡ digits_value 16 part →
-    ((all : List ℕ) → Spell dotted_end (slice_split (λ byte. byte == 58) text) all → (last : List ℕ) × (all ≡ front ++ last) × Spell dotted_end (slice_split (λ byte. byte == 58) rest) last) →
+    ((all : List ℕ) → Spell dotted_end (slice_split (λ byte. byte == 58) text) all → (last : List ℕ) × (all ≡ prefix ++ last) × Spell dotted_end (slice_split (λ byte. byte == 58) rest) last) →
     (all : List ℕ) → Spell dotted_end (slice_split (λ byte. byte == 58) text) all →
-    (last : List ℕ) × (all ≡ (front ++ group ∷ []) ++ last) × Spell dotted_end (slice_split (λ byte. byte == 58) after) last
-only_more dotted_end text rest after part front group found same so_far all spell =
+    (last : List ℕ) × (all ≡ (prefix ++ group ∷ []) ++ last) × Spell dotted_end (slice_split (λ byte. byte == 58) after) last
+only_more dotted_end text rest after part prefix group found same so_far all spell =
     let here = so_far all spell in
     let more = more_forward dotted_end part (slice_split (λ byte. byte == 58) after) here.0 (some_part (λ byte. byte == 58) after) (rw found at here.2) in
-    (more.1.0, rw (append_assoc, same) (here.1 ∙ ap (λ last. front ++ last) more.1.1), more.1.2)
+    (more.1.0, rw (append_assoc, same) (here.1 ∙ ap (λ last. prefix ++ last) more.1.1), more.1.2)
 
 -- a part that is no group ends it
-pub only_group : (dotted_end : Bool) (text rest after part front : List ℕ) →
+pub only_group : (dotted_end : Bool) (text rest after part prefix : List ℕ) →
     slice_split (λ byte. byte == 58) rest ≡ part ∷ slice_split (λ byte. byte == 58) after → ¬ (IsHexGroup part) →
-    ((all : List ℕ) → Spell dotted_end (slice_split (λ byte. byte == 58) text) all → (last : List ℕ) × (all ≡ front ++ last) × Spell dotted_end (slice_split (λ byte. byte == 58) rest) last) →
+    ((all : List ℕ) → Spell dotted_end (slice_split (λ byte. byte == 58) text) all → (last : List ℕ) × (all ≡ prefix ++ last) × Spell dotted_end (slice_split (λ byte. byte == 58) rest) last) →
     (all : List ℕ) → Spell dotted_end (slice_split (λ byte. byte == 58) text) all → ⊥
-only_group dotted_end text rest after part front found no_group so_far all spell =
+only_group dotted_end text rest after part prefix found no_group so_far all spell =
     let here = so_far all spell in
     no_group (more_forward dotted_end part (slice_split (λ byte. byte == 58) after) here.0 (some_part (λ byte. byte == 58) after) (rw found at here.2)).0
 
@@ -64,10 +64,10 @@ nonempty dotted_end (part ∷ []) last some (inr spell) = rw spell.3 (dotted_som
 nonempty dotted_end (part ∷ next ∷ parts) last some spell = rw spell.1.1 (omega arith)
 
 -- after eight groups a further part is too much
-pub too_many : (dotted_end : Bool) (text rest front : List ℕ) → 8 ≤ length front →
-    ((all : List ℕ) → Spell dotted_end (slice_split (λ byte. byte == 58) text) all → (last : List ℕ) × (all ≡ front ++ last) × Spell dotted_end (slice_split (λ byte. byte == 58) rest) last) →
+pub too_many : (dotted_end : Bool) (text rest prefix : List ℕ) → 8 ≤ length prefix →
+    ((all : List ℕ) → Spell dotted_end (slice_split (λ byte. byte == 58) text) all → (last : List ℕ) × (all ≡ prefix ++ last) × Spell dotted_end (slice_split (λ byte. byte == 58) rest) last) →
     (all : List ℕ) → Spell dotted_end (slice_split (λ byte. byte == 58) text) all → 8 < length all
-too_many dotted_end text rest front full so_far all spell =
+too_many dotted_end text rest prefix full so_far all spell =
     let here = so_far all spell in
     let some = nonempty dotted_end (slice_split (λ byte. byte == 58) rest) here.0 (some_part (λ byte. byte == 58) rest) here.2 in
-    omega (arith, some, full, ap length here.1, length-append front here.0)
+    omega (arith, some, full, ap length here.1, length-append prefix here.0)

@@ -118,7 +118,7 @@ spells_by_run groups start count small run = elim (split count 2) [
       let zeros : drop start groups ≡ replicate count 0 ++ drop (start + count) groups =
       run_of_zeros (drop start groups) ∙ cc (run long, drop-drop count start groups) in
       rw test (inr (record {
-        front = map (digits 16 false) (take start groups);
+        prefix = map (digits 16 false) (take start groups);
         back = map (digits 16 false) (drop (start + count) groups);
         high = take start groups;
         low = drop (start + count) groups;
@@ -168,16 +168,16 @@ mapped_spells last small four =
     let reads = dotted_reads last small four in
     let same = reads.2 in
     let numbers_small : AreBytes (numbers (dotted last)) = rw same at small in
-    let prefix : IsHexGroup (codes "ffff") = ((omega arith, (omega arith, (omega arith, (omega arith, (omega arith, tt))))), omega arith) in
+    let hexadecimal : IsHexGroup (codes "ffff") = ((omega arith, (omega arith, (omega arith, (omega arith, (omega arith, tt))))), omega arith) in
     inr (record {
-      front = [];
+      prefix = [];
       back = codes "ffff" ∷ dotted last ∷ [];
       high = [];
       low = 65535 ∷ pairs last;
       zeros = 5;
       spelled = refl;
       spell_front = refl;
-      spell_back = (prefix, (pairs last, refl, inr (refl, reads.0, numbers_small, ap pairs same)));
+      spell_back = (hexadecimal, (pairs last, refl, inr (refl, reads.0, numbers_small, ap pairs same)));
       some_zeros = omega arith;
       all = refl;
     })

@@ -165,7 +165,7 @@ meets_by_run groups start count small most run first = elim (split count 2) [
   | inr long ↦ let test : nat_lt count 2 ≡ false = grind (arith, nat_tests) in
       let short = run_cut groups start count small (run long) in
       rw test (inr (record {
-        front = map (digits 16 false) (take start groups);
+        prefix = map (digits 16 false) (take start groups);
         back = map (digits 16 false) (drop (start + count) groups);
         high = take start groups;
         low = drop (start + count) groups;
@@ -173,7 +173,7 @@ meets_by_run groups start count small most run first = elim (split count 2) [
         spelled = refl;
         spell_front = spell_hex false (take start groups) (groups-take start groups small);
         spell_back = spell_hex false (drop (start + count) groups) (groups-drop (start + count) groups small);
-        plain_front = plain_printed (take start groups) (groups-take start groups small);
+        plain_prefix = plain_printed (take start groups) (groups-take start groups small);
         plain_back = plain_printed (drop (start + count) groups) (groups-drop (start + count) groups small);
         all = short;
         several = long;
@@ -210,11 +210,11 @@ by_run : (groups high low : List ℕ) (start count : ℕ) → start ≡ length h
     (if nat_lt count 2 then joined groups else joined (take start groups) ++ (58 ∷ 58 ∷ joined (drop (start + count) groups))) ≡ joined high ++ (58 ∷ 58 ∷ joined low)
 by_run groups high low start count at all long =
     let test : nat_lt count 2 ≡ false = grind (arith, nat_tests) in
-    let front : take (length high) (high ++ (replicate count 0 ++ low)) ≡ high = take-append_seam high (replicate count 0 ++ low) in
+    let prefix : take (length high) (high ++ (replicate count 0 ++ low)) ≡ high = take-append_seam high (replicate count 0 ++ low) in
     let middle : drop (length high) (high ++ (replicate count 0 ++ low)) ≡ replicate count 0 ++ low = drop-append_seam high (replicate count 0 ++ low) in
     let back : drop (length high + count) (high ++ (replicate count 0 ++ low)) ≡ low =
     sym (drop-drop count (length high) (high ++ (replicate count 0 ++ low))) ∙ ap (drop count) middle ∙ past_zeros count low in
-    rw (test, at, all, front, back) refl
+    rw (test, at, all, prefix, back) refl
 
 is_longest : (text groups : List ℕ) → length groups ≡ 8 → (short : IsCanonicalShortened text groups) → IsLongestRun groups (length short.high) short.zeros
 is_longest text groups eight short = record {
@@ -238,10 +238,10 @@ only text groups eight (inr short) =
     let count : longest groups ≡ short.zeros = longest_is groups (length short.high) short.zeros eight run in
     let start : first_longest groups ≡ length short.high = first_longest_is groups (length short.high) short.zeros eight run in
     let all : groups ≡ short.high ++ (replicate (longest groups) 0 ++ short.low) = short.all ∙ ap (λ n. short.high ++ (replicate n 0 ++ short.low)) (sym count) in
-    let front = plain_parts short.front short.high short.spell_front short.plain_front in
+    let prefix = plain_parts short.prefix short.high short.spell_front short.plain_prefix in
     let back = plain_parts short.back short.low short.spell_back short.plain_back in
     let text_is : text ≡ joined short.high ++ (58 ∷ 58 ∷ joined short.low) =
-    short.spelled ∙ ap (λ parts. join_with_byte 58 parts ++ (58 ∷ 58 ∷ join_with_byte 58 short.back)) front ∙ ap (λ parts. joined short.high ++ (58 ∷ 58 ∷ join_with_byte 58 parts)) back in
+    short.spelled ∙ ap (λ parts. join_with_byte 58 parts ++ (58 ∷ 58 ∷ join_with_byte 58 short.back)) prefix ∙ ap (λ parts. joined short.high ++ (58 ∷ 58 ∷ join_with_byte 58 parts)) back in
     text_is ∙ sym (by_run groups short.high short.low (first_longest groups) (longest groups) start all (omega (arith, count, short.several)))
 
 canonical_by_kind : (address : List ℕ) (mapped : Bool) → mapped ≡ false → length (pairs address) ≡ 8 → AreGroups (pairs address) →

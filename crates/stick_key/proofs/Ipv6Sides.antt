@@ -47,17 +47,17 @@ side_parts dotted_end (c ∷ text) all spell = (slice_split (λ byte. byte == 58
 -- what the two sides spell is what the text spells
 pub sides_sound : (text before after all : List ℕ) → text ≡ before ++ 58 ∷ 58 ∷ after → SpellSides before after all → Spells text all
 sides_sound text before after all cut sides =
-    let front = side_parts false before sides.high sides.spell_high in
+    let prefix = side_parts false before sides.high sides.spell_high in
     let back = side_parts true after sides.low sides.spell_low in
-    let same : before ++ 58 ∷ 58 ∷ after ≡ join_with_byte 58 front.0 ++ (58 ∷ 58 ∷ join_with_byte 58 back.0) = cc (front.1, back.1) in
+    let same : before ++ 58 ∷ 58 ∷ after ≡ join_with_byte 58 prefix.0 ++ (58 ∷ 58 ∷ join_with_byte 58 back.0) = cc (prefix.1, back.1) in
     inr (record {
-      front = front.0;
+      prefix = prefix.0;
       back = back.0;
       high = sides.high;
       low = sides.low;
       zeros = sides.zeros;
       spelled = cut ∙ same;
-      spell_front = front.2;
+      spell_front = prefix.2;
       spell_back = back.2;
       some_zeros = sides.some_zeros;
       all = sides.all;
@@ -67,7 +67,7 @@ pub sides_complete : (text before after all : List ℕ) → text ≡ before ++ 5
 sides_complete text before after all cut none (inl full) = absurd (has_gap before after (rw cut at (full_no_gap text all full)))
 sides_complete text before after all cut none (inr short) =
     let known = shortened_complete text all short in
-    let same = gap_unique before (join_with_byte 58 short.front) after (join_with_byte 58 short.back) none known.0 (sym cut ∙ short.spelled) in
+    let same = gap_unique before (join_with_byte 58 short.prefix) after (join_with_byte 58 short.back) none known.0 (sym cut ∙ short.spelled) in
     record {
       high = short.high;
       low = short.low;
@@ -80,7 +80,7 @@ sides_complete text before after all cut none (inr short) =
 
 pub full_only : (text all : List ℕ) → HasNoGap text → 0 < length all → Spells text all → Spell true (slice_split (λ byte. byte == 58) text) all
 full_only text all none some (inl full) = full_complete text all some full
-full_only text all none some (inr short) = absurd (has_gap (join_with_byte 58 short.front) (join_with_byte 58 short.back) (rw short.spelled at none))
+full_only text all none some (inr short) = absurd (has_gap (join_with_byte 58 short.prefix) (join_with_byte 58 short.back) (rw short.spelled at none))
 
 pub length-sides : (high low : List ℕ) (zeros : ℕ) → length (high ++ (replicate zeros 0 ++ low)) ≡ length high + (zeros + length low)
 length-sides high low zeros = omega (arith, length-append high (replicate zeros 0 ++ low), length-append (replicate zeros 0) low, length-replicate {A = ℕ} zeros 0)
@@ -125,9 +125,9 @@ spells_unique text a b (inl first) second eight_a eight_b =
     (full_only text b (full_no_gap text a first) (omega arith) second)
 spells_unique text a b (inr first) second eight_a eight_b =
     let known = shortened_complete text a first in
-    sides_unique (join_with_byte 58 first.front) (join_with_byte 58 first.back) a b
+    sides_unique (join_with_byte 58 first.prefix) (join_with_byte 58 first.back) a b
     (record { high = first.high; low = first.low; zeros = first.zeros; spell_high = known.1; spell_low = known.2; some_zeros = first.some_zeros; all = first.all })
-    (sides_complete text (join_with_byte 58 first.front) (join_with_byte 58 first.back) b first.spelled known.0 second) eight_a eight_b
+    (sides_complete text (join_with_byte 58 first.prefix) (join_with_byte 58 first.back) b first.spelled known.0 second) eight_a eight_b
 
 -- so a text is that of one address at most
 pub ipv6_unique : (text a b : List ℕ) → IsIpv6 text a → IsIpv6 text b → a ≡ b
@@ -152,13 +152,13 @@ filled_is high low h l same_high same_low room =
     let cut : 8 - length low ≡ length high + between = omega arith in
     let zeros : List ℕ = replicate 8 0 in
     let left : drop (length high) zeros ≡ replicate (8 - length high) 0 = drop-replicate (length high) 8 0 in
-    let front : take (8 - length low) (high ++ drop (length high) zeros) ≡ high ++ replicate between 0 =
+    let prefix : take (8 - length low) (high ++ drop (length high) zeros) ≡ high ++ replicate between 0 =
     ap (λ n. take n (high ++ drop (length high) zeros)) cut ∙ take-append-add high (drop (length high) zeros) between
     ∙ ap (λ rest. high ++ take between rest) left ∙ ap (λ rest. high ++ rest) (take-replicate between (8 - length high) 0 (omega arith)) in
     let all : length (high ++ drop (length high) zeros) ≡ 8 = omega (arith, length-append high (drop (length high) zeros), length-drop (length high) zeros) in
     let behind : drop (8 - (8 - length low)) (drop (8 - length low) (high ++ drop (length high) zeros)) ≡ [] =
     drop_all (8 - (8 - length low)) (drop (8 - length low) (high ++ drop (length high) zeros)) (omega (arith, all, length-drop (8 - length low) (high ++ drop (length high) zeros))) in
-    rw (same_high, same_low, front, behind) (simp (append-nil, append_assoc))
+    rw (same_high, same_low, prefix, behind) (simp (append-nil, append_assoc))
 
 -- groups that aren't eight are all that the text spells
 pub full_none : (parts : List (List ℕ)) (all : List ℕ) (found : Option (List ℕ)) → Spell true parts all → SomeIff found (length all ≡ 8) all →

@@ -20,15 +20,15 @@ pub record IsCanonicalFull (text groups : List ℕ) : Type 0 where
 
 -- :: for as many zeros as there are in a row (4.2.1), more than one (4.2.2), of which no run is longer, and none of that length comes before (4.2.3)
 pub record IsCanonicalShortened (text groups : List ℕ) : Type 0 where
-  pub front : List (List ℕ)
+  pub prefix : List (List ℕ)
   pub back : List (List ℕ)
   pub high : List ℕ
   pub low : List ℕ
   pub zeros : ℕ
-  pub spelled : text ≡ join_with_byte 58 front ++ (58 ∷ 58 ∷ join_with_byte 58 back)
-  pub spell_front : Spell false front high
+  pub spelled : text ≡ join_with_byte 58 prefix ++ (58 ∷ 58 ∷ join_with_byte 58 back)
+  pub spell_front : Spell false prefix high
   pub spell_back : Spell false back low
-  pub plain_front : AllByRecursion IsPlain front
+  pub plain_prefix : AllByRecursion IsPlain prefix
   pub plain_back : AllByRecursion IsPlain back
   pub all : groups ≡ high ++ (replicate zeros 0 ++ low)
   pub several : 2 ≤ zeros

@@ -30,13 +30,13 @@ pub record IsFull (text groups : List ℕ) : Type 0 where
 
 -- groups, and once :: for one or more groups of zeros
 pub record IsShortened (text groups : List ℕ) : Type 0 where
-  pub front : List (List ℕ)
+  pub prefix : List (List ℕ)
   pub back : List (List ℕ)
   pub high : List ℕ
   pub low : List ℕ
   pub zeros : ℕ
-  pub spelled : text ≡ join_with_byte 58 front ++ (58 ∷ 58 ∷ join_with_byte 58 back)
-  pub spell_front : Spell false front high
+  pub spelled : text ≡ join_with_byte 58 prefix ++ (58 ∷ 58 ∷ join_with_byte 58 back)
+  pub spell_front : Spell false prefix high
   pub spell_back : Spell true back low
   pub some_zeros : 1 ≤ zeros
   pub all : groups ≡ high ++ (replicate zeros 0 ++ low)

@@ -1,4 +1,4 @@
-//! Tests of scripts over memory, for what the built program can't show: fronts of a script, devices that fail, and tables
+//! Tests of scripts over memory, for what the built program can't show: prefixes of a script, devices that fail, and tables
 //! with few references or a short life.
 #![tactic(auto)]
 

@@ -39,11 +39,11 @@ fn writes(
     Ok(result.err() == fault && writer.written() == text)
 }
 
-/// What a front of a line is answered, up to a length of it.
-type Front = (usize, &'static [u8]);
+/// What a prefix of a line is answered, up to a length of it.
+type Prefix = (usize, &'static [u8]);
 
-/// A line of a script, and what each front of it is answered, the last being what it is answered itself.
-type Line = (&'static [u8], &'static [Front]);
+/// A line of a script, and what each prefix of it is answered, the last being what it is answered itself.
+type Line = (&'static [u8], &'static [Prefix]);
 
 /// What shows a key whose gpc0 was set to 5.
 const LISTING: &[u8] =
@@ -128,9 +128,9 @@ static LINES: [Line; 9] = [
     ),
 ];
 
-/// What a front of a line of this length is answered.
-fn answer_to_front(fronts: &[Front], length: usize) -> &'static [u8] {
-    for (end, text) in fronts {
+/// What a prefix of a line of this length is answered.
+fn answer_to_prefix(prefixes: &[Prefix], length: usize) -> &'static [u8] {
+    for (end, text) in prefixes {
         if length <= *end {
             return text;
         }
@@ -154,11 +154,11 @@ fn join(alloc: Global) -> Result<Whole, AllocError> {
         script_ends: Vec::new(alloc),
         text_ends: Vec::new(alloc),
     };
-    for (line, fronts) in LINES.iter() {
+    for (line, prefixes) in LINES.iter() {
         whole.script.extend_from_slice(line)?;
         whole
             .text
-            .extend_from_slice(answer_to_front(fronts, line.len()))?;
+            .extend_from_slice(answer_to_prefix(prefixes, line.len()))?;
         whole.script_ends.push(whole.script.len())?;
         whole.text_ends.push(whole.text.len())?;
     }
@@ -177,7 +177,7 @@ fn count_ends(ends: &[usize], bytes: usize) -> u64 {
 }
 
 /// As much of a text as there is of it.
-fn front(text: &[u8], length: usize) -> &[u8] {
+fn prefix(text: &[u8], length: usize) -> &[u8] {
     text.get(..length).unwrap_or(b"none")
 }
 
@@ -186,11 +186,11 @@ fn every_front_of_a_script_is_served(rt: HostRuntime) -> Result<(), Fail> {
     let whole = join(rt.alloc())?;
     let mut before = 0usize;
     let mut wanted = Vec::new(rt.alloc());
-    for (line, fronts) in LINES.iter() {
+    for (line, prefixes) in LINES.iter() {
         for length in 0..line.len() + 1 {
             let served = wanted.len();
-            wanted.extend_from_slice(answer_to_front(fronts, length))?;
-            let script = front(&whole.script, before.saturating_add(length));
+            wanted.extend_from_slice(answer_to_prefix(prefixes, length))?;
+            let script = prefix(&whole.script, before.saturating_add(length));
             assert!(rt;
                 writes(rt.alloc(), script, WHOLE, &wanted, None)?,
                 "{before} {length}"
@@ -198,7 +198,7 @@ fn every_front_of_a_script_is_served(rt: HostRuntime) -> Result<(), Fail> {
             wanted.truncate(served);
         }
         before = before.saturating_add(line.len());
-        wanted.extend_from_slice(answer_to_front(fronts, line.len()))?;
+        wanted.extend_from_slice(answer_to_prefix(prefixes, line.len()))?;
     }
     Ok(())
 }
@@ -229,7 +229,7 @@ fn a_writer_that_fails_has_a_front_of_the_answers(rt: HostRuntime) -> Result<(),
             kind: FaultKind::WriteFault,
             done,
         };
-        let text = front(&whole.text, limit);
+        let text = prefix(&whole.text, limit);
         assert!(rt;
             writes(rt.alloc(), &whole.script, ports, text, Some(fault))?,
             "{limit}"
@@ -255,7 +255,7 @@ fn a_reader_that_fails_has_served_the_lines_before(rt: HostRuntime) -> Result<()
             Some(last) => whole.text_ends.get(last as usize).copied().unwrap_or(0),
             None => 0,
         };
-        let text = front(&whole.text, end);
+        let text = prefix(&whole.text, end);
         assert!(rt;
             writes(rt.alloc(), &whole.script, ports, text, Some(fault))?,
             "{limit}"

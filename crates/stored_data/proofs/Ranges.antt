@@ -16,7 +16,7 @@ use Rattle.stored_data.specs.declared.act.Change.{Change}
 use Rattle.stored_data.specs.declared.act.Change.TheVariants.{Keep, Add, Set}
 use Rattle.stored_data.specs.declared.values.Content.{Content}
 use Rattle.stored_data.specs.declared.values.Content.TheVariants.{Number, Rate}
-use Rattle.stored_data.specs.declared.values.Field.{Field}
+use Rattle.stored_data.specs.declared.values.StoredValue.{StoredValue}
 
 -- the greatest value of a datum has 32 bits or more
 greatest-le : (d : Datum) → most ≤ greatest d
@@ -64,7 +64,7 @@ in_range-changed datum now (Add n) (Rate kept) fits within = (omega arith, known
 in_range-changed datum now (Set n) (Number old) fits within = fits
 in_range-changed datum now (Set n) (Rate kept) fits within = within
 
-in_range-acted : (fields : List Field) (now : ℕ) (act : Act) → HasTag act → AreInRange fields → AreInRange (acted fields now act)
+in_range-acted : (fields : List StoredValue) (now : ℕ) (act : Act) → HasTag act → AreInRange fields → AreInRange (acted fields now act)
 in_range-acted [] now act tag within = tt
 in_range-acted (field ∷ fields) now act tag within =
     (in_range-changed field.datum now (change act field.datum) field.content (fit act field.datum tag) within.0, in_range-acted fields now act tag within.1)
@@ -77,14 +77,14 @@ in_range-put_content datum value (Rate kept) fits within = within
 same_greatest : (datum other : Datum) → (place datum == place other) ≡ true → greatest datum ≡ greatest other
 same_greatest datum other tested = ap greatest (place-injective datum other (grind (arith, nat_tests)))
 
-in_range-put_field : (field : Field) (datum : Datum) (value : ℕ) (test : Bool) → (place field.datum == place datum) ≡ test → value ≤ greatest datum →
+in_range-put_field : (field : StoredValue) (datum : Datum) (value : ℕ) (test : Bool) → (place field.datum == place datum) ≡ test → value ≤ greatest datum →
     IsInRange field.datum field.content → IsInRange (put_field datum value field).datum (put_field datum value field).content
 in_range-put_field field datum value true tested fits within =
     let same = same_greatest field.datum datum tested in
     rw tested (in_range-put_content field.datum value field.content (omega (arith, same, fits)) within)
 in_range-put_field field datum value false tested fits within = rw tested within
 
-in_range-with_value : (fields : List Field) (datum : Datum) (value : ℕ) → value ≤ greatest datum → AreInRange fields → AreInRange (with_value fields datum value)
+in_range-with_value : (fields : List StoredValue) (datum : Datum) (value : ℕ) → value ≤ greatest datum → AreInRange fields → AreInRange (with_value fields datum value)
 in_range-with_value [] datum value fits within = tt
 in_range-with_value (field ∷ fields) datum value fits within =
     (in_range-put_field field datum value (place field.datum == place datum) refl fits within.0, in_range-with_value fields datum value fits within.1)
@@ -105,18 +105,18 @@ shown-le : (datum : Datum) (now : ℕ) (content : Content) → IsInRange datum c
 shown-le datum now (Number n) within = within
 shown-le datum now (Rate kept) within = omega (arith, greatest-le datum)
 
-shown_first : (field : Field) (datum : Datum) (now value : ℕ) → (place field.datum == place datum) ≡ true → IsInRange field.datum field.content →
+shown_first : (field : StoredValue) (datum : Datum) (now value : ℕ) → (place field.datum == place datum) ≡ true → IsInRange field.datum field.content →
     Some (shown now field.content) ≡ Some value → value ≤ greatest datum
 shown_first field datum now value tested within shows =
     let here : shown now field.content ≡ value = cc in
     omega (arith, here, same_greatest field.datum datum tested, shown-le field.datum now field.content within)
 
-first-le : (field : Field) (fields : List Field) (datum : Datum) (now value : ℕ) (test : Bool) → (place field.datum == place datum) ≡ test → IsInRange field.datum field.content →
+first-le : (field : StoredValue) (fields : List StoredValue) (datum : Datum) (now value : ℕ) (test : Bool) → (place field.datum == place datum) ≡ test → IsInRange field.datum field.content →
     (value_at fields datum now ≡ Some value → value ≤ greatest datum) → value_at (field ∷ fields) datum now ≡ Some value → value ≤ greatest datum
 first-le field fields datum now value true tested within later shows = shown_first field datum now value tested within (rw tested at shows)
 first-le field fields datum now value false tested within later shows = later (rw tested at shows)
 
-value_at-le : (fields : List Field) (datum : Datum) (now value : ℕ) → AreInRange fields → value_at fields datum now ≡ Some value → value ≤ greatest datum
+value_at-le : (fields : List StoredValue) (datum : Datum) (now value : ℕ) → AreInRange fields → value_at fields datum now ≡ Some value → value ≤ greatest datum
 value_at-le [] datum now value within shows = absurd (cc)
 value_at-le (field ∷ fields) datum now value within shows =
     first-le field fields datum now value (place field.datum == place datum) refl within.0 (value_at-le fields datum now value within.1) shows

@@ -16,7 +16,7 @@ use Rattle.stored_data.specs.declared.act.Change.{Change}
 use Rattle.stored_data.specs.declared.act.Change.TheVariants.{Keep, Add, Set}
 use Rattle.stored_data.specs.declared.values.Content.{Content}
 use Rattle.stored_data.specs.declared.values.Content.TheVariants.{Number, Rate}
-use Rattle.stored_data.specs.declared.values.Field.{Field}
+use Rattle.stored_data.specs.declared.values.StoredValue.{StoredValue}
 use Rattle.stored_data.specs.declared.words.Edit.{Edit}
 use Rattle.stored_data.specs.declared.words.Edit.TheVariants.{Do, Put}
 
@@ -76,18 +76,18 @@ is_of-put false period value (Number old) h = tt
 is_of-put true period value (Number old) h = absurd h
 is_of-put false period value (Rate kept) h = absurd h
 
-is_of-put_field : (b : Bool) (period value : ℕ) (datum : Datum) (field : Field) → IsOf b period field.content → IsOf b period (put_field datum value field).content
+is_of-put_field : (b : Bool) (period value : ℕ) (datum : Datum) (field : StoredValue) → IsOf b period field.content → IsOf b period (put_field datum value field).content
 is_of-put_field b period value datum field h = by_test (place field.datum == place datum)
   where
     by_test : (t : Bool) → IsOf b period (if t then record { datum = field.datum; content = put_content value field.content } else field).content
     by_test true = is_of-put b period value field.content h
     by_test false = h
 
-is_of-edited : (b : Bool) (period : ℕ) (edit : Edit) (field : Field) → IsOf b period field.content → IsOf b period (edited edit field).content
+is_of-edited : (b : Bool) (period : ℕ) (edit : Edit) (field : StoredValue) → IsOf b period field.content → IsOf b period (edited edit field).content
 is_of-edited b period (Do now act) field h = is_of-changed b period now field.datum (change act field.datum) field.content h
 is_of-edited b period (Put datum value) field h = is_of-put_field b period value datum field h
 
-datum-edited : (edit : Edit) (field : Field) → (edited edit field).datum ≡ field.datum
+datum-edited : (edit : Edit) (field : StoredValue) → (edited edit field).datum ≡ field.datum
 datum-edited (Do now act) field = refl
 datum-edited (Put datum value) field = by_test (place field.datum == place datum)
   where
@@ -113,7 +113,7 @@ kept_back false period (Number n) words at is h = ap (λ w. Number w) h
 kept_back true period (Number n) words at is h = absurd is
 kept_back false period (Rate kept) words at is h = absurd is
 
-same_field : (f g : Field) → f.datum ≡ g.datum → f.content ≡ g.content → f ≡ g
+same_field : (f g : StoredValue) → f.datum ≡ g.datum → f.content ≡ g.content → f ≡ g
 same_field f g one other = λ i. record { datum = one i; content = other i }
 
 -- the words that keep a column's content after an edit show its field after it

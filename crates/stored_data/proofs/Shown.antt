@@ -15,18 +15,18 @@ use Rattle.stored_data.specs.declared.datum.Datum.TheVariants.{ConnCur}
 use Rattle.stored_data.specs.declared.act.Act.{Act}
 use Rattle.stored_data.specs.declared.values.Content.{Content}
 use Rattle.stored_data.specs.declared.values.Content.TheVariants.{Number, Rate}
-use Rattle.stored_data.specs.declared.values.Field.{Field}
+use Rattle.stored_data.specs.declared.values.StoredValue.{StoredValue}
 
 -- an act keeps the data that are stored
-acts_keep : (fields : List Field) (now : ℕ) (act : Act) → map (λ field. field.datum) (acted fields now act) ≡ map (λ field. field.datum) fields
+acts_keep : (fields : List StoredValue) (now : ℕ) (act : Act) → map (λ field. field.datum) (acted fields now act) ≡ map (λ field. field.datum) fields
 acts_keep [] now act = refl
 acts_keep (field ∷ fields) now act = ap (λ others. field.datum ∷ others) (acts_keep fields now act)
 
-put_field-datum : (field : Field) (datum : Datum) (value : ℕ) (test : Bool) → (place field.datum == place datum) ≡ test → (put_field datum value field).datum ≡ field.datum
+put_field-datum : (field : StoredValue) (datum : Datum) (value : ℕ) (test : Bool) → (place field.datum == place datum) ≡ test → (put_field datum value field).datum ≡ field.datum
 put_field-datum field datum value true tested = rw tested refl
 put_field-datum field datum value false tested = rw tested refl
 
-puts_keep : (fields : List Field) (datum : Datum) (value : ℕ) → map (λ field. field.datum) (with_value fields datum value) ≡ map (λ field. field.datum) fields
+puts_keep : (fields : List StoredValue) (datum : Datum) (value : ℕ) → map (λ field. field.datum) (with_value fields datum value) ≡ map (λ field. field.datum) fields
 puts_keep [] datum value = refl
 puts_keep (field ∷ fields) datum value =
     let here = put_field-datum field datum value (place field.datum == place datum) refl in
@@ -40,26 +40,26 @@ keeps_data = record { acts = acts_keep; puts = puts_keep }
 put_first : (content : Content) (old value now : ℕ) → Some content ≡ Some (Number old) → Some (shown now (put_content value content)) ≡ Some value
 put_first content old value now stored = let is : content ≡ Number old = cc in rw is refl
 
-put_found : (field : Field) (fields : List Field) (datum : Datum) (old value now : ℕ) (test : Bool) → (place field.datum == place datum) ≡ test →
+put_found : (field : StoredValue) (fields : List StoredValue) (datum : Datum) (old value now : ℕ) (test : Bool) → (place field.datum == place datum) ≡ test →
     (content_of fields datum ≡ Some (Number old) → value_at (with_value fields datum value) datum now ≡ Some value) →
     content_of (field ∷ fields) datum ≡ Some (Number old) → value_at (with_value (field ∷ fields) datum value) datum now ≡ Some value
 put_found field fields datum old value now true tested later stored = rw (tested, tested) (put_first field.content old value now (rw tested at stored))
 put_found field fields datum old value now false tested later stored = rw (tested, tested) (later (rw tested at stored))
 
-put_is_shown : (fields : List Field) (datum : Datum) (old value now : ℕ) → content_of fields datum ≡ Some (Number old) → value_at (with_value fields datum value) datum now ≡ Some value
+put_is_shown : (fields : List StoredValue) (datum : Datum) (old value now : ℕ) → content_of fields datum ≡ Some (Number old) → value_at (with_value fields datum value) datum now ≡ Some value
 put_is_shown [] datum old value now stored = absurd (cc)
 put_is_shown (field ∷ fields) datum old value now stored =
     put_found field fields datum old value now (place field.datum == place datum) refl (put_is_shown fields datum old value now) stored
 
 -- the first field stays for another datum
-other_found : (field : Field) (fields : List Field) (datum other : Datum) (value : ℕ) (put test : Bool) → (place field.datum == place datum) ≡ put → (place field.datum == place other) ≡ test → other ≢ datum →
+other_found : (field : StoredValue) (fields : List StoredValue) (datum other : Datum) (value : ℕ) (put test : Bool) → (place field.datum == place datum) ≡ put → (place field.datum == place other) ≡ test → other ≢ datum →
     content_of (with_value fields datum value) other ≡ content_of fields other → content_of (with_value (field ∷ fields) datum value) other ≡ content_of (field ∷ fields) other
 other_found field fields datum other value true true here there differ later = absurd (differ (place-injective other datum (grind (arith, nat_tests))))
 other_found field fields datum other value true false here there differ later = rw (here, there) later
 other_found field fields datum other value false true here there differ later = rw (here, there) refl
 other_found field fields datum other value false false here there differ later = rw (here, there) later
 
-others_stay : (fields : List Field) (datum other : Datum) (value : ℕ) → other ≢ datum → content_of (with_value fields datum value) other ≡ content_of fields other
+others_stay : (fields : List StoredValue) (datum other : Datum) (value : ℕ) → other ≢ datum → content_of (with_value fields datum value) other ≡ content_of fields other
 others_stay [] datum other value differ = refl
 others_stay (field ∷ fields) datum other value differ =
     other_found field fields datum other value (place field.datum == place datum) (place field.datum == place other) refl refl differ (others_stay fields datum other value differ)

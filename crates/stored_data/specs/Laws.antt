@@ -13,7 +13,7 @@ use Rattle.stored_data.specs.declared.act.Act.TheVariants.{SetGpt0}
 use Rattle.stored_data.specs.declared.act.Change.TheVariants.{Add}
 use Rattle.stored_data.specs.declared.values.Content.{Content}
 use Rattle.stored_data.specs.declared.values.Content.TheVariants.{Number, Rate}
-use Rattle.stored_data.specs.declared.values.Field.{Field}
+use Rattle.stored_data.specs.declared.values.StoredValue.{StoredValue}
 
 -- no two data have one name
 abbrev pub NamesDiffer : Type 0
@@ -25,7 +25,7 @@ IsInRange datum (Number n) = n ≤ greatest datum
 IsInRange datum (Rate kept) = (kept.current ≤ most) × (kept.before ≤ most)
 
 -- each datum is in range
-abbrev pub AreInRange : List Field → Type 0
+abbrev pub AreInRange : List StoredValue → Type 0
 AreInRange = AllByRecursion (λ field. IsInRange field.datum field.content)
 
 -- a tag that is set has 32 bits
@@ -36,9 +36,9 @@ HasTag _ = Unit {0}
 -- the data of a new key are in range and stay so, and no value is shown above the greatest
 pub record StaysInRange : Type 0 where
   pub new : (columns : List Column) → AreInRange (zero_of columns)
-  pub acts : (fields : List Field) (now : ℕ) (act : Act) → HasTag act → AreInRange fields → AreInRange (acted fields now act)
-  pub puts : (fields : List Field) (datum : Datum) (value : ℕ) → value ≤ greatest datum → AreInRange fields → AreInRange (with_value fields datum value)
-  pub shows : (fields : List Field) (datum : Datum) (now value : ℕ) → AreInRange fields → value_at fields datum now ≡ Some value → value ≤ greatest datum
+  pub acts : (fields : List StoredValue) (now : ℕ) (act : Act) → HasTag act → AreInRange fields → AreInRange (acted fields now act)
+  pub puts : (fields : List StoredValue) (datum : Datum) (value : ℕ) → value ≤ greatest datum → AreInRange fields → AreInRange (with_value fields datum value)
+  pub shows : (fields : List StoredValue) (datum : Datum) (now value : ℕ) → AreInRange fields → value_at fields datum now ≡ Some value → value ≤ greatest datum
 
 -- a count lowers no value
 abbrev pub CountsNeverLower : Type 0
@@ -47,15 +47,15 @@ CountsNeverLower = (datum : Datum) (content : Content) (now amount : ℕ) → Is
 
 -- a number that is put is read back, and all other data stay
 pub record PutIsRead : Type 0 where
-  pub put : (fields : List Field) (datum : Datum) (old value now : ℕ) → content_of fields datum ≡ Some (Number old) →
+  pub put : (fields : List StoredValue) (datum : Datum) (old value now : ℕ) → content_of fields datum ≡ Some (Number old) →
       value_at (with_value fields datum value) datum now ≡ Some value
-  pub others : (fields : List Field) (datum other : Datum) (value : ℕ) → other ≢ datum →
+  pub others : (fields : List StoredValue) (datum other : Datum) (value : ℕ) → other ≢ datum →
       content_of (with_value fields datum value) other ≡ content_of fields other
 
 -- an act and a put keep the data that are stored, in their order
 pub record KeepsData : Type 0 where
-  pub acts : (fields : List Field) (now : ℕ) (act : Act) → map (λ field. field.datum) (acted fields now act) ≡ map (λ field. field.datum) fields
-  pub puts : (fields : List Field) (datum : Datum) (value : ℕ) → map (λ field. field.datum) (with_value fields datum value) ≡ map (λ field. field.datum) fields
+  pub acts : (fields : List StoredValue) (now : ℕ) (act : Act) → map (λ field. field.datum) (acted fields now act) ≡ map (λ field. field.datum) fields
+  pub puts : (fields : List StoredValue) (datum : Datum) (value : ℕ) → map (λ field. field.datum) (with_value fields datum value) ≡ map (λ field. field.datum) fields
 
 -- a new key shows 0 for each datum that is stored, but for the current connections
 abbrev pub NewShowsZero : Type 0

@@ -6,7 +6,7 @@ use Rattle.stored_data.specs.Acts.{is_kept, changed_field, put_field}
 use Rattle.stored_data.specs.declared.stored_set.Column.{Column}
 use Rattle.stored_data.specs.declared.values.Content.{Content}
 use Rattle.stored_data.specs.declared.values.Content.TheVariants.{Number, Rate}
-use Rattle.stored_data.specs.declared.values.Field.{Field}
+use Rattle.stored_data.specs.declared.values.StoredValue.{StoredValue}
 use Rattle.stored_data.specs.declared.words.Edit.{Edit}
 use Rattle.stored_data.specs.declared.words.Edit.TheVariants.{Do, Put}
 
@@ -19,24 +19,24 @@ abbrev pub width : List Column → ℕ
 width columns = sum_by words_of columns
 
 -- the field of a column whose words begin at this place
-abbrev pub field_at : Column → List ℕ → ℕ → Field
+abbrev pub field_at : Column → List ℕ → ℕ → StoredValue
 field_at column words at = record {
   datum = column.datum;
   content = if is_rate column.datum then Rate (tally_in column.period (slice_index words at) (slice_index words (at + 1))) else Number (slice_index words at);
 }
 
 -- the fields of columns whose words begin at this place, one column's behind another's
-abbrev pub fields_from : List Column → List ℕ → ℕ → List Field
+abbrev pub fields_from : List Column → List ℕ → ℕ → List StoredValue
 fields_from [] words at = []
 fields_from (column ∷ later) words at =
     if is_kept column then field_at column words at ∷ fields_from later words (at + words_of column) else fields_from later words (at + words_of column)
 
 -- the data that words stand for
-abbrev pub fields_in : List Column → List ℕ → List Field
+abbrev pub fields_in : List Column → List ℕ → List StoredValue
 fields_in columns words = fields_from columns words 0
 
 -- a field after what is done to it
-abbrev pub edited : Edit → Field → Field
+abbrev pub edited : Edit → StoredValue → StoredValue
 edited (Do now act) field = changed_field now act field
 edited (Put datum value) field = put_field datum value field
 

@@ -19,7 +19,7 @@ pub enum Content {
 
 /// A datum and what is kept of it.
 #[derive(Clone, Copy)]
-pub struct Field {
+pub struct StoredValue {
     /// The datum.
     pub datum: Datum,
     /// What is kept of it.
@@ -30,14 +30,14 @@ pub struct Field {
 /// Contracts see it as the list of its fields. Once made, it takes no more memory.
 #[derive(Drop)]
 pub struct Values {
-    fields: Vec<Field>,
+    fields: Vec<StoredValue>,
 }
 
 impl Model for Values {
     ghost use Rattle.std.specs.Prelude.{List};
-    ghost use Rattle.stored_data.specs.declared.values.Field.{Field};
+    ghost use Rattle.stored_data.specs.declared.values.StoredValue.{StoredValue};
 
-    ghost Value = { List Field };
+    ghost Value = { List StoredValue };
 
     ghost view = { λ values. values.fields.items };
 }
@@ -57,7 +57,7 @@ impl Content {
     }
 }
 
-impl Field {
+impl StoredValue {
     ghost use Rattle.std.specs.Prelude.{◌≡◌};
     ghost use Rattle.stored_data.specs.Acts.{changed, shown, changed_field, put_field};
 
@@ -80,21 +80,21 @@ impl Field {
     }
 
     /// The field after an act.
-    pub(crate) fn acted(self, now: u64, act: Act) -> Field
+    pub(crate) fn acted(self, now: u64, act: Act) -> StoredValue
         ensures { result ≡ changed_field now act self }
     {
-        Field {
+        StoredValue {
             datum: self.datum,
             content: self.changed(now, act.change(self.datum)),
         }
     }
 
     /// The field with a value, if it is that of the datum.
-    pub(crate) fn with_value(self, datum: Datum, value: u64) -> Field
+    pub(crate) fn with_value(self, datum: Datum, value: u64) -> StoredValue
         ensures { result ≡ put_field datum value self }
     {
         if self.datum.place() == datum.place() {
-            Field {
+            StoredValue {
                 datum: self.datum,
                 content: self.content.with_value(value),
             }
@@ -115,7 +115,7 @@ impl Field {
 }
 
 /// The fields after an act.
-fn change_fields(fields: &mut [Field], now: u64, act: Act)
+fn change_fields(fields: &mut [StoredValue], now: u64, act: Act)
     ensures { fields.new ≡ acted fields.old now act }
 {
     for field in fields.iter_mut() {
@@ -129,7 +129,7 @@ ghost use Rattle.stored_data.specs.Data.{is_rate};
 ghost use Rattle.stored_data.specs.Stored.{IsPeriod, HavePeriods};
 
 /// What a datum shows at a moment, where it is stored.
-fn value_in(fields: &[Field], datum: Datum, now: u64) -> Option<u64>
+fn value_in(fields: &[StoredValue], datum: Datum, now: u64) -> Option<u64>
     ensures { result ≡ value_at fields.now datum now }
 {
     for field in fields {
@@ -141,7 +141,7 @@ fn value_in(fields: &[Field], datum: Datum, now: u64) -> Option<u64>
 }
 
 /// Puts a value into the field of the datum.
-fn put_field(fields: &mut [Field], datum: Datum, value: u64)
+fn put_field(fields: &mut [StoredValue], datum: Datum, value: u64)
     ensures { fields.new ≡ with_value fields.old datum value }
 {
     for field in fields.iter_mut() {
@@ -150,7 +150,7 @@ fn put_field(fields: &mut [Field], datum: Datum, value: u64)
 }
 
 /// Adds the field of a column.
-fn push_zero(fields: &mut Vec<Field>, column: Column) -> Result<(), NoMemory>
+fn push_zero(fields: &mut Vec<StoredValue>, column: Column) -> Result<(), NoMemory>
     requires { IsPeriod (is_rate column.datum) column.period }
     ensures { OnOk result (fields.new.items ≡ fields.old.items ++ zero_field column ∷ []) }
 {
@@ -159,7 +159,7 @@ fn push_zero(fields: &mut Vec<Field>, column: Column) -> Result<(), NoMemory>
     } else {
         Content::Number(0)
     };
-    fields.push(Field {
+    fields.push(StoredValue {
         datum: column.datum,
         content,
     })?;
@@ -167,7 +167,7 @@ fn push_zero(fields: &mut Vec<Field>, column: Column) -> Result<(), NoMemory>
 }
 
 /// The fields of columns, with nothing counted.
-fn zero_fields(alloc: Global, columns: &[Column]) -> Result<Vec<Field>, NoMemory>
+fn zero_fields(alloc: Global, columns: &[Column]) -> Result<Vec<StoredValue>, NoMemory>
     requires { HavePeriods columns.now }
     ensures { IfOk result (λ fields. fields.items ≡ zero_of columns.now) }
 {
@@ -195,7 +195,7 @@ impl Values {
     }
 
     /// The data that these fields are.
-    pub(crate) fn from_fields(fields: Vec<Field>) -> Values
+    pub(crate) fn from_fields(fields: Vec<StoredValue>) -> Values
         ensures { result ≡ fields.items }
     {
         Values { fields }

@@ -8,7 +8,7 @@ ghost use Rattle.stored_data.specs.Words.{words_of as specified_words, width as 
 ghost use Rattle.stored_data.specs.declared.stored_set.Column.{Column};
 
 use crate::act::Act;
-use crate::values::{Content, Field, Values};
+use crate::values::{Content, StoredValue, Values};
 use crate::{Column, Datum};
 use rate_window::Meter;
 use sequence::NoMemory;
@@ -28,7 +28,7 @@ impl Edit {
     ghost use Rattle.stored_data.specs.Words.{edited};
 
     /// The field after it.
-    fn applied(self, field: Field) -> Field
+    fn applied(self, field: StoredValue) -> StoredValue
         ensures { result ≡ edited self field }
     {
         match self {
@@ -69,7 +69,7 @@ pub fn width(columns: &[Column]) -> usize
 }
 
 /// The field of a column whose words begin at `at`.
-fn field_at(column: Column, words: &[u64], at: usize) -> Field
+fn field_at(column: Column, words: &[u64], at: usize) -> StoredValue
     requires period { IsPeriod (is_rate column.datum) column.period }
     requires kept { IsTrue (specified_kept column) }
     requires within { at + specified_words column ≤ length words.now }
@@ -80,7 +80,7 @@ fn field_at(column: Column, words: &[u64], at: usize) -> Field
     } else {
         Content::Number(words[at])
     };
-    Field {
+    StoredValue {
         datum: column.datum,
         content,
     }
@@ -187,7 +187,7 @@ pub fn clear(words: &mut [u64])
 
 /// Adds the field of a column whose words begin at `at`.
 fn push_field(
-    fields: &mut Vec<Field>,
+    fields: &mut Vec<StoredValue>,
     column: Column,
     words: &[u64],
     at: usize,
@@ -204,7 +204,7 @@ fn push_field(
     } else {
         Content::Number(words[at])
     };
-    fields.push(Field {
+    fields.push(StoredValue {
         datum: column.datum,
         content,
     })?;

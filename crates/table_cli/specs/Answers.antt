@@ -53,14 +53,14 @@ abbrev pub commands_of : List ℕ → List (List ℕ)
 commands_of line = filter has_words (parts is_semicolon (without_cr line))
 
 module _ {S : Type 0} (answers : Answering S) (refuses : Refusing S) where
-  abbrev pub Serves : NamedState S → Event → List ℕ → S → Type 0
-  Serves table event text state =
+  abbrev pub AnswersEvent : NamedState S → Event → List ℕ → S → Type 0
+  AnswersEvent table event text state =
       (replies : List Reply) × (end : Option Message) × AsksInTurn answers refuses event (shards_of table.shards event) table.state replies end state
       × Prints table.name table.spec replies end text
 
   -- what is wrong is answered before any event is made
   abbrev pub Does : NamedState S → Result Event Message → List ℕ → S → Type 0
-  Does table (Ok event) text state = Serves table event text state
+  Does table (Ok event) text state = AnswersEvent table event text state
   Does table (Err message) text state = (text ≡ message_text message) × (state ≡ table.state)
 
   -- what a request does at the table of a name, if there is one; the others stay
@@ -90,16 +90,16 @@ module _ {S : Type 0} (answers : Answering S) (refuses : Refusing S) where
       × HeadAt moment mid place (Err message) new × (text ≡ message_text message))
 
   -- at a moment in ms, from `old`, a command of this form may be answered this text and leave `new`
-  abbrev pub Says : ℕ → Form → List (NamedState S) → List ℕ → List (NamedState S) → Type 0
-  Says moment Nothing old text new = (text ≡ []) × (new ≡ old)
-  Says moment Unknown old text new = (text ≡ message_text UnknownCommand) × (new ≡ old)
-  Says moment Tables old text new = ShowsTables moment old text new
-  Says moment (Of name request) old text new = AsksOf moment request (place_of name old) old text new
+  abbrev pub AnswersForm : ℕ → Form → List (NamedState S) → List ℕ → List (NamedState S) → Type 0
+  AnswersForm moment Nothing old text new = (text ≡ []) × (new ≡ old)
+  AnswersForm moment Unknown old text new = (text ≡ message_text UnknownCommand) × (new ≡ old)
+  AnswersForm moment Tables old text new = ShowsTables moment old text new
+  AnswersForm moment (Of name request) old text new = AsksOf moment request (place_of name old) old text new
 
   module _ {C : Type 0} (shows : Showing C) where
     -- the clock is read as a command starts
     abbrev pub Answers : CommandState S C → List ℕ → List ℕ → CommandState S C → Type 0
-    Answers old command text new = (moment : ℕ) × shows old.clock moment new.clock × Says moment (form_of (words_of command)) old.tables text new.tables
+    Answers old command text new = (moment : ℕ) × shows old.clock moment new.clock × AnswersForm moment (form_of (words_of command)) old.tables text new.tables
 
     abbrev pub AnswersLine : CommandState S C → List ℕ → List ℕ → CommandState S C → Type 0
     AnswersLine old line text new = Chain Answers old (commands_of line) text new

@@ -5,7 +5,7 @@ ghost use Rattle.std.specs.Str.{bytes_eq};
 ghost use Rattle.byte_ports.specs.Bytes.{Grows, GrowsInPart, IsOneMore};
 ghost use Rattle.table_model.specs.Limits.{IsTableEvent};
 ghost use Rattle.table_model.specs.declared.events.Event.{Event};
-ghost use Rattle.table_cli.specs.Answers.{Answers, AnswersLine, AsksOf, Does, Says, Serves, commands_of, has_words as specified_words, place_of as specified_place};
+ghost use Rattle.table_cli.specs.Answers.{Answers, AnswersLine, AsksOf, Does, AnswersForm, AnswersEvent, commands_of, has_words as specified_words, place_of as specified_place};
 ghost use Rattle.line_text.specs.Chain.{StopsIn};
 ghost use Rattle.table_cli.specs.Counted.{IsCommand};
 ghost use Rattle.shard_book.specs.NamedTables.{state_of, states_of};
@@ -41,12 +41,12 @@ fn place_of<K: Keeper>(tables: &[Named<K>], name: &[u8]) -> Option<usize>
 fn serve_event<K: Keeper>(alloc: Global, name: &[u8], keeper: &mut K, event: Event) -> Answer
     requires event { IsTableEvent event }
     requires asked { IsCommand event }
-    ensures serves { Serves K.answers K.refuses (record { name = name.now; spec = K.table keeper.old; shards = K.parts keeper.old; state = K.state keeper.old }) event (bytes_of result) (K.state keeper.new) }
+    ensures serves { AnswersEvent K.answers K.refuses (record { name = name.now; spec = K.table keeper.old; shards = K.parts keeper.old; state = K.state keeper.old }) event (bytes_of result) (K.state keeper.new) }
     ensures table { K.table keeper.new ≡ K.table keeper.old }
     ensures parts { K.parts keeper.new ≡ K.parts keeper.old }
 {
     match ask(keeper, event) {
-        Ok(reply) => match Answer::to_reply(alloc, name, keeper.spec(), &reply) {
+        Ok(reply) => match Answer::of_reply(alloc, name, keeper.spec(), &reply) {
             Ok(answer) => answer,
             Err(_) => Answer::Message(Message::OutOfMemory),
         },
@@ -95,7 +95,7 @@ fn ask_named<K: Keeper>(
 /// Does what a command asks, all but the writing.
 fn perform<K: Keeper>(alloc: Global, tables: &mut [Named<K>], moment: u64, command: &[u8]) -> Answer
     requires { moment < 2 ^ 62 }
-    ensures { Says K.answers K.refuses moment (form_of (words_of command.now)) (states_of K.table K.parts K.state tables.old) (bytes_of result) (states_of K.table K.parts K.state tables.new) }
+    ensures { AnswersForm K.answers K.refuses moment (form_of (words_of command.now)) (states_of K.table K.parts K.state tables.old) (bytes_of result) (states_of K.table K.parts K.state tables.new) }
 {
     match read_form(command) {
         Form::Nothing => Answer::Nothing,
@@ -105,7 +105,7 @@ fn perform<K: Keeper>(alloc: Global, tables: &mut [Named<K>], moment: u64, comma
     }
 }
 
-/// Serves one command, at the moment that the clock shows as it starts. All that it changes is changed before the
+/// AnswersEvent one command, at the moment that the clock shows as it starts. All that it changes is changed before the
 /// first byte of its answer.
 fn answer_command<K: Keeper, C: Clock, W: Sink>(
     alloc: Global,
@@ -136,9 +136,9 @@ fn has_words(command: &[u8]) -> bool
     Words::new(command, Blanks::SpacesAndTabs).next().is_some()
 }
 
-/// Serves the commands of a line, each at the moment that the clock shows as it starts, and writes their answers. How
+/// AnswersEvent the commands of a line, each at the moment that the clock shows as it starts, and writes their answers. How
 /// many there were; one without words isn't counted. Where the writer fails, the events of the command in hand stand,
-/// and what was written is the answers of those done and a front of what the next could have been answered.
+/// and what was written is the answers of those done and a prefix of what the next could have been answered.
 pub fn answer<K: Keeper, C: Clock, W: Sink>(
     alloc: Global,
     tables: &mut [Named<K>],

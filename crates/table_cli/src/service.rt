@@ -88,7 +88,7 @@ impl<K: Keeper, C: Clock> CommandService<K, C> {
         }
     }
 
-    /// Serves each line of a reader until it ends, and answers how many commands there were; the count stops at
+    /// AnswersEvent each line of a reader until it ends, and answers how many commands there were; the count stops at
     /// 2^64 - 1. A line of more than 16,384 bytes is one command, which has no form. The last line needs no line end.
     pub fn run<R: Source, W: Sink>(
         &mut self,
@@ -101,7 +101,7 @@ impl<K: Keeper, C: Clock> CommandService<K, C> {
             × ServesAll (SaysLine K.answers K.refuses C.shows) (service_state K.table K.parts K.state C.state self.old.tables.items self.old.clock 0) whole output
             (service_state K.table K.parts K.state C.state self.new.tables.items self.new.clock count)) }
         ensures end { OnOk result (IsAtEnd R.tells (R.left reader.new)) }
-        // The answers to the commands done, and a front of what the next could have been answered, whose events stand.
+        // The answers to the commands done, and a prefix of what the next could have been answered, whose events stand.
         ensures fault { IfErr result (λ fault. (whole output : List ℕ) × (lines : ℕ) × Takes R.tells (R.left reader.old) (R.left reader.new) whole
             × Grows W.tells (W.written writer.old) (W.written writer.new) output
             × StopsAfter (SaysLine K.answers K.refuses C.shows) (StopsLine K.answers K.refuses C.shows) (service_state K.table K.parts K.state C.state self.old.tables.items self.old.clock 0) whole lines output

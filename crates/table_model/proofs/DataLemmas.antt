@@ -18,7 +18,7 @@ use Rattle.stored_data.specs.declared.act.Change.{Change}
 use Rattle.stored_data.specs.declared.act.Change.TheVariants.{Keep, Add, Set}
 use Rattle.stored_data.specs.declared.values.Content.{Content}
 use Rattle.stored_data.specs.declared.values.Content.TheVariants.{Number, Rate}
-use Rattle.stored_data.specs.declared.values.Field.{Field}
+use Rattle.stored_data.specs.declared.values.StoredValue.{StoredValue}
 use Rattle.table_model.specs.Key.{Key, key_cmp, same_key}
 use Rattle.table_model.specs.State.{State, record_at, zero_record, touched, stays}
 use Rattle.table_model.specs.Room.{purged, purge_of, is_purged, all_tracked, room_in, space_in, stored_in}
@@ -57,7 +57,7 @@ changed-kind column now datum (Add n) (Rate kept) kind = kind
 changed-kind column now datum (Set n) (Number old) kind = kind
 changed-kind column now datum (Set n) (Rate kept) kind = kind
 
-acted-fields : (columns : List Column) (fields : List Field) (now : ℕ) (act : Act) → HasTag act → AreFieldsOf columns fields → AreFieldsOf columns (acted fields now act)
+acted-fields : (columns : List Column) (fields : List StoredValue) (now : ℕ) (act : Act) → HasTag act → AreFieldsOf columns fields → AreFieldsOf columns (acted fields now act)
 acted-fields [] [] now act tag are = tt
 acted-fields [] (field ∷ fields) now act tag are = absurd are
 acted-fields (column ∷ columns) [] now act tag are = absurd are
@@ -74,12 +74,12 @@ put-kind : (column : Column) (value : ℕ) (content : Content) → IsKindOf colu
 put-kind column value (Number old) kind = kind
 put-kind column value (Rate kept) kind = kind
 
-put-field : (column : Column) (field : Field) (value : ℕ) (here : Bool) → (field.datum ≡ column.datum) × IsKindOf column field.content
-    → let new : Field = if here then record { datum = field.datum; content = put_content value field.content } else field in (new.datum ≡ column.datum) × IsKindOf column new.content
+put-field : (column : Column) (field : StoredValue) (value : ℕ) (here : Bool) → (field.datum ≡ column.datum) × IsKindOf column field.content
+    → let new : StoredValue = if here then record { datum = field.datum; content = put_content value field.content } else field in (new.datum ≡ column.datum) × IsKindOf column new.content
 put-field column field value true is = (is.0, put-kind column value field.content is.1)
 put-field column field value false is = is
 
-put-fields : (columns : List Column) (fields : List Field) (datum : Datum) (value : ℕ) → value ≤ greatest datum → AreFieldsOf columns fields → AreFieldsOf columns (with_value fields datum value)
+put-fields : (columns : List Column) (fields : List StoredValue) (datum : Datum) (value : ℕ) → value ≤ greatest datum → AreFieldsOf columns fields → AreFieldsOf columns (with_value fields datum value)
 put-fields [] [] datum value fits are = tt
 put-fields [] (field ∷ fields) datum value fits are = absurd are
 put-fields (column ∷ columns) [] datum value fits are = absurd are
@@ -89,20 +89,20 @@ put-fields (column ∷ columns) (field ∷ fields) datum value fits are =
       put-fields columns fields datum value fits are.1,
     )
 
-put-all : (columns : List Column) (pairs : List Cell) (fields : List Field) → AllByRecursion (λ (pair : Cell). pair.value ≤ greatest pair.datum) pairs → AreFieldsOf columns fields → AreFieldsOf columns (put_pairs pairs fields)
+put-all : (columns : List Column) (pairs : List Cell) (fields : List StoredValue) → AllByRecursion (λ (pair : Cell). pair.value ≤ greatest pair.datum) pairs → AreFieldsOf columns fields → AreFieldsOf columns (put_pairs pairs fields)
 put-all columns [] fields fit are = are
 put-all columns (pair ∷ pairs) fields fit are = put-all columns pairs (with_value fields pair.datum pair.value) fit.1 (put-fields columns fields pair.datum pair.value fit.0 are)
 
 -- ---- the records of a table
 
-abbrev pub values_in : Key × Record → List Field
+abbrev pub values_in : Key × Record → List StoredValue
 values_in entry = entry.1.values
 
 -- the data of these records are those of the columns
 abbrev pub HoldData : List Column → List (Key × Record) → Type 0
 HoldData columns records = AllByRecursion (AreDataOf columns) (map values_in records)
 
-module _ (P : List Field → Type 0) where
+module _ (P : List StoredValue → Type 0) where
   -- of the record of a key, or of another that stands for it
   found-data : (key : Key) (records : List (Key × Record)) (z : Record) → AllByRecursion P (map values_in records) → P z.values → P (unwrap_or (record_at key records) z).values
   found-data key [] z all zero = zero
@@ -143,7 +143,7 @@ module _ (P : List Field → Type 0) where
 pub step_data : (old : State) (event : Event) (reply : Reply) (new : State) → IsTableEvent event → HoldData old.spec.columns old.records → Step old event reply new → HoldData new.spec.columns new.records
 step_data old event reply new taken holds step = go (happened old event reply new step) taken
   where
-    P : List Field → Type 0
+    P : List StoredValue → Type 0
     P = AreDataOf old.spec.columns
 
     base : (now : ℕ) → HoldData old.spec.columns (begun old now).records

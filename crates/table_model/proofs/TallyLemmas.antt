@@ -22,7 +22,7 @@ use Rattle.stored_data.specs.declared.act.Change.{Change}
 use Rattle.stored_data.specs.declared.act.Change.TheVariants.{Keep, Add, Set}
 use Rattle.stored_data.specs.declared.values.Content.{Content}
 use Rattle.stored_data.specs.declared.values.Content.TheVariants.{Number, Rate}
-use Rattle.stored_data.specs.declared.values.Field.{Field}
+use Rattle.stored_data.specs.declared.values.StoredValue.{StoredValue}
 use Rattle.table_model.specs.Key.{Key, key_cmp, same_key}
 use Rattle.table_model.specs.State.{State, empty_table, record_at, zero_record, stays}
 use Rattle.table_model.specs.Step.{Step, begun, put_pairs, found_or_zero}
@@ -46,32 +46,32 @@ use Rattle.table_model.proofs.FateLemmas.{Fate, gone, same, made, act_made, take
 
 -- ---- the content of a datum
 
-pub content-acted : (fields : List Field) (now : ℕ) (act : Act) (datum : Datum) (content : Content) → content_of fields datum ≡ Some content → content_of (acted fields now act) datum ≡ Some (changed now datum (change act datum) content)
+pub content-acted : (fields : List StoredValue) (now : ℕ) (act : Act) (datum : Datum) (content : Content) → content_of fields datum ≡ Some content → content_of (acted fields now act) datum ≡ Some (changed now datum (change act datum) content)
 content-acted [] now act datum content h = cc
 content-acted (field ∷ fields) now act datum content h =
-    elim (place field.datum == place datum) as (λ b. (place field.datum == place datum) ≡ b → option_map (λ (f : Field). f.content) (cond b (Some field) (find (λ (f : Field). place f.datum == place datum) fields)) ≡ Some content
-    → option_map (λ (f : Field). f.content) (cond b (Some (changed_field now act field)) (find (λ (f : Field). place f.datum == place datum) (acted fields now act))) ≡ Some (changed now datum (change act datum) content)) [
+    elim (place field.datum == place datum) as (λ b. (place field.datum == place datum) ≡ b → option_map (λ (f : StoredValue). f.content) (cond b (Some field) (find (λ (f : StoredValue). place f.datum == place datum) fields)) ≡ Some content
+    → option_map (λ (f : StoredValue). f.content) (cond b (Some (changed_field now act field)) (find (λ (f : StoredValue). place f.datum == place datum) (acted fields now act))) ≡ Some (changed now datum (change act datum) content)) [
       | true ↦ λ is h. let one : field.datum ≡ datum = place-injective field.datum datum (eq-from (place field.datum) (place datum) is) in let it : field.content ≡ content = cc in (λ i. Some (changed now (one i) (change act (one i)) (it i)))
       | false ↦ λ _ h. content-acted fields now act datum content h
     ] refl h
 
-put-rate : (fields : List Field) (datum other : Datum) (value : ℕ) (kept : Tally) → content_of fields datum ≡ Some (Rate kept) → content_of (with_value fields other value) datum ≡ Some (Rate kept)
+put-rate : (fields : List StoredValue) (datum other : Datum) (value : ℕ) (kept : Tally) → content_of fields datum ≡ Some (Rate kept) → content_of (with_value fields other value) datum ≡ Some (Rate kept)
 put-rate [] datum other value kept h = cc
 put-rate (field ∷ fields) datum other value kept h =
     elim (place field.datum == place other) as (λ c. content_of (cond c (record { datum = field.datum; content = put_content value field.content }) field ∷ with_value fields other value) datum ≡ Some (Rate kept)) [
-      | true ↦ elim (place field.datum == place datum) as (λ b. option_map (λ (f : Field). f.content) (cond b (Some field) (find (λ (f : Field). place f.datum == place datum) fields)) ≡ Some (Rate kept)
-          → option_map (λ (f : Field). f.content) (cond b (Some (record { datum = field.datum; content = put_content value field.content })) (find (λ (f : Field). place f.datum == place datum) (with_value fields other value))) ≡ Some (Rate kept)) [
+      | true ↦ elim (place field.datum == place datum) as (λ b. option_map (λ (f : StoredValue). f.content) (cond b (Some field) (find (λ (f : StoredValue). place f.datum == place datum) fields)) ≡ Some (Rate kept)
+          → option_map (λ (f : StoredValue). f.content) (cond b (Some (record { datum = field.datum; content = put_content value field.content })) (find (λ (f : StoredValue). place f.datum == place datum) (with_value fields other value))) ≡ Some (Rate kept)) [
             | true ↦ λ h. let it : field.content ≡ Rate kept = cc in ap (λ (content : Content). Some (put_content value content)) it
             | false ↦ λ h. put-rate fields datum other value kept h
           ] h
-      | false ↦ elim (place field.datum == place datum) as (λ b. option_map (λ (f : Field). f.content) (cond b (Some field) (find (λ (f : Field). place f.datum == place datum) fields)) ≡ Some (Rate kept)
-          → option_map (λ (f : Field). f.content) (cond b (Some field) (find (λ (f : Field). place f.datum == place datum) (with_value fields other value))) ≡ Some (Rate kept)) [
+      | false ↦ elim (place field.datum == place datum) as (λ b. option_map (λ (f : StoredValue). f.content) (cond b (Some field) (find (λ (f : StoredValue). place f.datum == place datum) fields)) ≡ Some (Rate kept)
+          → option_map (λ (f : StoredValue). f.content) (cond b (Some field) (find (λ (f : StoredValue). place f.datum == place datum) (with_value fields other value))) ≡ Some (Rate kept)) [
             | true ↦ λ h. h
             | false ↦ λ h. put-rate fields datum other value kept h
           ] h
     ]
 
-puts-rate : (pairs : List Cell) (fields : List Field) (datum : Datum) (kept : Tally) → content_of fields datum ≡ Some (Rate kept) → content_of (put_pairs pairs fields) datum ≡ Some (Rate kept)
+puts-rate : (pairs : List Cell) (fields : List StoredValue) (datum : Datum) (kept : Tally) → content_of fields datum ≡ Some (Rate kept) → content_of (put_pairs pairs fields) datum ≡ Some (Rate kept)
 puts-rate [] fields datum kept h = h
 puts-rate (pair ∷ pairs) fields datum kept h = puts-rate pairs (with_value fields pair.datum pair.value) datum kept (put-rate fields datum pair.datum pair.value kept h)
 
@@ -91,7 +91,7 @@ zero-at (first ∷ columns) column zero below is in_order rate =
     let own : (place column.datum == place column.datum) ≡ true = equal (place column.datum) in
     subst (λ (c : Column). content_of (zero_of (c ∷ columns)) column.datum ≡ Some (Rate (tally [] column.period))) (sym is)
     (ap (λ b. content_of (map zero_field (cond b (column ∷ filter is_kept columns) (filter is_kept columns))) column.datum) kept
-    ∙ ap (λ b. option_map (λ (f : Field). f.content) (cond b (Some (zero_field column)) (find (λ (f : Field). place f.datum == place column.datum) (zero_of columns)))) own
+    ∙ ap (λ b. option_map (λ (f : StoredValue). f.content) (cond b (Some (zero_field column)) (find (λ (f : StoredValue). place f.datum == place column.datum) (zero_of columns)))) own
     ∙ ap (λ b. Some (if b then Rate (tally [] column.period) else Number 0)) rate)
   where
     equal : (a : ℕ) → (a == a) ≡ true
@@ -101,7 +101,7 @@ zero-at (first ∷ columns) column (suc k) below is in_order rate =
     let lower : place first.datum < place column.datum = All-contains (λ (other : Column). place first.datum < place other.datum) columns column (All-from_recursion (λ (other : Column). place first.datum < place other.datum) columns in_order.0) (k, omega arith, is) in
     let other : (place first.datum == place column.datum) ≡ false = apart (place first.datum) (place column.datum) lower in
     elim (is_kept first) as (λ b. content_of (map zero_field (cond b (first ∷ filter is_kept columns) (filter is_kept columns))) column.datum ≡ Some (Rate (tally [] column.period))) [
-      | true ↦ ap (λ b. option_map (λ (f : Field). f.content) (cond b (Some (zero_field first)) (find (λ (f : Field). place f.datum == place column.datum) (zero_of columns)))) other ∙ rest
+      | true ↦ ap (λ b. option_map (λ (f : StoredValue). f.content) (cond b (Some (zero_field first)) (find (λ (f : StoredValue). place f.datum == place column.datum) (zero_of columns)))) other ∙ rest
       | false ↦ rest
     ]
   where
@@ -154,7 +154,7 @@ module _ (key : Key) (column : Column) (some : 0 < column.period) where
   up_to-for counts clock (Some act) up_to = up_to-added counts clock (change act column.datum) up_to
 
   -- what an event makes of the data
-  values-tally : (event : Event) (values : List Field) (clock : ℕ) (counts : List Rated) → AreUpTo counts clock → content_of values column.datum ≡ Some (Rate (tally counts column.period))
+  values-tally : (event : Event) (values : List StoredValue) (clock : ℕ) (counts : List Rated) → AreUpTo counts clock → content_of values column.datum ≡ Some (Rate (tally counts column.period))
       → content_of (values_after clock event values) column.datum ≡ Some (Rate (tally (counts ++ counts_for clock (act_made event)) column.period))
   values-tally (Track now subject) values clock counts up_to h =
       content-acted values clock Connection column.datum (Rate (tally counts column.period)) h ∙ ap Some (changed-tally counts clock column.period column.datum (change Connection column.datum) some up_to)

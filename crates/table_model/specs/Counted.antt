@@ -6,7 +6,7 @@ use Rattle.stored_data.specs.Acts.{change, content_of, value_at}
 use Rattle.stored_data.specs.declared.datum.Datum.{Datum}
 use Rattle.stored_data.specs.declared.stored_set.Column.{Column}
 use Rattle.stored_data.specs.declared.values.Content.TheVariants.{Rate}
-use Rattle.stored_data.specs.declared.values.Field.{Field}
+use Rattle.stored_data.specs.declared.values.StoredValue.{StoredValue}
 use Rattle.stored_data.specs.declared.act.Act.{Act}
 use Rattle.stored_data.specs.declared.act.Change.{Change}
 use Rattle.stored_data.specs.declared.act.Change.TheVariants.{Add}
@@ -66,7 +66,7 @@ abbrev pub counted_since : Key → Datum → List Taken → List Rated
 counted_since key datum steps = fold (counted_with key datum) [] steps
 
 -- a record keeps of a rate the tally of these counts, and shows their rate
-pub record IsTallied (values : List Field) (column : Column) (counts : List Rated) (clock : ℕ) : Type 0 where
+pub record IsTallied (values : List StoredValue) (column : Column) (counts : List Rated) (clock : ℕ) : Type 0 where
   pub up_to : AreUpTo counts clock
   pub kept : content_of values column.datum ≡ Some (Rate (tally counts column.period))
   pub shown : value_at values column.datum clock ≡ Some (rate counts column.period clock)

@@ -6,7 +6,7 @@ use Rattle.stored_data.specs.Acts.{acted, answer}
 use Rattle.stored_data.specs.Data.{is_rate}
 use Rattle.stored_data.specs.Stored.{IsSound}
 use Rattle.stored_data.specs.declared.stored_set.Column.{Column}
-use Rattle.stored_data.specs.declared.values.Field.{Field}
+use Rattle.stored_data.specs.declared.values.StoredValue.{StoredValue}
 use Rattle.stored_data.specs.declared.act.Act.TheVariants.{Connection}
 use Rattle.table_model.specs.Step.{Step, put_pairs, subject_of, ticket_of}
 use Rattle.table_model.specs.Counted.{IsTallied, counted_since, steps_of}
@@ -123,7 +123,7 @@ RunLegalLaw = (old : State) (events later : List Event) (replies : List Reply) (
 -- ---- tracked entries
 
 -- what an event makes of the data of its key
-abbrev pub values_after : ℕ → Event → List Field → List Field
+abbrev pub values_after : ℕ → Event → List StoredValue → List StoredValue
 values_after clock (Track now key) values = acted values clock Connection
 values_after clock (Count now ticket act) values = acted values clock act
 values_after clock (Put now key pairs) values = put_pairs pairs values

@@ -9,7 +9,7 @@ use Rattle.stored_data.specs.Laws.{IsInRange}
 use Rattle.stored_data.specs.declared.stored_set.Column.{Column}
 use Rattle.stored_data.specs.declared.values.Content.{Content}
 use Rattle.stored_data.specs.declared.values.Content.TheVariants.{Number, Rate}
-use Rattle.stored_data.specs.declared.values.Field.{Field}
+use Rattle.stored_data.specs.declared.values.StoredValue.{StoredValue}
 use Rattle.table_model.specs.Key.{Key, key_cmp}
 use Rattle.table_model.specs.State.{State, record_at}
 use Rattle.table_model.specs.declared.rows.Ticket.{Ticket}
@@ -23,20 +23,20 @@ IsKindOf column (Number n) = is_rate column.datum ≡ false
 IsKindOf column (Rate kept) = (is_rate column.datum ≡ true) × (kept.period ≡ column.period)
 
 -- what is kept in a column: of its datum, of its kind, and in the datum's range
-pub record IsFieldOf (column : Column) (field : Field) : Type 0 where
+pub record IsFieldOf (column : Column) (field : StoredValue) : Type 0 where
   pub datum : field.datum ≡ column.datum
   pub kind : IsKindOf column field.content
   pub range : IsInRange field.datum field.content
 
 -- the fields are those of the columns, in their order
-abbrev pub AreFieldsOf : List Column → List Field → Type 0
+abbrev pub AreFieldsOf : List Column → List StoredValue → Type 0
 AreFieldsOf [] [] = Unit {0}
 AreFieldsOf (column ∷ columns) (field ∷ fields) = IsFieldOf column field × AreFieldsOf columns fields
 AreFieldsOf [] (field ∷ fields) = ⊥
 AreFieldsOf (column ∷ columns) [] = ⊥
 
 -- a record's data are the table's columns; nothing is kept of the current connections
-abbrev pub AreDataOf : List Column → List Field → Type 0
+abbrev pub AreDataOf : List Column → List StoredValue → Type 0
 AreDataOf columns fields = AreFieldsOf (filter is_kept columns) fields
 
 -- ---- states

@@ -6,7 +6,7 @@ use Rattle.stored_data.specs.Acts.{acted, answer, with_value}
 use Rattle.stored_data.specs.Data.{is_settable}
 use Rattle.stored_data.specs.Stored.{is_column}
 use Rattle.stored_data.specs.declared.stored_set.Column.{Column}
-use Rattle.stored_data.specs.declared.values.Field.{Field}
+use Rattle.stored_data.specs.declared.values.StoredValue.{StoredValue}
 use Rattle.stored_data.specs.declared.act.Act.{Act}
 use Rattle.stored_data.specs.declared.act.Act.TheVariants.{Connection}
 use Rattle.table_model.specs.Key.{Key, same_key}
@@ -96,7 +96,7 @@ put_fault columns (pair ∷ pairs) =
     else (if not (is_column columns pair.datum) then Some (NotStored pair.datum)
     else put_fault columns pairs)
 
-abbrev pub put_pairs : List Cell → List Field → List Field
+abbrev pub put_pairs : List Cell → List StoredValue → List StoredValue
 put_pairs pairs fields = fold (λ kept (pair : Cell). with_value kept pair.datum pair.value) fields pairs
 
 abbrev pub written : State → Key → List Cell → Record

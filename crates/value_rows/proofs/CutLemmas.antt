@@ -7,7 +7,7 @@ use Rattle.std.proofs.lemmas.List.{map-set, length-map, replicate-append-replica
 use Rattle.stored_data.specs.Acts.{zero_of}
 use Rattle.stored_data.specs.Words.{fields_in}
 use Rattle.stored_data.specs.declared.stored_set.Column.{Column}
-use Rattle.stored_data.specs.declared.values.Field.{Field}
+use Rattle.stored_data.specs.declared.values.StoredValue.{StoredValue}
 use Rattle.stored_data.proofs.Rows.{zeros_are_new}
 use Rattle.value_rows.specs.Grid.{Grid, grid, row_at, with_row, zero_rows}
 use Rattle.value_rows.specs.Cut.{cut, rows_in, words_at, with_words}
@@ -31,14 +31,14 @@ shifted k width words =
 none : (width : ℕ) → 0 * width ≡ 0
 none width = omega arith
 
-rows-read : (columns : List Column) (count width k : ℕ) (words : List ℕ) (d : List Field) → k < count → get_or (rows_in columns count width words) k d ≡ fields_in columns (words_at words k width)
+rows-read : (columns : List Column) (count width k : ℕ) (words : List ℕ) (d : List StoredValue) → k < count → get_or (rows_in columns count width words) k d ≡ fields_in columns (words_at words k width)
 rows-read columns zero width k words d inside = absurd (omega arith)
 rows-read columns (suc count) width zero words d inside = ap (λ n. fields_in columns (take width (drop n words))) (sym (none width))
 rows-read columns (suc count) width (suc k) words d inside = rows-read columns count width k (drop width words) d (omega arith) ∙ ap (λ left. fields_in columns (take width left)) (shifted k width words)
 
 -- a list that begins with a row's words
-cut-front : (count width : ℕ) (front later : List ℕ) → length front ≡ width → cut (suc count) width (front ++ later) ≡ front ∷ cut count width later
-cut-front count width front later sized = ap (λ row. row ∷ cut count width (drop width (front ++ later))) (take_at front later width sized) ∙ ap (λ left. front ∷ cut count width left) (drop_at front later width sized)
+cut-prefix : (count width : ℕ) (prefix later : List ℕ) → length prefix ≡ width → cut (suc count) width (prefix ++ later) ≡ prefix ∷ cut count width later
+cut-prefix count width prefix later sized = ap (λ row. row ∷ cut count width (drop width (prefix ++ later))) (take_at prefix later width sized) ∙ ap (λ left. prefix ∷ cut count width left) (drop_at prefix later width sized)
 
 -- a write behind the first row's words
 written-later : (width k : ℕ) (words row : List ℕ) → with_words words (suc k) width row ≡ take width words ++ with_words (drop width words) k width row
@@ -47,12 +47,12 @@ written-later width k words row =
     let behind : suc k * width + width ≡ width + (k * width + width) = omega (arith, suc-mul k width) in
     ap (λ n. take n words ++ (row ++ drop (suc k * width + width) words)) next
     ∙ ap (λ n. take (width + k * width) words ++ (row ++ drop n words)) behind
-    ∙ ap (λ front. front ++ (row ++ drop (width + (k * width + width)) words)) (take-add width (k * width) words)
+    ∙ ap (λ prefix. prefix ++ (row ++ drop (width + (k * width + width)) words)) (take-add width (k * width) words)
     ∙ ap (λ back. (take width words ++ take (k * width) (drop width words)) ++ (row ++ back)) (sym (drop-drop (k * width + width) width words))
     ∙ append_assoc (take width words) (take (k * width) (drop width words)) (row ++ drop (k * width + width) (drop width words))
 
-front-long : (count width : ℕ) (words : List ℕ) → length words ≡ suc count * width → length (take width words) ≡ width
-front-long count width words sized = let whole = suc-mul count width in omega (arith, whole, length-take width words)
+prefix-long : (count width : ℕ) (words : List ℕ) → length words ≡ suc count * width → length (take width words) ≡ width
+prefix-long count width words sized = let whole = suc-mul count width in omega (arith, whole, length-take width words)
 
 rest-long : (count width : ℕ) (words : List ℕ) → length words ≡ suc count * width → length (drop width words) ≡ count * width
 rest-long count width words sized = let whole = suc-mul count width in omega (arith, whole, length-drop width words)
@@ -63,13 +63,13 @@ cut-write (suc count) width zero words row inside sized long =
     let start = none width in
     ap (λ n. cut (suc count) width (take n words ++ (row ++ drop (n + width) words))) start
     ∙ ap (λ n. cut (suc count) width (row ++ drop n words)) (zero-add width)
-    ∙ cut-front count width row (drop width words) long
+    ∙ cut-prefix count width row (drop width words) long
   where
     zero-add : (n : ℕ) → 0 + n ≡ n
     zero-add n = omega arith
 cut-write (suc count) width (suc k) words row inside sized long =
     ap (cut (suc count) width) (written-later width k words row)
-    ∙ cut-front count width (take width words) (with_words (drop width words) k width row) (front-long count width words sized)
+    ∙ cut-prefix count width (take width words) (with_words (drop width words) k width row) (prefix-long count width words sized)
     ∙ ap (λ rows. take width words ∷ rows) (cut-write count width k (drop width words) row (omega arith) (rest-long count width words sized) long)
 
 -- ---- the rows as a contract sees them
@@ -91,7 +91,7 @@ pub read-as : (columns found : List Column) (count width at : ℕ) (words row : 
 read-as columns found count width at words row g is inside same taken = ap (λ columns. fields_in columns row) same ∙ ap (fields_in columns) taken ∙ read columns count width at words g is inside
 
 -- a row's words were written, and mean these data
-pub write : (columns : List Column) (count width at : ℕ) (old new : List ℕ) (fields : List Field) (g : Grid) → grid columns (rows_in columns count width old) ≡ g → at < length g.rows → length old ≡ count * width
+pub write : (columns : List Column) (count width at : ℕ) (old new : List ℕ) (fields : List StoredValue) (g : Grid) → grid columns (rows_in columns count width old) ≡ g → at < length g.rows → length old ≡ count * width
     → length (words_at new at width) ≡ width → new ≡ with_words old at width (words_at new at width) → fields_in columns (words_at new at width) ≡ fields
     → grid columns (rows_in columns count width new) ≡ with_row g at fields
 write columns count width at old new fields g is inside sized long elsewhere shows =
@@ -116,7 +116,7 @@ cut-zeros columns (suc count) width total is =
     let split : total ≡ width + count * width = omega (arith, is, suc-mul count width) in
     ap (λ n. rows_in columns (suc count) width (replicate n 0)) split
     ∙ ap (λ (words : List ℕ). rows_in columns (suc count) width words) (sym (replicate-append-replicate width (count * width) 0))
-    ∙ ap (map (fields_in columns)) (cut-front count width (replicate width 0) (replicate (count * width) 0) (length-replicate width 0))
+    ∙ ap (map (fields_in columns)) (cut-prefix count width (replicate width 0) (replicate (count * width) 0) (length-replicate width 0))
     ∙ ap (λ row. row ∷ rows_in columns count width (replicate (count * width) 0)) (zeros_are_new (replicate width 0) width refl columns)
     ∙ ap (λ rows. zero_of columns ∷ rows) (cut-zeros columns count width (count * width) refl)
 

@@ -2,7 +2,7 @@
 use Rattle.std.specs.Prelude.{ℕ, zero, suc, ◌+◌, ◌*◌, List, [], ◌∷◌, ◌++◌, take, drop, map}
 use Rattle.stored_data.specs.Words.{fields_in}
 use Rattle.stored_data.specs.declared.stored_set.Column.{Column}
-use Rattle.stored_data.specs.declared.values.Field.{Field}
+use Rattle.stored_data.specs.declared.values.StoredValue.{StoredValue}
 
 -- the words cut into so many rows of a width
 abbrev pub cut : ℕ → ℕ → List ℕ → List (List ℕ)
@@ -10,7 +10,7 @@ cut zero width words = []
 cut (suc count) width words = take width words ∷ cut count width (drop width words)
 
 -- the data of so many rows
-abbrev pub rows_in : List Column → ℕ → ℕ → List ℕ → List (List Field)
+abbrev pub rows_in : List Column → ℕ → ℕ → List ℕ → List (List StoredValue)
 rows_in columns count width words = map (fields_in columns) (cut count width words)
 
 -- the words of a row

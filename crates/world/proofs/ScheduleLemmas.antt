@@ -9,12 +9,12 @@ use Rattle.admit_core.specs.Conn.{progress_of, Stands}
 use Rattle.admit_core.specs.Connection.{Connection, arrived}
 use Rattle.connection_drive.specs.Tables.{CanOpen, HasShard, TableState, empty_tables, table_states}
 use Rattle.world.specs.World.{Element, Elements, WorldState, begun}
-use Rattle.world.specs.WorldCode.{AreGuests, IsReached, StandsFor, WorldView, world_view}
-use Rattle.world.specs.declared.guest.Guest.{Guest}
+use Rattle.world.specs.WorldCode.{AreVisitors, IsReached, StandsFor, WorldView, world_view}
+use Rattle.world.specs.declared.visitor.Visitor.{Visitor}
 use Rattle.connection_drive.specs.declared.reference.Reference.{Reference}
 use Rattle.world.specs.declared.visit.Visit.{Visit}
 use Rattle.connection_drive.proofs.SumLemmas.{get_within, some_same}
-use Rattle.world.proofs.RunLemmas.{guest_at}
+use Rattle.world.proofs.RunLemmas.{visitor_at}
 use Rattle.world.proofs.WorldLemmas.{IsWorld, begun_world, elements_world}
 
 -- ---- the start
@@ -22,22 +22,22 @@ use Rattle.world.proofs.WorldLemmas.{IsWorld, begun_world, elements_world}
 abbrev pub come : Setup → Visit → Connection Reference
 come setup visit = arrived setup visit.samples
 
-pub guests_push : (setup : Setup) (guests : List Guest) (visits : List Visit) (guest : Guest) (visit : Visit) → AreGuests guests visits (map (come setup) visits) → guest.visit ≡ visit → Stands guest.conn (come setup visit)
-    → AreGuests (guests ++ guest ∷ []) (visits ++ visit ∷ []) (map (come setup) (visits ++ visit ∷ []))
-guests_push setup [] [] guest visit are same stands = (same, stands, tt)
-guests_push setup [] (v ∷ visits) guest visit are same stands = absurd are
-guests_push setup (g ∷ guests) [] guest visit are same stands = absurd are
-guests_push setup (g ∷ guests) (v ∷ visits) guest visit are same stands = (are.0, are.1, guests_push setup guests visits guest visit are.2 same stands)
+pub visitors_push : (setup : Setup) (visitors : List Visitor) (visits : List Visit) (visitor : Visitor) (visit : Visit) → AreVisitors visitors visits (map (come setup) visits) → visitor.visit ≡ visit → Stands visitor.conn (come setup visit)
+    → AreVisitors (visitors ++ visitor ∷ []) (visits ++ visit ∷ []) (map (come setup) (visits ++ visit ∷ []))
+visitors_push setup [] [] visitor visit are same stands = (same, stands, tt)
+visitors_push setup [] (v ∷ visits) visitor visit are same stands = absurd are
+visitors_push setup (g ∷ visitors) [] visitor visit are same stands = absurd are
+visitors_push setup (g ∷ visitors) (v ∷ visits) visitor visit are same stands = (are.0, are.1, visitors_push setup visitors visits visitor visit are.2 same stands)
 
 -- one visit more
-pub guests_more : (setup : Setup) (visits : List Visit) (i : ℕ) (old new : List Guest) (guest : Guest) (visit : Visit) → AreGuests old (take i visits) (map (come setup) (take i visits)) → take (i + 1) visits ≡ take i visits ++ visit ∷ []
-    → new ≡ old ++ guest ∷ [] → guest.visit ≡ visit → Stands guest.conn (come setup visit) → AreGuests new (take (i + 1) visits) (map (come setup) (take (i + 1) visits))
-guests_more setup visits i old new guest visit are more pushed same stands =
-    subst (λ (vs : List Visit). AreGuests new vs (map (come setup) vs)) (sym more)
-    (subst (λ (gs : List Guest). AreGuests gs (take i visits ++ visit ∷ []) (map (come setup) (take i visits ++ visit ∷ []))) (sym pushed) (guests_push setup old (take i visits) guest visit are same stands))
+pub visitors_more : (setup : Setup) (visits : List Visit) (i : ℕ) (old new : List Visitor) (visitor : Visitor) (visit : Visit) → AreVisitors old (take i visits) (map (come setup) (take i visits)) → take (i + 1) visits ≡ take i visits ++ visit ∷ []
+    → new ≡ old ++ visitor ∷ [] → visitor.visit ≡ visit → Stands visitor.conn (come setup visit) → AreVisitors new (take (i + 1) visits) (map (come setup) (take (i + 1) visits))
+visitors_more setup visits i old new visitor visit are more pushed same stands =
+    subst (λ (vs : List Visit). AreVisitors new vs (map (come setup) vs)) (sym more)
+    (subst (λ (gs : List Visitor). AreVisitors gs (take i visits ++ visit ∷ []) (map (come setup) (take i visits ++ visit ∷ []))) (sym pushed) (visitors_push setup old (take i visits) visitor visit are same stands))
 
-pub begun_stands : (setup : Setup) (visits : List Visit) (tables : List (Named BooksState)) (guests : List Guest) → table_states tables ≡ empty_tables setup → AreGuests guests visits (map (come setup) visits) → StandsFor (world_view setup tables guests) visits (begun setup visits)
-begun_stands setup visits tables guests opened are = record { tables_are = opened; guests_are = are }
+pub begun_stands : (setup : Setup) (visits : List Visit) (tables : List (Named BooksState)) (visitors : List Visitor) → table_states tables ≡ empty_tables setup → AreVisitors visitors visits (map (come setup) visits) → StandsFor (world_view setup tables visitors) visits (begun setup visits)
+begun_stands setup visits tables visitors opened are = record { tables_are = opened; visitors_are = are }
 
 pub begun_reached : (view : WorldView) (visits : List Visit) → CanOpen view.setup → StandsFor view visits (begun view.setup visits) → IsReached view
 begun_reached view visits opens stands =
@@ -57,22 +57,22 @@ elements_more visits old [] middle count element new was_refused goes one =
 elements_more visits old (e ∷ schedule) middle count element new was_refused goes one =
     (goes.0, goes.1, goes.2 + cond was_refused 1 0, goes.3, elements_more visits goes.0 schedule middle goes.2 element new was_refused goes.4 one, counted_more (cond goes.1 1 0) goes.2 0 count was_refused goes.5)
 
-pub guests_length : (guests : List Guest) (visits : List Visit) (connections : List (Connection Reference)) → AreGuests guests visits connections → length visits ≡ length guests
-guests_length [] [] [] are = refl
-guests_length [] [] (c ∷ connections) are = absurd are
-guests_length [] (v ∷ visits) connections are = absurd are
-guests_length (g ∷ guests) [] connections are = absurd are
-guests_length (g ∷ guests) (v ∷ visits) [] are = absurd are
-guests_length (g ∷ guests) (v ∷ visits) (c ∷ connections) are = ap suc (guests_length guests visits connections are.2)
+pub visitors_length : (visitors : List Visitor) (visits : List Visit) (connections : List (Connection Reference)) → AreVisitors visitors visits connections → length visits ≡ length visitors
+visitors_length [] [] [] are = refl
+visitors_length [] [] (c ∷ connections) are = absurd are
+visitors_length [] (v ∷ visits) connections are = absurd are
+visitors_length (g ∷ visitors) [] connections are = absurd are
+visitors_length (g ∷ visitors) (v ∷ visits) [] are = absurd are
+visitors_length (g ∷ visitors) (v ∷ visits) (c ∷ connections) are = ap suc (visitors_length visitors visits connections are.2)
 
 -- what the code did, whatever world it stands for
 abbrev pub HasWent : WorldView → ℕ × ℕ → WorldView → Bool → Type 0
 HasWent view element later was_refused = (visits : List Visit) (world : WorldState) → StandsFor view visits world → (next : WorldState) × StandsFor later visits next × Element visits world element next was_refused
 
-pub reached_more : (view later : WorldView) (number moment : ℕ) (was_refused : Bool) → later.setup ≡ view.setup → number < length view.guests → moment < 2 ^ 62 → HasWent view (number, moment) later was_refused → IsReached view → IsReached later
+pub reached_more : (view later : WorldView) (number moment : ℕ) (was_refused : Bool) → later.setup ≡ view.setup → number < length view.visitors → moment < 2 ^ 62 → HasWent view (number, moment) later was_refused → IsReached view → IsReached later
 reached_more view later number moment was_refused same within below went reached =
     let one = went reached.visits reached.world reached.stands in
-    let count : length reached.visits ≡ length view.guests = guests_length view.guests reached.visits reached.world.connections reached.stands.guests_are in
+    let count : length reached.visits ≡ length view.visitors = visitors_length view.visitors reached.visits reached.world.connections reached.stands.visitors_are in
     let here : number < length reached.visits = omega (arith, within, count) in
     record {
       visits = reached.visits;
@@ -106,14 +106,14 @@ ran_more view middle later schedule more element count total was_refused ran wen
 -- ---- one connection
 
 -- what the code has of a connection is what the world has
-pub same_progress : (view : WorldView) (guests : List Guest) (number : ℕ) (guest : Guest) (visits : List Visit) (world : WorldState) (connection : Connection Reference) → view.guests ≡ guests → number < length view.guests → guest ≡ get_or guests number guest
-    → StandsFor view visits world → slice_get world.connections number ≡ Some connection → progress_of guest.conn ≡ connection.progress
-same_progress view guests number guest visits world connection same_guests viewed is stands at =
-    let within : number < length guests = subst (λ (gs : List Guest). number < length gs) same_guests viewed in
-    let found = guest_at guests visits world.connections number (subst (λ (gs : List Guest). AreGuests gs visits world.connections) same_guests stands.guests_are) within in
-    let same_guest : guest ≡ found.guest = some_same guest found.guest (ap Some is ∙ sym (slice_get-get_or guests number guest within) ∙ found.at_guest) in
+pub same_progress : (view : WorldView) (visitors : List Visitor) (number : ℕ) (visitor : Visitor) (visits : List Visit) (world : WorldState) (connection : Connection Reference) → view.visitors ≡ visitors → number < length view.visitors → visitor ≡ get_or visitors number visitor
+    → StandsFor view visits world → slice_get world.connections number ≡ Some connection → progress_of visitor.conn ≡ connection.progress
+same_progress view visitors number visitor visits world connection same_visitors viewed is stands at =
+    let within : number < length visitors = subst (λ (gs : List Visitor). number < length gs) same_visitors viewed in
+    let found = visitor_at visitors visits world.connections number (subst (λ (gs : List Visitor). AreVisitors gs visits world.connections) same_visitors stands.visitors_are) within in
+    let same_visitor : visitor ≡ found.visitor = some_same visitor found.visitor (ap Some is ∙ sym (slice_get-get_or visitors number visitor within) ∙ found.at_visitor) in
     let same : found.connection ≡ connection = some_same found.connection connection (sym found.at_connection ∙ at) in
-    ap (λ (g : Guest). progress_of g.conn) same_guest ∙ found.stands.progress ∙ ap (λ (c : Connection Reference). c.progress) same
+    ap (λ (g : Visitor). progress_of g.conn) same_visitor ∙ found.stands.progress ∙ ap (λ (c : Connection Reference). c.progress) same
 
 -- a table and a shard of the setup are there
 pub shard_there : (view : WorldView) (table shard : ℕ) → IsReached view → table < length view.setup.tables → shard < view.setup.shards → HasShard view.tables table shard

@@ -7,32 +7,32 @@ use Rattle.admit_core.specs.Conn.{Stands}
 use Rattle.admit_core.specs.Connection.{Connection}
 use Rattle.connection_drive.specs.Tables.{CanOpen, TableState, table_states}
 use Rattle.world.specs.World.{Elements, IsSchedule, WorldState, begun}
-use Rattle.world.specs.declared.guest.Guest.{Guest}
+use Rattle.world.specs.declared.visitor.Visitor.{Visitor}
 use Rattle.connection_drive.specs.declared.reference.Reference.{Reference}
 use Rattle.world.specs.declared.visit.Visit.{Visit}
 
 -- the connections that the code's stand for, in the order of their visits
-abbrev pub AreGuests : List Guest → List Visit → List (Connection Reference) → Type 0
-AreGuests [] [] [] = Unit {0}
-AreGuests (guest ∷ guests) (visit ∷ visits) (connection ∷ connections) = (guest.visit ≡ visit) × Stands guest.conn connection × AreGuests guests visits connections
-AreGuests [] [] (connection ∷ connections) = ⊥
-AreGuests [] (visit ∷ visits) connections = ⊥
-AreGuests (guest ∷ guests) [] connections = ⊥
-AreGuests (guest ∷ guests) (visit ∷ visits) [] = ⊥
+abbrev pub AreVisitors : List Visitor → List Visit → List (Connection Reference) → Type 0
+AreVisitors [] [] [] = Unit {0}
+AreVisitors (visitor ∷ visitors) (visit ∷ visits) (connection ∷ connections) = (visitor.visit ≡ visit) × Stands visitor.conn connection × AreVisitors visitors visits connections
+AreVisitors [] [] (connection ∷ connections) = ⊥
+AreVisitors [] (visit ∷ visits) connections = ⊥
+AreVisitors (visitor ∷ visitors) [] connections = ⊥
+AreVisitors (visitor ∷ visitors) (visit ∷ visits) [] = ⊥
 
 -- what the code keeps: the setup, its tables, and the connections with their visits
 pub record WorldView : Type 0 where
   pub setup : Setup
   pub tables : List TableState
-  pub guests : List Guest
+  pub visitors : List Visitor
 
-abbrev pub world_view : Setup → List (Named BooksState) → List Guest → WorldView
-world_view setup tables guests = record { setup = setup; tables = table_states tables; guests = guests }
+abbrev pub world_view : Setup → List (Named BooksState) → List Visitor → WorldView
+world_view setup tables visitors = record { setup = setup; tables = table_states tables; visitors = visitors }
 
 -- the tables and the connections of the code are those of a world
 pub record StandsFor (view : WorldView) (visits : List Visit) (world : WorldState) : Type 0 where
   pub tables_are : view.tables ≡ world.tables
-  pub guests_are : AreGuests view.guests visits world.connections
+  pub visitors_are : AreVisitors view.visitors visits world.connections
 
 -- it is a world that began with some visits, and has gone on by some schedule
 pub record IsReached (view : WorldView) : Type 0 where

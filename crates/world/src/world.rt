@@ -9,7 +9,7 @@ ghost use Rattle.world.specs.World.{begun, Element, Elements, IsSchedule, WorldS
 ghost use Rattle.world.specs.WorldCode.{IsReached, StandsFor, WorldView, world_view};
 ghost use Rattle.world.specs.declared.visit.Visit.{Visit as ItsVisit};
 
-use crate::guest::{Guest, wake};
+use crate::visitor::{Visitor, wake};
 use crate::{Reference, Visit};
 use admit_core::{Conn, Phase};
 use connection_drive::{advance, open_tables};
@@ -26,7 +26,7 @@ use stick_table::Table;
 pub struct World<'a, T: Table> {
     setup: &'a Setup,
     tables: Vec<Named<Books<T>>>,
-    guests: Vec<Guest<'a>>,
+    visitors: Vec<Visitor<'a>>,
 }
 
 impl<'a, T: Table> Model for World<'a, T> {
@@ -34,9 +34,9 @@ impl<'a, T: Table> Model for World<'a, T> {
 
     ghost Value = { WorldView };
 
-    ghost view = { λ world. world_view world.setup.now world.tables.items world.guests.items };
+    ghost view = { λ world. world_view world.setup.now world.tables.items world.visitors.items };
 
-    ghost invariant = { λ world. IsReached (world_view world.setup.now world.tables.items world.guests.items) };
+    ghost invariant = { λ world. IsReached (world_view world.setup.now world.tables.items world.visitors.items) };
 }
 
 /// The book of a shard that is there.
@@ -52,20 +52,20 @@ fn go_on<T: Table>(
     alloc: Global,
     setup: &Setup,
     tables: &mut Vec<Named<Books<T>>>,
-    guests: &mut Vec<Guest<'_>>,
+    visitors: &mut Vec<Visitor<'_>>,
     number: u32,
     moment: u64,
 ) -> bool
-    requires number { number < length guests.old.items }
+    requires number { number < length visitors.old.items }
     requires moment { moment < 2 ^ 62 }
-    requires reached { IsReached (world_view setup.now tables.old.items guests.old.items) }
-    ensures count { length guests.new.items ≡ length guests.old.items }
-    ensures went { (visits : List ItsVisit) (world : WorldState) → StandsFor (world_view setup.now tables.old.items guests.old.items) visits world →
-        (after : WorldState) × StandsFor (world_view setup.now tables.new.items guests.new.items) visits after × Element visits world (number, moment) after result }
+    requires reached { IsReached (world_view setup.now tables.old.items visitors.old.items) }
+    ensures count { length visitors.new.items ≡ length visitors.old.items }
+    ensures went { (visits : List ItsVisit) (world : WorldState) → StandsFor (world_view setup.now tables.old.items visitors.old.items) visits world →
+        (after : WorldState) × StandsFor (world_view setup.now tables.new.items visitors.new.items) visits after × Element visits world (number, moment) after result }
 {
-    let guest = &mut guests[number as usize];
-    wake(guest);
-    advance(alloc, tables.as_mut_slice(), &mut guest.conn, moment)
+    let visitor = &mut visitors[number as usize];
+    wake(visitor);
+    advance(alloc, tables.as_mut_slice(), &mut visitor.conn, moment)
 }
 
 impl<'a, T: Table> World<'a, T> {
@@ -74,12 +74,12 @@ impl<'a, T: Table> World<'a, T> {
         requires { CanOpen setup.now }
         ensures stands { IfOk result (λ world. StandsFor world visits.now (begun setup.now visits.now)) }
         ensures setup { IfOk result (λ world. world.setup ≡ setup.now) }
-        ensures count { IfOk result (λ world. length world.guests ≡ length visits.now) }
+        ensures count { IfOk result (λ world. length world.visitors ≡ length visits.now) }
     {
         let tables = open_tables(alloc, setup)?;
-        let mut guests = Vec::new(alloc);
+        let mut visitors = Vec::new(alloc);
         for visit in visits {
-            guests.push(Guest {
+            visitors.push(Visitor {
                 visit: *visit,
                 conn: Conn::new(setup, visit.samples),
             })?;
@@ -87,26 +87,26 @@ impl<'a, T: Table> World<'a, T> {
         Ok(World {
             setup,
             tables,
-            guests,
+            visitors,
         })
     }
 
     /// How far a connection is.
     pub fn phase(&self, number: u32) -> Phase
-        requires { number < length self.now.guests }
+        requires { number < length self.now.visitors }
         ensures { (visits : List ItsVisit) (world : WorldState) (connection : Connection ItsReference) → StandsFor self.now visits world →
             slice_get world.connections number ≡ Some connection → result ≡ connection.progress.phase }
     {
-        self.guests[number as usize].conn.phase()
+        self.visitors[number as usize].conn.phase()
     }
 
     /// The number of the table and the reference that a connection holds by a slot.
     pub fn held(&self, number: u32, slot: Slot) -> Option<(u32, Reference)>
-        requires { number < length self.now.guests }
+        requires { number < length self.now.visitors }
         ensures { (visits : List ItsVisit) (world : WorldState) (connection : Connection ItsReference) → StandsFor self.now visits world →
             slice_get world.connections number ≡ Some connection → result ≡ held_at connection.progress.held slot }
     {
-        match self.guests[number as usize].conn.held(slot) {
+        match self.visitors[number as usize].conn.held(slot) {
             Some((table, reference)) => Some((table, *reference)),
             None => None,
         }
@@ -125,9 +125,9 @@ impl<'a, T: Table> World<'a, T> {
     /// made on its shard's book, or its next change of phase. One that rests is closed first, and one that has ended does
     /// nothing. How many elements were refused.
     pub fn run(&mut self, alloc: Global, schedule: &[(u32, u64)]) -> u64
-        requires schedule { IsSchedule (length self.old.guests) schedule.now }
+        requires schedule { IsSchedule (length self.old.visitors) schedule.now }
         ensures setup { self.new.setup ≡ self.old.setup }
-        ensures count { length self.new.guests ≡ length self.old.guests }
+        ensures count { length self.new.visitors ≡ length self.old.visitors }
         ensures ran { (visits : List ItsVisit) (world : WorldState) → StandsFor self.old visits world →
             (after : WorldState) × StandsFor self.new visits after × Elements visits world schedule.now after result }
     {
@@ -142,10 +142,10 @@ impl<'a, T: Table> World<'a, T> {
 
     /// One connection goes on. Whether it was refused.
     fn element(&mut self, alloc: Global, number: u32, moment: u64) -> bool
-        requires number { number < length self.old.guests }
+        requires number { number < length self.old.visitors }
         requires moment { moment < 2 ^ 62 }
         ensures setup { self.new.setup ≡ self.old.setup }
-        ensures count { length self.new.guests ≡ length self.old.guests }
+        ensures count { length self.new.visitors ≡ length self.old.visitors }
         ensures went { (visits : List ItsVisit) (world : WorldState) → StandsFor self.old visits world →
             (after : WorldState) × StandsFor self.new visits after × Element visits world (number, moment) after result }
     {
@@ -153,7 +153,7 @@ impl<'a, T: Table> World<'a, T> {
             alloc,
             self.setup,
             &mut self.tables,
-            &mut self.guests,
+            &mut self.visitors,
             number,
             moment,
         )

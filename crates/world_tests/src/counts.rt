@@ -43,7 +43,7 @@ pub fn out(alloc: Global, world: &World<'_, PlainTable>, shard: u32) -> Option<u
 
 /// Whether a connection holds a reference of a shard.
 fn holds(world: &World<'_, PlainTable>, number: u32, shard: u32) -> bool
-    requires { number < length world.now.guests }
+    requires { number < length world.now.visitors }
 {
     match world.held(number, Slot::Sc0) {
         Some((_, reference)) => reference.shard == shard,
@@ -53,7 +53,7 @@ fn holds(world: &World<'_, PlainTable>, number: u32, shard: u32) -> bool
 
 /// How many of the four connections hold a reference of a shard.
 pub fn held(world: &World<'_, PlainTable>, shard: u32) -> u32
-    requires { length world.now.guests ≡ 4 }
+    requires { length world.now.visitors ≡ 4 }
 {
     let mut held = 0u32;
     for number in 0..4u32 {
@@ -66,7 +66,7 @@ pub fn held(world: &World<'_, PlainTable>, shard: u32) -> u32
 
 /// How many of the four connections are admitted, hold a reference and come from a host.
 pub fn admitted(world: &World<'_, PlainTable>, hosts: [u8; 4], host: u8) -> u32
-    requires { length world.now.guests ≡ 4 }
+    requires { length world.now.visitors ≡ 4 }
 {
     let mut admitted = 0u32;
     for number in 0..4u32 {

@@ -74,7 +74,7 @@ struct Left {
 
 impl Left {
     fn of(alloc: Global, world: &World<'_, PlainTable>) -> Left
-        requires count { length world.now.guests ≡ 4 }
+        requires count { length world.now.visitors ≡ 4 }
         requires tables { length world.now.setup.tables ≡ 1 }
         requires shards { world.now.setup.shards ≡ 1 }
     {
@@ -116,7 +116,7 @@ impl Left {
 
 /// Leads the connections of a world through the schedule. Whether all went as it says, up to the first refusal.
 fn lead<R: Print + AllocGlobal>(rt: &R, world: &mut World<'_, PlainTable>) -> io::Result<bool>
-    requires count { length world.old.guests ≡ 4 }
+    requires count { length world.old.visitors ≡ 4 }
     requires tables { length world.old.setup.tables ≡ 1 }
     requires shards { world.old.setup.shards ≡ 1 }
 {

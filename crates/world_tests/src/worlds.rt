@@ -13,7 +13,7 @@ use stick_table::PlainTable;
 use world::World;
 
 fn is_ended(world: &World<'_, PlainTable>, number: u32) -> bool
-    requires { number < length world.now.guests }
+    requires { number < length world.now.visitors }
 {
     world.phase(number) == Phase::Ended && world.held(number, Slot::Sc0).is_none()
 }
@@ -59,7 +59,7 @@ fn element(random: &mut Random) -> (u32, u64)
 
 /// Whether a shard has as many references out as the four connections hold.
 fn is_balanced(alloc: Global, world: &World<'_, PlainTable>, shard: u32) -> bool
-    requires count { length world.now.guests ≡ 4 }
+    requires count { length world.now.visitors ≡ 4 }
     requires table { length world.now.setup.tables ≡ 1 }
     requires shard { shard < world.now.setup.shards }
 {

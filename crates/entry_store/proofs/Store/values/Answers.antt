@@ -2,13 +2,13 @@ use Rattle.std.proofs.Common.{ℕ, List, Some, ◌≡◌, ◌∙◌}
 use Rattle.std.specs.Prelude.{IfOk}
 use Rattle.std.specs.declared.result.Result.{Result}
 use Rattle.std.specs.declared.result.Result.TheVariants.{Ok, Err}
-use Rattle.stored_data.specs.declared.values.Field.{Field}
+use Rattle.stored_data.specs.declared.values.StoredValue.{StoredValue}
 use Rattle.value_rows.specs.Grid.{row_at}
 use Rattle.entry_store.specs.Stock.{Held, Stock, held_at}
 use Rattle.entry_store.proofs.PartLemmas.{in_grid, values_are}
 use Rattle.entry_store.proofs.Store.values.Goals as goal
 
-if_ok : {E : Type 0} (r : Result (List Field) E) (row : List Field) (s : Stock) (slot : ℕ) → IfOk r (λ values. values ≡ row) → ((held : Held) → held_at s slot ≡ Some held → row ≡ held.values)
+if_ok : {E : Type 0} (r : Result (List StoredValue) E) (row : List StoredValue) (s : Stock) (slot : ℕ) → IfOk r (λ values. values ≡ row) → ((held : Held) → held_at s slot ≡ Some held → row ≡ held.values)
     → IfOk r (λ values. (held : Held) → held_at s slot ≡ Some held → values ≡ held.values)
 if_ok (Ok values) row s slot is more = λ held there. is ∙ more held there
 if_ok (Err e) row s slot is more = tt

@@ -40,12 +40,12 @@ returns-in-Err-clause-part g c =
     let C = g.C.Clock in
     let so_far = c.loop-command.invariant.answered in
     let here = c.in-Err.ensures.answer in
-    let front = here.2 in
+    let prefix = here.2 in
     let worded : has_words c.in-Some.command.now ≡ true = sym c.has_words.ensures ∙ c.if-not-has_words.false in
     let before : CommandState K.State C.State = record { tables = states_of K.table K.parts K.state c.loop-command.tables; clock = C.state c.loop-command.clock } in
     let after : CommandState K.State C.State = record { tables = states_of K.table K.parts K.state c.answer_command.new.tables; clock = C.state c.answer_command.new.clock } in
-    let could = subst (λ (text : List ℕ). Answers K.answers K.refuses C.shows before c.in-Some.command.now text after) front.1.1 here.1 in (
-      so_far.0 ++ front.0,
+    let could = subst (λ (text : List ℕ). Answers K.answers K.refuses C.shows before c.in-Some.command.now text after) prefix.1.1 here.1 in (
+      so_far.0 ++ prefix.0,
       does_stop (Answers K.answers K.refuses C.shows) _ _ _ _ _ _ _ _ _ _ _ (filter_first has_words _ _ _ c.in-Some.ensures worded) so_far.1 could,
-      grown_twice _ _ _ _ _ _ so_far.2 front.2,
+      grown_twice _ _ _ _ _ _ so_far.2 prefix.2,
     )

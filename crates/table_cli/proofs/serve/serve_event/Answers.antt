@@ -7,4 +7,4 @@ pub returns-in-Ok-clause-serves : goal.returns-in-Ok-clause-serves
 returns-in-Ok-clause-serves g c =
     let K = g.K.Keeper in
     let asked = c.in-Ok.ensures.asks in
-    (asked.0, Some OutOfMemory, asks_then_no_memory K.answers K.refuses c.args.event _ _ asked.0 asked.1 _ asked.3.0 (c.in-Ok.ensures.rows c.in-Err-to_reply.ensures.memory) asked.2, refl)
+    (asked.0, Some OutOfMemory, asks_then_no_memory K.answers K.refuses c.args.event _ _ asked.0 asked.1 _ asked.3.0 (c.in-Ok.ensures.rows c.in-Err-of_reply.ensures.memory) asked.2, refl)

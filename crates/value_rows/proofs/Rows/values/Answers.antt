@@ -1,6 +1,6 @@
 use Rattle.std.proofs.Common.{◌≡◌, ◌∙◌, ap, subst, List, length}
 use Rattle.std.specs.Prelude.{IfOk}
-use Rattle.stored_data.specs.declared.values.Field.{Field}
+use Rattle.stored_data.specs.declared.values.StoredValue.{StoredValue}
 use Rattle.value_rows.proofs.CutLemmas.{lies, read-as}
 use Rattle.value_rows.proofs.Rows.values.Goals as goal
 
@@ -13,6 +13,6 @@ pub returns : goal.returns
 returns c =
     let r = c.self.inside in
     let row = rw c.as_slice.ensures.value at c.row_in-row.ensures.row in
-    subst (λ (fields : List Field). IfOk c.values.result (λ values. values ≡ fields))
+    subst (λ (fields : List StoredValue). IfOk c.values.result (λ values. values ≡ fields))
     (read-as r.columns c.columns.result.now r.count r.width c.args.at r.words.items c.row_in-row.result.now c.args.self.now c.self.view_is c.requires c.columns.ensures.columns row)
     c.values.ensures

@@ -5,7 +5,7 @@ use Rattle.rule_eval.specs.Eval.{remaining}
 use Rattle.rule_eval.specs.Left.{is_done}
 use Rattle.admit_core.specs.Conn.{Judges, progress_of, wanted}
 use Rattle.admit_core.specs.Connection.{is_asking, is_judged}
-use Rattle.admit_core.proofs.ConnLemmas.{free_for_none, heard_is, not_settled, received_same, stands_heard}
+use Rattle.admit_core.proofs.ConnLemmas.{free_for_none, heard_is, not_decided, received_same, stands_heard}
 use Rattle.admit_core.proofs.conn.Conn.take.Goals as goal
 
 pub invariant_of-self-2 : goal.invariant_of-self-2
@@ -15,7 +15,7 @@ invariant_of-self-2 g c =
     let judged : is_judged conn.phase ≡ true = sym c.is_judged.ensures ∙ c.if-not-is_judged.false in
     let none : is_none conn.given ≡ true = conn.not_given judged in
     let asked : c.asks-asked.result ≡ asked_by (remaining conn.eval []) = c.asks-asked.ensures.asked in
-    let asks : is_done (remaining conn.eval []) ≡ false = not_settled (remaining conn.eval []) c.asks-asked.result asked c.in_default.not-Settled in
+    let asks : is_done (remaining conn.eval []) ≡ false = not_decided (remaining conn.eval []) c.asks-asked.result asked c.in_default.not-Decided in
     record {
       not_given = λ _. none;
       not_held = free_for_none c.receive.new.held conn.given none;
@@ -29,7 +29,7 @@ returns-clause-progress g c =
     let judged : is_judged conn.phase ≡ true = sym c.is_judged.ensures ∙ c.if-not-is_judged.false in
     let none : is_none conn.given ≡ true = conn.not_given judged in
     let asked : c.asks-asked.result ≡ asked_by (remaining conn.eval []) = c.asks-asked.ensures.asked in
-    let asks : is_done (remaining conn.eval []) ≡ false = not_settled (remaining conn.eval []) c.asks-asked.result asked c.in_default.not-Settled in
+    let asks : is_done (remaining conn.eval []) ≡ false = not_decided (remaining conn.eval []) c.asks-asked.result asked c.in_default.not-Decided in
     heard_is (remaining conn.eval []) (progress_of conn) c.asks-asked.result c.args.reference c.receive.new.held judged asks none asked c.receive.ensures
 
 pub returns-clause-stands : goal.returns-clause-stands
@@ -39,7 +39,7 @@ returns-clause-stands g c connection stands =
     let judged : is_judged conn.phase ≡ true = sym c.is_judged.ensures ∙ c.if-not-is_judged.false in
     let none : is_none conn.given ≡ true = conn.not_given judged in
     let asked : c.asks-asked.result ≡ asked_by (remaining conn.eval []) = c.asks-asked.ensures.asked in
-    let asks : is_done (remaining conn.eval []) ≡ false = not_settled (remaining conn.eval []) c.asks-asked.result asked c.in_default.not-Settled in
+    let asks : is_done (remaining conn.eval []) ≡ false = not_decided (remaining conn.eval []) c.asks-asked.result asked c.in_default.not-Decided in
     let asking : is_asking (wanted conn) (progress_of conn) ≡ true = rw (judged, asks) refl in
     stands_heard conn _ connection c.args.answer c.args.reference stands (c.take.ensures.stands connection.setup connection.samples connection.answers stands.judges) asking
     (heard_is (remaining conn.eval []) (progress_of conn) c.asks-asked.result c.args.reference c.receive.new.held judged asks none asked c.receive.ensures)

@@ -6,7 +6,7 @@ use Rattle.world.proofs.world.World.book.Goals as goal
 
 pub book_of-requires : goal.book_of-requires
 book_of-requires g c =
-    let inside : WorldView = world_view c.self.inside.setup.now c.self.inside.tables.items c.self.inside.guests.items in
+    let inside : WorldView = world_view c.self.inside.setup.now c.self.inside.tables.items c.self.inside.visitors.items in
     let view : inside ≡ c.args.self.now = c.self.view_is in
     subst (λ tables. HasShard (table_states tables) c.args.table c.args.shard) (sym c.as_slice.ensures.value)
     (shard_there inside c.args.table c.args.shard c.self.invariant
@@ -14,6 +14,6 @@ book_of-requires g c =
 
 pub returns : goal.returns
 returns g c found at =
-    let inside : WorldView = world_view c.self.inside.setup.now c.self.inside.tables.items c.self.inside.guests.items in
+    let inside : WorldView = world_view c.self.inside.setup.now c.self.inside.tables.items c.self.inside.visitors.items in
     let view : inside ≡ c.args.self.now = c.self.view_is in
     c.book_of.ensures found (ap (λ tables. slice_get (table_states tables) c.args.table) c.as_slice.ensures.value ∙ ap (λ (v : WorldView). slice_get v.tables c.args.table) view ∙ at)

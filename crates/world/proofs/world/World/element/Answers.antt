@@ -5,7 +5,7 @@ use Rattle.world.proofs.world.World.element.Goals as goal
 
 pub invariant_of-self : goal.invariant_of-self
 invariant_of-self g c =
-    let inside : WorldView = world_view c.self.inside.setup.now c.self.inside.tables.items c.self.inside.guests.items in
-    let later : WorldView = world_view c.self.inside.setup.now c.go_on.new.tables.items c.go_on.new.guests.items in
+    let inside : WorldView = world_view c.self.inside.setup.now c.self.inside.tables.items c.self.inside.visitors.items in
+    let later : WorldView = world_view c.self.inside.setup.now c.go_on.new.tables.items c.go_on.new.visitors.items in
     let view : inside ≡ c.args.self.now = c.self.view_is in
-    reached_more inside later c.args.number c.args.moment c.go_on.result refl (subst (λ (v : WorldView). c.args.number < length v.guests) (sym view) c.requires.number) c.requires.moment c.go_on.ensures.went c.self.invariant
+    reached_more inside later c.args.number c.args.moment c.go_on.result refl (subst (λ (v : WorldView). c.args.number < length v.visitors) (sym view) c.requires.number) c.requires.moment c.go_on.ensures.went c.self.invariant

@@ -8,8 +8,8 @@ use Rattle.world.proofs.world.World.held.Goals as goal
 
 pub returns-in-Some : goal.returns-in-Some
 returns-in-Some g c visits world connection stands at =
-    c.in-Some.ensures ∙ ap (λ (p : Progress Reference). held_at p.held c.args.slot) (same_progress c.args.self.now c.self.inside.guests.items c.args.number c.index.result.now visits world connection (sym (ap (λ (v : WorldView). v.guests) c.self.view_is)) c.requires c.index.ensures stands at)
+    c.in-Some.ensures ∙ ap (λ (p : Progress Reference). held_at p.held c.args.slot) (same_progress c.args.self.now c.self.inside.visitors.items c.args.number c.index.result.now visits world connection (sym (ap (λ (v : WorldView). v.visitors) c.self.view_is)) c.requires c.index.ensures stands at)
 
 pub returns-in-None : goal.returns-in-None
 returns-in-None g c visits world connection stands at =
-    c.in-None.ensures ∙ ap (λ (p : Progress Reference). held_at p.held c.args.slot) (same_progress c.args.self.now c.self.inside.guests.items c.args.number c.index.result.now visits world connection (sym (ap (λ (v : WorldView). v.guests) c.self.view_is)) c.requires c.index.ensures stands at)
+    c.in-None.ensures ∙ ap (λ (p : Progress Reference). held_at p.held c.args.slot) (same_progress c.args.self.now c.self.inside.visitors.items c.args.number c.index.result.now visits world connection (sym (ap (λ (v : WorldView). v.visitors) c.self.view_is)) c.requires c.index.ensures stands at)

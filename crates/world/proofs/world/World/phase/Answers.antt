@@ -7,4 +7,4 @@ use Rattle.world.proofs.world.World.phase.Goals as goal
 
 pub returns : goal.returns
 returns g c visits world connection stands at =
-    c.phase.ensures ∙ ap (λ (p : Progress Reference). p.phase) (same_progress c.args.self.now c.self.inside.guests.items c.args.number c.index.result.now visits world connection (sym (ap (λ (v : WorldView). v.guests) c.self.view_is)) c.requires c.index.ensures stands at)
+    c.phase.ensures ∙ ap (λ (p : Progress Reference). p.phase) (same_progress c.args.self.now c.self.inside.visitors.items c.args.number c.index.result.now visits world connection (sym (ap (λ (v : WorldView). v.visitors) c.self.view_is)) c.requires c.index.ensures stands at)

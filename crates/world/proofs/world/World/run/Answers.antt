@@ -11,7 +11,7 @@ loop-number-preserved g c =
       | then-element w ↦ (let one : ◌≡◌ {A = ℕ} (cond c.element.result 1 0) 1 = ap (λ b. cond b 1 0) w.if-element.true in (omega (arith, one, w.refused-is), omega (arith, w.refused-is, before.few)))
       | else-element w ↦ (let none : ◌≡◌ {A = ℕ} (cond c.element.result 1 0) 0 = ap (λ b. cond b 1 0) w.if-element.false in (omega (arith, none, w.refused-is), omega (arith, w.refused-is, before.few)))
     ] in
-    let IsElement : ℕ × ℕ → Type 0 = λ element. (element.0 < length c.args.self.now.guests) × (element.1 < 2 ^ 62) in
+    let IsElement : ℕ × ℕ → Type 0 = λ element. (element.0 < length c.args.self.now.visitors) × (element.1 < 2 ^ 62) in
     let here : IsElement (get_or c.args.schedule.now c.loop-number.number-index (0, 0)) = c.requires.schedule c.loop-number.number-index (0, 0) c.loop-number-test.true in
     record {
       few = grown.1;

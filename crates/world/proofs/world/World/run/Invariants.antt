@@ -7,6 +7,6 @@ abbrev pub invariant-loop-number : goal.invariant-loop-number
 invariant-loop-number g l = record {
   few : l.refused ≤ l.number-index;
   setup : l.self.setup ≡ l.fn.self.setup;
-  count : length l.self.guests ≡ length l.fn.self.guests;
+  count : length l.self.visitors ≡ length l.fn.self.visitors;
   ran : HasRun l.fn.self (take l.number-index l.schedule) l.self l.refused;
 }
