@@ -17,3 +17,8 @@ pub mod JoinLemmas
 pub mod HomeLemmas
 pub mod ShownLemmas
 pub mod RowLemmas
+pub mod PlainLemmas
+pub mod PlainConnectionLemmas
+pub mod OneWorldLemmas
+pub mod BehindLemmas
+pub mod SettledOnceLemmas

@@ -4,3 +4,4 @@ pub mod WorldCode
 pub mod Limit
 pub mod Shown
 pub mod Schedules
+pub mod Alike

@@ -1,4 +1,5 @@
 //! What every world keeps. Each law is the contract of a function that does nothing.
+ghost use Rattle.world.specs.Alike.{OneWorldLaw};
 ghost use Rattle.world.specs.Limit.{AdmittedLimitLaw, AdmittedPassedLaw, ReferencesLaw};
 ghost use Rattle.world.specs.Schedules.{SchedulesJoinLaw};
 ghost use Rattle.world.specs.Shown.{AnsweredRowsLaw, RowsLaw};
@@ -34,4 +35,10 @@ pub fn answered_rows()
 /// Two schedules joined are one, then the other, and as many elements are refused.
 pub fn schedules_join()
     ensures { SchedulesJoinLaw }
+{}
+
+/// A schedule in which nothing is refused leads to one world, whatever slots the tables give to references: every
+/// connection had the same answers and is as far, and every shard keeps the same records.
+pub fn one_world()
+    ensures { OneWorldLaw }
 {}
