@@ -1,5 +1,5 @@
 //! What is shown of a slot's entry.
-ghost use Rattle.std.specs.Prelude.{◌≡◌, ◌+◌, ◌-◌, ◌≤◌, Some, IfOk, IsSome, map, unwrap_or};
+ghost use Rattle.std.specs.Prelude.{◌≡◌, ◌+◌, ◌-◌, ◌≤◌, Some, IfOk, IsSome, unwrap_or};
 ghost use Rattle.std.specs.Option.{option_map};
 ghost use Rattle.entry_store.specs.Stock.{Held, held_at};
 ghost use Rattle.table_model.specs.State.{row_of};

@@ -47,10 +47,33 @@ impl Model for PlainTable {
 impl PlainTable {
     ghost use Rattle.std.specs.Prelude.{◌≡◌, ◌≤◌, ◌^◌, ◌↔◌, IsTrue, IfOk, IsOk, IfErr, OnOk, OnErr, MatchOption, true, false};
     ghost use Rattle.table_model.specs.State.{empty_table};
+    ghost use Rattle.stick_table.specs.Invariant.{IsBounded};
     ghost use Rattle.table_model.specs.Limits.{IsTableEvent};
     ghost use Rattle.table_model.specs.Refusals.{IsRefused, has_life as has_life_for, takes_memory};
     ghost use Rattle.table_model.specs.Run.{CanRedo, redone};
     ghost use Rattle.table_model.specs.Step.{Step, MayTrack, is_out as is_event_out, is_free_slot, after};
+
+    /// A table of these parts: its records in the order of their keys, and its outstanding references, the oldest first.
+    pub fn from_parts(
+        alloc: Global,
+        spec: Spec,
+        clock: u64,
+        events: u64,
+        records: Vec<(StickKey, Record)>,
+        tickets: Vec<(Ticket, StickKey)>,
+    ) -> PlainTable
+        requires { IsBounded spec clock events tickets.items }
+        ensures { result ≡ record { spec = spec; clock = clock; events = events; records = records.items; tickets = tickets.items } }
+    {
+        PlainTable {
+            alloc,
+            spec,
+            clock,
+            events,
+            records,
+            tickets,
+        }
+    }
 
     /// How many events it has counted.
     pub fn events(&self) -> u64

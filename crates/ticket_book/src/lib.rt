@@ -1,7 +1,10 @@
 //! The references that are out: each has a ticket, and names the slot of its entry.
 #![tactic(auto)]
 
+mod numbers;
+
 use entry_pool::Pool;
+use numbers::by_number;
 use sequence::NoMemory;
 use slot_handle::Handle;
 use std::alloc::Global;
@@ -88,5 +91,16 @@ impl TicketBook {
             generation: ticket.number,
         };
         self.places.remove(handle)
+    }
+
+    /// The tickets that are out, each with the slot of its entry, the oldest first.
+    pub fn to_vec(&self, alloc: Global) -> Result<Vec<(Ticket, u32)>, NoMemory>
+        ensures { IfOk result (λ tickets. tickets.items ≡ self.now.tickets) }
+    {
+        let mut tickets = Vec::new(alloc);
+        for (number, (slot, entry)) in by_number(alloc, &self.places)? {
+            tickets.push((Ticket { number, slot }, entry))?;
+        }
+        Ok(tickets)
     }
 }
