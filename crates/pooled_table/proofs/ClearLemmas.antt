@@ -1,7 +1,6 @@
 -- What a table keeps where entries go that no reference holds.
 use Rattle.std.proofs.Common.{◌≡◌, ◌≢◌, ℕ, ◌+◌, ◌-◌, ◌<◌, ◌⊎◌, inl, inr, refl, sym, ◌∙◌, ap, subst, arith, List, filter, map, length, Bool, true, false, not, Option, Some, None, count_by}
 use Rattle.std.specs.Prelude.{nat_lt, ◌&&◌, if◌then◌else◌}
-use Rattle.std.specs.List.{AllByRecursion}
 use Rattle.std.specs.Option.{option_map, option_map_or}
 use Rattle.std.specs.Cmp.Lexicographic.{nat_list_cmp_total}
 use Rattle.std.proofs.lemmas.Bool.{false≢true, cases_eq}
@@ -16,10 +15,8 @@ use Rattle.entry_store.proofs.StockLemmas.{none_some, same_some}
 use Rattle.entry_store.proofs.SlotLemmas.{sorted-entries, filter-all}
 use Rattle.entry_store.proofs.CountLemmas.{all-entries, filter-one}
 use Rattle.ticket_book.specs.Tickets.{Tickets}
-use Rattle.stick_table.specs.Invariant.{IsBounded}
 use Rattle.table_model.specs.Filters.{is_matched}
 use Rattle.table_model.specs.Key.{Key, key_cmp}
-use Rattle.table_model.specs.State.{refs}
 use Rattle.table_model.specs.Step.{cleared}
 use Rattle.table_model.specs.declared.filters.Filter.{Filter}
 use Rattle.table_model.specs.declared.replies.Reply.TheVariants.{Cleared}

@@ -19,3 +19,4 @@ pub mod ClearLemmas
 pub mod ListingLemmas
 pub mod LookLemmas
 pub mod TrackedLemmas
+pub mod DispatchLemmas

@@ -1,10 +1,9 @@
 -- What a look is answered.
-use Rattle.std.proofs.Common.{◌≡◌, ℕ, ◌+◌, ◌<◌, ◌≤◌, refl, sym, ◌∙◌, ap, subst, arith, List, [], ◌∷◌, filter, map, Bool, true, false, cond, Option, Some, None, is_some, IsSome}
-use Rattle.std.specs.Prelude.{nat_lt, ◌||◌}
+use Rattle.std.proofs.Common.{◌≡◌, ℕ, refl, sym, ◌∙◌, ap, List, [], ◌∷◌, filter, map, Bool, true, false, cond, Option, Some, None}
+use Rattle.std.specs.Prelude.{◌||◌}
 use Rattle.std.specs.BTreeMap.{is_at}
 use Rattle.std.specs.Cmp.{IsTotalOrder}
 use Rattle.std.specs.Cmp.Lexicographic.{nat_list_cmp_total}
-use Rattle.std.specs.List.{AllByRecursion}
 use Rattle.std.specs.List.Sorted.{IsStrictlySortedBy}
 use Rattle.std.specs.Map.{keys_of, lookup}
 use Rattle.std.specs.Option.{option_map, option_map_or}
@@ -12,14 +11,13 @@ use Rattle.std.specs.Ordering.{is_eq}
 use Rattle.std.specs.declared.cmp.Ordering.{Ordering}
 use Rattle.std.specs.declared.cmp.Ordering.TheVariants.{Less, Equal, Greater}
 use Rattle.std.proofs.lemmas.Map.Lookups.{exact_bytes}
-use Rattle.slot_handle.specs.declared.Handle.{Handle}
-use Rattle.entry_store.specs.Stock.{Held, Stock, IsAt, IsAbsent, held_at}
+use Rattle.entry_store.specs.Stock.{Held, Stock, IsAbsent, held_at}
 use Rattle.entry_store.proofs.StockLemmas.{none_some, same_some}
 use Rattle.entry_store.proofs.SlotLemmas.{sorted-entries, missing, level}
 use Rattle.ticket_book.specs.Tickets.{Tickets, entry_of}
 use Rattle.stick_table.specs.Replies.{shown_reply, looked_reply}
-use Rattle.table_model.specs.Key.{Key, key_cmp, same_key}
-use Rattle.table_model.specs.State.{State, refs, record_at, row_of, same_ticket, outlives, stays}
+use Rattle.table_model.specs.Key.{Key, key_cmp}
+use Rattle.table_model.specs.State.{refs, record_at, row_of, same_ticket, outlives, stays}
 use Rattle.table_model.specs.declared.replies.Reply.{Reply}
 use Rattle.table_model.specs.declared.replies.Reply.TheVariants.{Absent, Row as ARow}
 use Rattle.table_model.specs.declared.rows.Ticket.{Ticket}
@@ -30,7 +28,7 @@ use Rattle.table_model.proofs.EntryLemmas.{all-filter}
 use Rattle.table_model.proofs.TestLemmas.{lt-to}
 use Rattle.pooled_table.specs.Seen.{is_kept}
 use Rattle.pooled_table.specs.Shown.{record_of, keyed, records_of}
-use Rattle.pooled_table.specs.Table.{key_in, with_key, tickets_of, state_of, IsTable}
+use Rattle.pooled_table.specs.Table.{key_in, tickets_of, state_of, IsTable}
 use Rattle.pooled_table.proofs.CountLemmas.{lookup-keys}
 use Rattle.pooled_table.proofs.RecordLemmas.{lookup-at}
 use Rattle.pooled_table.proofs.ReleaseLemmas.{release-some}

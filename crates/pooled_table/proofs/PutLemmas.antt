@@ -1,5 +1,5 @@
 -- Data that are put.
-use Rattle.std.proofs.Common.{◌≡◌, ◌≢◌, ℕ, ◌+◌, ◌<◌, refl, sym, ◌∙◌, ap, subst, arith, List, [], ◌∷◌, length, not, true, false, Option, Some, None, is_some}
+use Rattle.std.proofs.Common.{◌≡◌, ℕ, ◌+◌, ◌<◌, sym, ◌∙◌, ap, List, length, not, true, false, Option, Some, None, is_some}
 use Rattle.std.specs.Option.{option_map_or}
 use Rattle.entry_store.specs.Stock.{Held, Stock, held_at}
 use Rattle.ticket_book.specs.Tickets.{Tickets}
@@ -16,7 +16,7 @@ use Rattle.pooled_table.specs.Space.{IsRoomy, IsFull}
 use Rattle.pooled_table.specs.Table.{tickets_of, state_of, IsTable}
 use Rattle.pooled_table.proofs.RecordLemmas.{lookup-at}
 use Rattle.pooled_table.proofs.TicketLemmas.{next-same}
-use Rattle.pooled_table.proofs.StoreLemmas.{changed, new-there, there-tickets, there-held, there-table, there-stored, full-stored, newly, newly-tickets, newly-held, newly-table, none-out, new-made, made-table, made-stored}
+use Rattle.pooled_table.proofs.StoreLemmas.{new-there, there-tickets, there-held, there-table, there-stored, full-stored, newly, newly-tickets, newly-held, newly-table, none-out, new-made, made-table, made-stored}
 
 -- ---- the definition's cases
 module _ (state : State) (key : Key) (pairs : List Cell) where

@@ -1,33 +1,21 @@
 -- An entry that is refreshed comes to the back of the queue, or, where references hold it, out of it.
-use Rattle.std.proofs.Common.{◌≡◌, ◌≢◌, ℕ, ◌+◌, ◌-◌, ◌<◌, ◌≤◌, ◌⊎◌, inl, inr, refl, sym, ◌∙◌, ap, subst, arith, List, [], ◌∷◌, length, map, filter, set, Bool, true, false, cond, not, Option, Some, None, is_some, IsSome, unwrap_or}
+use Rattle.std.proofs.Common.{◌≡◌, ◌≢◌, ℕ, ◌+◌, refl, sym, ◌∙◌, ap, arith, Bool, true, false, Option, Some, None}
 use Rattle.std.specs.Option.{option_map, option_map_or}
-use Rattle.std.specs.Map.{lookup, set_value}
-use Rattle.std.specs.List.{AllByRecursion}
-use Rattle.std.proofs.lemmas.Bool.{false≢true}
 use Rattle.std.proofs.lemmas.List.{get_or-set_same, get_or-set_other, length-set}
 use Rattle.entry_pool.proofs.SlotLemmas.{get_within}
 use Rattle.expiry_order.specs.Queue.{without}
-use Rattle.entry_store.specs.Stock.{Held, Stock, IsStock, held_at, with_entry}
+use Rattle.entry_store.specs.Stock.{Held, Stock, held_at, with_entry}
 use Rattle.entry_store.specs.declared.entry.Entry.{Entry}
-use Rattle.entry_store.proofs.StockLemmas.{none_some, same_some, refreshed}
-use Rattle.ticket_book.specs.Tickets.{Tickets, entry_of, without_ticket}
+use Rattle.entry_store.proofs.StockLemmas.{same_some, refreshed}
+use Rattle.ticket_book.specs.Tickets.{Tickets}
 use Rattle.table_model.specs.Key.{Key, same_key}
-use Rattle.table_model.specs.State.{State, refs, key_of, same_ticket, record_at, zero_record, touched}
-use Rattle.table_model.specs.Step.{Outcome, release, released_at}
-use Rattle.table_model.specs.declared.replies.Reply.TheVariants.{Absent, Released}
-use Rattle.table_model.specs.declared.rows.Ticket.{Ticket}
-use Rattle.table_model.specs.declared.rows.Record.{Record}
+use Rattle.table_model.specs.State.{refs}
 use Rattle.table_model.specs.declared.specification.Spec.{Spec}
-use Rattle.table_model.proofs.KeyLemmas.{same_key-refl, same_key-exact}
-use Rattle.pooled_table.specs.Shown.{record_of, records_of, stamp_at, moment_at, IsRising}
-use Rattle.pooled_table.specs.Steps.{with_event}
-use Rattle.pooled_table.specs.Table.{key_in, with_key, tickets_of, state_of, IsTable}
-use Rattle.pooled_table.proofs.RecordLemmas.{lookup-at}
-use Rattle.pooled_table.proofs.CountLemmas.{lookup-keys}
+use Rattle.table_model.proofs.KeyLemmas.{same_key-exact}
+use Rattle.pooled_table.specs.Shown.{stamp_at, moment_at, IsRising}
+use Rattle.pooled_table.specs.Table.{tickets_of, IsTable}
 use Rattle.pooled_table.proofs.RisingLemmas.{rising-fewer, others-left, rising-entered}
-use Rattle.pooled_table.proofs.WriteLemmas.{AreNext, IsWritten, stamps-past, tickets-written, held-written, written-table}
-use Rattle.pooled_table.proofs.StoredLemmas.{rewritten-records}
-use Rattle.pooled_table.proofs.TicketLemmas.{drop-keys, refs-less, next-fewer}
+use Rattle.pooled_table.proofs.WriteLemmas.{AreNext, IsWritten, stamps-past, written-table}
 
 -- an entry refreshed by the event that comes next, with so many references
 abbrev pub fresh : ℕ → ℕ → ℕ → Entry

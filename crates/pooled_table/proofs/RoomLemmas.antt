@@ -1,10 +1,10 @@
 -- Room for one more entry: the front of the queue is the oldest of those that no reference holds.
-use Rattle.std.proofs.Common.{◌≡◌, ◌≢◌, ℕ, zero, suc, ◌+◌, ◌<◌, ◌≤◌, ◌⊎◌, inl, inr, refl, sym, ◌∙◌, ap, subst, arith, List, [], ◌∷◌, length, map, filter, get_or, count_by, Bool, true, false, cond, not, ◌&&◌, ◌||◌, nat_lt, Option, Some, None}
+use Rattle.std.proofs.Common.{◌≡◌, ◌≢◌, ℕ, zero, suc, ◌+◌, ◌<◌, ◌≤◌, ◌⊎◌, inl, inr, refl, sym, ◌∙◌, ap, subst, arith, List, [], ◌∷◌, length, map, get_or, count_by, Bool, true, false, cond, not, ◌&&◌, ◌||◌, nat_lt, Option, Some, None}
 use Rattle.std.specs.Prelude.{slice_get}
-use Rattle.std.specs.List.{AllByRecursion, Contains, list_all}
+use Rattle.std.specs.List.{AllByRecursion, list_all}
 use Rattle.std.specs.Map.{lookup}
 use Rattle.std.specs.Option.{option_map, option_map_or}
-use Rattle.std.proofs.lemmas.Bool.{cases_eq, false≢true, true≢false}
+use Rattle.std.proofs.lemmas.Bool.{cases_eq}
 use Rattle.std.proofs.lemmas.Bool.Decides.{nat_tests}
 use Rattle.std.proofs.lemmas.List.{length-set}
 use Rattle.std.proofs.lemmas.List.Sums.{sum_by-cons, count_by-le-length}
@@ -16,13 +16,13 @@ use Rattle.entry_store.proofs.CountLemmas.{all-entries}
 use Rattle.stick_table.proofs.EntryLemmas.{fewer_without}
 use Rattle.stick_table.proofs.PurgeLemmas.{filter-same}
 use Rattle.table_model.specs.Key.{Key, key_cmp, same_key}
-use Rattle.table_model.specs.State.{refs, is_tracked}
+use Rattle.table_model.specs.State.{is_tracked}
 use Rattle.table_model.specs.Room.{count_older, is_purged, purged, all_tracked, room_in}
 use Rattle.table_model.specs.declared.rows.Ticket.{Ticket}
 use Rattle.table_model.specs.declared.rows.Record.{Record}
 use Rattle.table_model.specs.declared.specification.Spec.{Spec}
 use Rattle.table_model.proofs.KeyLemmas.{same_key-refl, same_key-exact}
-use Rattle.pooled_table.specs.Shown.{record_of, keyed, records_of, AreCounted, stamp_at, moment_at, IsRising, IsLeft}
+use Rattle.pooled_table.specs.Shown.{record_of, keyed, records_of, AreCounted, stamp_at, moment_at, IsRising}
 use Rattle.pooled_table.specs.Space.{IsRoomy, IsFull}
 use Rattle.pooled_table.proofs.RecordLemmas.{held-from, lookup-at, records-without, rising-without, first-queued}
 use Rattle.pooled_table.proofs.TableLemmas.{free-left, records-length}

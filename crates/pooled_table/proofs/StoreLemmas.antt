@@ -1,5 +1,5 @@
 -- An event that changes the data of a key's entry and refreshes it, or makes it first where there is room.
-use Rattle.std.proofs.Common.{◌≡◌, ◌≢◌, ℕ, ◌+◌, ◌<◌, ◌≤◌, refl, sym, ◌∙◌, ap, subst, arith, List, [], ◌∷◌, length, map, set, Bool, true, false, cond, Option, Some, None, is_some, IsSome, unwrap_or}
+use Rattle.std.proofs.Common.{◌≡◌, ◌≢◌, ℕ, ◌+◌, ◌<◌, refl, sym, ◌∙◌, ap, arith, List, [], ◌∷◌, length, map, set, Bool, true, false, cond, Option, Some, None, is_some, IsSome, unwrap_or}
 use Rattle.std.specs.BTreeMap.{insert_entry}
 use Rattle.std.specs.List.{AllByRecursion}
 use Rattle.std.specs.Option.{option_map, option_map_or}
@@ -10,7 +10,7 @@ use Rattle.stored_data.specs.Acts.{zero_of}
 use Rattle.stored_data.specs.declared.values.StoredValue.{StoredValue}
 use Rattle.entry_pool.proofs.SlotLemmas.{get_within}
 use Rattle.entry_store.specs.Stock.{Held, Stock, IsStock, IsAbsent, held_at, with_entry, with_values, with_inserted}
-use Rattle.entry_store.proofs.StockLemmas.{none_some, same_some, inserted, not_queued}
+use Rattle.entry_store.proofs.StockLemmas.{none_some, inserted, not_queued}
 use Rattle.ticket_book.specs.Tickets.{Tickets}
 use Rattle.table_model.specs.Key.{Key, key_cmp, same_key}
 use Rattle.table_model.specs.State.{State, refs, record_at, zero_record, touched}
@@ -19,13 +19,13 @@ use Rattle.table_model.specs.Room.{room_in, stored}
 use Rattle.table_model.specs.declared.rows.Ticket.{Ticket}
 use Rattle.table_model.specs.declared.rows.Record.{Record}
 use Rattle.table_model.specs.declared.specification.Spec.{Spec}
-use Rattle.table_model.proofs.KeyLemmas.{same_key-refl, same_key-exact}
+use Rattle.table_model.proofs.KeyLemmas.{same_key-exact}
 use Rattle.pooled_table.specs.Shown.{record_of, records_of, stamp_at, moment_at, IsRising}
 use Rattle.pooled_table.specs.Space.{IsRoomy, IsFull}
 use Rattle.pooled_table.specs.Table.{key_in, with_key, tickets_of, state_of, IsTable}
 use Rattle.pooled_table.proofs.RecordLemmas.{lookup-at}
 use Rattle.pooled_table.proofs.TableLemmas.{left-table, left-tickets}
-use Rattle.pooled_table.proofs.ChangeLemmas.{AreAlike, alike-values, tickets-alike, values-table}
+use Rattle.pooled_table.proofs.ChangeLemmas.{alike-values, tickets-alike, values-table}
 use Rattle.pooled_table.proofs.RisingLemmas.{others-absent, rising-entered}
 use Rattle.pooled_table.proofs.WriteLemmas.{AreNext, IsWritten, stamps-past, tickets-written, held-written, written-table}
 use Rattle.pooled_table.proofs.StoredLemmas.{replaced-records, inserted-records}

@@ -1,7 +1,7 @@
 -- The tickets that are out once an event is counted: the same, one less, or one more.
-use Rattle.std.proofs.Common.{◌≡◌, ◌≢◌, ℕ, ◌+◌, ◌<◌, ◌≤◌, refl, sym, ◌∙◌, ap, subst, arith, List, [], ◌∷◌, ◌++◌, length, map, filter, Bool, true, false, cond, not, Option, Some, None, is_some, IsSome}
+use Rattle.std.proofs.Common.{◌≡◌, ◌≢◌, ℕ, ◌+◌, ◌<◌, ◌≤◌, refl, sym, ◌∙◌, ap, subst, arith, List, [], ◌∷◌, ◌++◌, length, map, filter, Bool, true, false, cond, not, Some, None, is_some, IsSome}
 use Rattle.std.specs.Prelude.{nat_eq, ◌&&◌}
-use Rattle.std.specs.List.{AllByRecursion, IsDistinct, list_all}
+use Rattle.std.specs.List.{AllByRecursion, IsDistinct}
 use Rattle.std.specs.Map.{lookup}
 use Rattle.std.proofs.lemmas.Bool.Decides.{nat_tests}
 use Rattle.std.proofs.lemmas.List.{length-map, map-append}
@@ -9,7 +9,7 @@ use Rattle.std.proofs.lemmas.List.Sums.{sum_by-cons, sum_by-append}
 use Rattle.std.proofs.lemmas.List.Folds.{list_all-map}
 use Rattle.entry_store.specs.Stock.{Held, Stock, held_at}
 use Rattle.entry_store.proofs.StockLemmas.{none_some, same_some}
-use Rattle.ticket_book.specs.Tickets.{Tickets, entry_of, is_unused, told, with_ticket, without_ticket}
+use Rattle.ticket_book.specs.Tickets.{Tickets, entry_of, is_unused, with_ticket, without_ticket}
 use Rattle.stick_table.specs.Invariant.{IsBounded}
 use Rattle.stick_table.proofs.EntryLemmas.{fewer_without}
 use Rattle.table_model.specs.Key.{Key, same_key}
@@ -17,11 +17,10 @@ use Rattle.table_model.specs.State.{refs, same_ticket, is_free}
 use Rattle.table_model.specs.declared.rows.Ticket.{Ticket}
 use Rattle.table_model.specs.declared.specification.Spec.{Spec}
 use Rattle.table_model.proofs.EntryLemmas.{all-filter, distinct-filter, all-push, distinct-push}
-use Rattle.table_model.proofs.StepLemmas.{AllByRecursion-implies}
-use Rattle.table_model.proofs.TestLemmas.{and-left, eq-from}
-use Rattle.pooled_table.specs.Table.{key_in, with_key, number_of, tickets_of, state_of, IsTable}
+use Rattle.table_model.proofs.TestLemmas.{and-left}
+use Rattle.pooled_table.specs.Table.{key_in, with_key, number_of, tickets_of, IsTable}
 use Rattle.pooled_table.proofs.TableLemmas.{later-numbers}
-use Rattle.pooled_table.proofs.WriteLemmas.{AreNext, IsWritten, tickets-written, held-written}
+use Rattle.pooled_table.proofs.WriteLemmas.{AreNext}
 
 module _ (spec : Spec) (clock events : ℕ) (s : Stock) (book : Tickets) (table : IsTable spec clock events s book) where
   -- ---- the same

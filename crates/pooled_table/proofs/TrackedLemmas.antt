@@ -1,20 +1,19 @@
 -- What is shown of a key that is tracked once more.
-use Rattle.std.proofs.Common.{◌≡◌, ℕ, ◌+◌, ◌-◌, ◌<◌, ◌≤◌, refl, sym, ◌∙◌, ap, subst, arith, List, [], ◌∷◌, length, filter, map, Bool, true, false, cond, Option, Some, None, unwrap_or}
+use Rattle.std.proofs.Common.{◌≡◌, ℕ, ◌+◌, ◌-◌, refl, sym, ◌∙◌, ap, subst, List, [], ◌∷◌, filter, map, Bool, true, false, cond, Option, Some, None, unwrap_or}
 use Rattle.std.specs.Prelude.{max}
 use Rattle.std.specs.BTreeMap.{is_at}
 use Rattle.std.specs.List.{AllByRecursion}
 use Rattle.std.specs.Map.{lookup}
-use Rattle.std.specs.Option.{option_map, option_map_or}
+use Rattle.std.specs.Option.{option_map}
 use Rattle.std.specs.Ordering.{is_eq}
 use Rattle.std.specs.declared.cmp.Ordering.{Ordering}
 use Rattle.std.specs.declared.cmp.Ordering.TheVariants.{Less, Equal, Greater}
-use Rattle.std.proofs.lemmas.List.{length-map}
 use Rattle.std.proofs.lemmas.Map.Lookups.{exact_bytes}
 use Rattle.stored_data.specs.Acts.{acted}
 use Rattle.stored_data.specs.declared.act.Act.TheVariants.{Connection}
 use Rattle.stored_data.specs.declared.values.StoredValue.{StoredValue}
 use Rattle.slot_handle.specs.declared.Handle.{Handle}
-use Rattle.entry_store.specs.Stock.{Held, Stock, IsAt, IsAbsent, held_at}
+use Rattle.entry_store.specs.Stock.{Stock, IsAt, IsAbsent}
 use Rattle.entry_store.proofs.CountLemmas.{all-entries}
 use Rattle.ticket_book.specs.Tickets.{Tickets}
 use Rattle.table_model.specs.Key.{Key, key_cmp}
@@ -23,11 +22,10 @@ use Rattle.table_model.specs.Step.{begun, connected}
 use Rattle.table_model.specs.declared.rows.Cell.{Cell}
 use Rattle.table_model.specs.declared.rows.Record.{Record}
 use Rattle.table_model.specs.declared.rows.Row.{Row}
-use Rattle.table_model.specs.declared.rows.Ticket.{Ticket}
 use Rattle.table_model.specs.declared.specification.Spec.{Spec}
-use Rattle.pooled_table.specs.Seen.{is_kept, IsLive, IsGone, cells_of}
+use Rattle.pooled_table.specs.Seen.{IsLive, IsGone, cells_of}
 use Rattle.pooled_table.specs.Shown.{record_of, keyed, records_of}
-use Rattle.pooled_table.specs.Table.{with_key, tickets_of, state_of, IsTable}
+use Rattle.pooled_table.specs.Table.{tickets_of, IsTable}
 use Rattle.pooled_table.proofs.LookLemmas.{live-record}
 use Rattle.pooled_table.proofs.RecordLemmas.{held-from}
 use Rattle.pooled_table.proofs.SeenLemmas.{kept-is}

@@ -1,13 +1,11 @@
 -- What a table keeps where an event writes one slot.
-use Rattle.std.proofs.Common.{◌≡◌, ◌≢◌, ℕ, ◌+◌, ◌<◌, ◌≤◌, ◌⊎◌, inl, inr, refl, sym, ◌∙◌, ap, subst, arith, List, [], ◌∷◌, length, map, set, Option, Some, None, is_some, IsSome}
+use Rattle.std.proofs.Common.{◌≡◌, ◌≢◌, ℕ, ◌+◌, ◌≤◌, ◌⊎◌, inl, inr, refl, sym, ◌∙◌, ap, subst, arith, List, [], ◌∷◌, length, map, Option, Some, None, is_some, IsSome}
 use Rattle.std.specs.Prelude.{nat_eq}
 use Rattle.std.specs.List.{AllByRecursion, IsDistinct}
-use Rattle.std.specs.Option.{option_map, option_map_or}
+use Rattle.std.specs.Option.{option_map_or}
 use Rattle.std.proofs.lemmas.Bool.{cases_eq, true≢false}
-use Rattle.std.proofs.lemmas.List.{get_or-set_same, get_or-set_other, length-set}
 use Rattle.entry_store.specs.Stock.{Held, Stock, IsStock, held_at}
-use Rattle.entry_store.specs.declared.entry.Entry.{Entry}
-use Rattle.entry_store.proofs.StockLemmas.{none_some, same_some}
+use Rattle.entry_store.proofs.StockLemmas.{same_some}
 use Rattle.ticket_book.specs.Tickets.{Tickets}
 use Rattle.stick_table.specs.Invariant.{IsBounded}
 use Rattle.table_model.specs.Key.{Key}

@@ -3,6 +3,7 @@
 
 mod clearing;
 mod entries;
+mod events;
 mod expiry;
 mod filters;
 mod listing;
@@ -15,16 +16,16 @@ mod rows;
 mod tracked;
 mod tracking;
 
-ghost use Rattle.std.specs.Prelude.{◌≡◌};
-
 use entry_store::Store;
 use sequence::NoMemory;
 use std::alloc::Global;
 use std::marker::Model;
-use table_model::Spec;
+use stick_table::{PlainTable, Table};
+use table_model::{Event, Refusal, Reply, Spec};
 use ticket_book::TicketBook;
 
-/// A table whose every event costs the same whatever its size.
+/// A table whose every event costs the same whatever its size. `open` takes the memory of its whole size; after it only
+/// replies and keys take some.
 #[derive(Drop)]
 pub struct StickTable {
     alloc: Global,
@@ -46,16 +47,10 @@ impl Model for StickTable {
     ghost invariant = { λ t. IsTable t.spec t.clock t.events t.store t.book };
 }
 
-impl StickTable {
-    ghost use Rattle.std.specs.Prelude.{◌≡◌, IfOk};
-    ghost use Rattle.table_model.specs.State.{empty_table};
-    ghost use Rattle.table_model.specs.Limits.{IsTableSpec};
+impl Table for StickTable {
+    ghost state = { λ table. table };
 
-    /// An empty table, whose clock is at 0 and which has counted no event. It takes the memory of its whole size.
-    pub fn open(alloc: Global, spec: Spec) -> Result<StickTable, NoMemory>
-        requires { IsTableSpec spec }
-        ensures { IfOk result (λ table. table ≡ empty_table spec) }
-    {
+    fn open(alloc: Global, spec: Spec) -> Result<Self, NoMemory> {
         let columns = spec.columns.copy()?;
         let store = Store::open(alloc, spec.size, columns, spec.seed)?;
         let book = TicketBook::new(alloc, spec.max_refs)?;
@@ -67,5 +62,33 @@ impl StickTable {
             store,
             book,
         })
+    }
+
+    fn spec(&self) -> &Spec {
+        &self.spec
+    }
+
+    fn step(&mut self, event: &Event) -> Result<Reply, Refusal> {
+        if let Some(refusal) = self.refusal(event) {
+            return Err(refusal);
+        }
+        match self.answer(event) {
+            Ok(reply) => Ok(reply),
+            Err(_) => Err(Refusal::Memory),
+        }
+    }
+
+    fn step_twice(&mut self, event: &Event) -> Result<(Reply, Reply), Refusal> {
+        if let Some(refusal) = self.refusal(event) {
+            return Err(refusal);
+        }
+        match self.answer_twice(event) {
+            Ok(replies) => Ok(replies),
+            Err(_) => Err(Refusal::Memory),
+        }
+    }
+
+    fn to_plain(&self) -> Result<PlainTable, NoMemory> {
+        self.copy_to_plain()
     }
 }

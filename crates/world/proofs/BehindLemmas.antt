@@ -17,8 +17,8 @@ use Rattle.admit_core.specs.declared.need.Need.{Need}
 use Rattle.admit_core.specs.declared.need.Need.TheVariants as needs
 use Rattle.admit_core.specs.declared.need.Phase.{Phase}
 use Rattle.admit_core.specs.declared.need.Phase.TheVariants.{New, Judging, Admitted, Rejected, Ended}
-use Rattle.world.specs.Calls.{call_of, heard}
-use Rattle.world.specs.declared.reference.Reference.{Reference}
+use Rattle.connection_drive.specs.Calls.{call_of, heard}
+use Rattle.connection_drive.specs.declared.reference.Reference.{Reference}
 use Rattle.world.proofs.OneWorldLemmas.{Moved, View, quiet_of}
 
 abbrev pub as_told : Samples → List Answer → Connection Reference → Connection Reference

@@ -21,4 +21,4 @@ pub mod PlainLemmas
 pub mod PlainConnectionLemmas
 pub mod OneWorldLemmas
 pub mod BehindLemmas
-pub mod SettledOnceLemmas
+pub mod RestOnceLemmas

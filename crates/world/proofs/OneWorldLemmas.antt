@@ -13,16 +13,16 @@ use Rattle.admit_core.specs.Connection.{Connection, need, turned}
 use Rattle.admit_core.specs.declared.need.Need.{Need}
 use Rattle.admit_core.specs.declared.need.Need.TheVariants as needs
 use Rattle.world.specs.Alike.{OneWorldLaw}
-use Rattle.world.specs.Calls.{AnswersAt, call_of, heard}
-use Rattle.world.specs.Moves.{Makes, Moves, MovesBy}
-use Rattle.world.specs.Tables.{AreTablesOf, TableState, shard_at}
+use Rattle.connection_drive.specs.Calls.{AnswersAt, call_of, heard}
+use Rattle.connection_drive.specs.Moves.{Makes, Moves, MovesBy}
+use Rattle.connection_drive.specs.Tables.{AreTablesOf, TableState, shard_at}
 use Rattle.world.specs.World.{Element, Elements, IsSchedule, WorldState, begun, unless_resting, woken}
-use Rattle.world.specs.declared.call.Call.{Call}
-use Rattle.world.specs.declared.reference.Reference.{Reference}
+use Rattle.connection_drive.specs.declared.call.Call.{Call}
+use Rattle.connection_drive.specs.declared.reference.Reference.{Reference}
 use Rattle.world.specs.declared.visit.Visit.{Visit}
-use Rattle.world.proofs.CountLemmas.{some_same}
-use Rattle.world.proofs.HereLemmas.{legal_at}
-use Rattle.world.proofs.PlaceLemmas.{after_of, before_of, replaces, step_of}
+use Rattle.connection_drive.proofs.SumLemmas.{some_same}
+use Rattle.connection_drive.proofs.CallLemmas.{legal_at}
+use Rattle.connection_drive.proofs.ShardLemmas.{after_of, before_of, replaces, step_of}
 use Rattle.world.proofs.PlainConnectionLemmas.{call_asked, call_plain, heard_plain, need_plain, plain_call, plain_connection, plain_held}
 use Rattle.world.proofs.PlainLemmas.{plain, plain_event, plain_reply, step_plain}
 use Rattle.world.proofs.WorldLemmas.{IsWorld, begun_world, element_world}

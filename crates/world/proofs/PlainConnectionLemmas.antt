@@ -20,9 +20,9 @@ use Rattle.admit_core.specs.declared.need.Need.{Need}
 use Rattle.admit_core.specs.declared.need.Need.TheVariants as needs
 use Rattle.admit_core.specs.declared.need.Phase.{Phase}
 use Rattle.admit_core.specs.declared.need.Phase.TheVariants.{New, Judging, Admitted, Rejected, Ended}
-use Rattle.world.specs.Calls.{call_by, call_of, heard}
-use Rattle.world.specs.declared.call.Call.{Call}
-use Rattle.world.specs.declared.reference.Reference.{Reference}
+use Rattle.connection_drive.specs.Calls.{call_by, call_of, heard}
+use Rattle.connection_drive.specs.declared.call.Call.{Call}
+use Rattle.connection_drive.specs.declared.reference.Reference.{Reference}
 use Rattle.world.proofs.PlainLemmas.{is_asked, plain_event, plain_reply, plain_ticket}
 
 -- ---- without slots

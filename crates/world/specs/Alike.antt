@@ -9,10 +9,10 @@ use Rattle.rule_eval.specs.declared.wants.Answer.{Answer}
 use Rattle.admit_core.specs.Connection.{Connection, need}
 use Rattle.admit_core.specs.Left.{is_still}
 use Rattle.admit_core.specs.declared.need.Phase.{Phase}
-use Rattle.world.specs.Moves.{Moves}
-use Rattle.world.specs.Tables.{CanOpen, TableState, shard_at}
+use Rattle.connection_drive.specs.Moves.{Moves}
+use Rattle.connection_drive.specs.Tables.{CanOpen, TableState, shard_at}
 use Rattle.world.specs.World.{Elements, IsSchedule, WorldState, begun}
-use Rattle.world.specs.declared.reference.Reference.{Reference}
+use Rattle.connection_drive.specs.declared.reference.Reference.{Reference}
 use Rattle.world.specs.declared.visit.Visit.{Visit}
 
 -- the answers that each connection's rules had, and how far each is
@@ -46,7 +46,7 @@ GoesUnrefused now (suc count) old connection new after =
     (middle : List TableState) × (next : Connection Reference) × Moves now old connection middle next false × GoesUnrefused now count middle next new after
 
 -- and so until it rests or is finished
-pub record SettlesUnrefused (now : ℕ) (old : List TableState) (connection : Connection Reference) (new : List TableState) (after : Connection Reference) : Type 0 where
+pub record ComesToRestUnrefused (now : ℕ) (old : List TableState) (connection : Connection Reference) (new : List TableState) (after : Connection Reference) : Type 0 where
   pub count : ℕ
   pub goes : GoesUnrefused now count old connection new after
   pub still : is_still (need after) ≡ true

@@ -1,4 +1,4 @@
-use Rattle.std.proofs.Common.{◌≡◌, ◌+◌, ◌<◌, ◌≤◌, sym, subst, ap, ◌∙◌, length, true, Option, Some, None}
+use Rattle.std.proofs.Common.{◌≡◌, ◌+◌, ◌<◌, ◌≤◌, sym, subst, ap, ◌∙◌, length, Some, None}
 use Rattle.entry_store.specs.Stock.{Stock, with_values}
 use Rattle.ticket_book.specs.Tickets.{Tickets}
 use Rattle.stick_table.specs.References.{entered}
@@ -8,7 +8,7 @@ use Rattle.pooled_table.specs.Shown.{records_of}
 use Rattle.pooled_table.specs.Steps.{with_event}
 use Rattle.pooled_table.specs.Table.{state_of, IsTable}
 use Rattle.pooled_table.proofs.StoreLemmas.{absent-roomy, new-made}
-use Rattle.pooled_table.proofs.TrackLemmas.{connect, place-free, track-new-table, track-new-is, track-full-is}
+use Rattle.pooled_table.proofs.TrackLemmas.{connect, place-free, track-new-table, track-new-is}
 use Rattle.pooled_table.proofs.StickTable.enter_new.Goals as goal
 
 -- the key has no record

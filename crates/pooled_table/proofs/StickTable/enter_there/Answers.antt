@@ -1,4 +1,4 @@
-use Rattle.std.proofs.Common.{◌≡◌, ◌+◌, ◌<◌, ◌≤◌, ◌^◌, sym, subst, ap, ◌∙◌, length, true, Option, Some}
+use Rattle.std.proofs.Common.{◌≡◌, ◌+◌, ◌<◌, ◌≤◌, ◌^◌, sym, subst, ap, ◌∙◌, length, Some}
 use Rattle.entry_store.specs.Stock.{Held, Stock, held_at, with_entry}
 use Rattle.entry_store.proofs.StockLemmas.{same_some}
 use Rattle.ticket_book.specs.Tickets.{Tickets}
@@ -6,7 +6,6 @@ use Rattle.stick_table.specs.References.{entered}
 use Rattle.table_model.specs.Key.{Key}
 use Rattle.table_model.specs.State.{State, record_at}
 use Rattle.table_model.specs.Step.{connected, is_free_slot}
-use Rattle.table_model.specs.declared.rows.Ticket.{Ticket}
 use Rattle.pooled_table.specs.Steps.{with_event}
 use Rattle.pooled_table.specs.Table.{state_of, IsTable}
 use Rattle.pooled_table.proofs.TableLemmas.{record-absent}

@@ -1,5 +1,4 @@
-use Rattle.std.proofs.Common.{◌≡◌, List, Result, Ok, Err, IfOk, filter, unwrap_or, sym, ap, ◌∙◌}
-use Rattle.stored_data.specs.declared.values.StoredValue.{StoredValue}
+use Rattle.std.proofs.Common.{Result, Ok, Err, IfOk, filter, unwrap_or, ap, ◌∙◌}
 use Rattle.table_model.specs.State.{State, record_at, stays, zero_record}
 use Rattle.pooled_table.proofs.TrackedLemmas.{values-live, values-gone}
 use Rattle.pooled_table.proofs.StickTable.live_values.Goals as goal

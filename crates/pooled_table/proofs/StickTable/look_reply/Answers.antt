@@ -1,4 +1,4 @@
-use Rattle.std.proofs.Common.{◌≡◌, None, sym, ap, ◌∙◌}
+use Rattle.std.proofs.Common.{sym, ap, ◌∙◌}
 use Rattle.stick_table.specs.Replies.{looked_reply}
 use Rattle.table_model.specs.State.{State}
 use Rattle.pooled_table.proofs.CountLemmas.{ticket-held, held-of}

@@ -6,7 +6,7 @@ use Rattle.table_model.specs.Step.{Outcome, put_allowed, put_pairs}
 use Rattle.table_model.specs.declared.replies.Reply.TheVariants.{Written}
 use Rattle.pooled_table.specs.Steps.{with_event}
 use Rattle.pooled_table.specs.Table.{state_of, IsTable}
-use Rattle.pooled_table.proofs.TableLemmas.{record-absent, at-some}
+use Rattle.pooled_table.proofs.TableLemmas.{record-absent}
 use Rattle.pooled_table.proofs.RefreshLemmas.{fresh}
 use Rattle.pooled_table.proofs.StoreLemmas.{values-at, new-there}
 use Rattle.pooled_table.proofs.PutLemmas.{put-there-table, put-there-is}

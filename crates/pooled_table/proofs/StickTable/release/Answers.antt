@@ -1,7 +1,6 @@
-use Rattle.std.proofs.Common.{◌≡◌, ◌+◌, None, Some, sym, subst, ap, ◌∙◌, is_some}
+use Rattle.std.proofs.Common.{◌+◌, sym, subst, ap, ◌∙◌, is_some}
 use Rattle.std.specs.Option.{option_map}
 use Rattle.entry_store.specs.Stock.{Stock, held_at}
-use Rattle.entry_store.proofs.StockLemmas.{same_some}
 use Rattle.ticket_book.specs.Tickets.{Tickets}
 use Rattle.table_model.specs.State.{State, key_of, same_ticket}
 use Rattle.table_model.specs.Step.{release}

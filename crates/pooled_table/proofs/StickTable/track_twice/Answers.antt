@@ -1,4 +1,4 @@
-use Rattle.std.proofs.Common.{◌≡◌, ◌<◌, arith, length, Option, refl, sym, subst, ap, ◌∙◌}
+use Rattle.std.proofs.Common.{◌<◌, arith, length, Option, refl, sym, subst, ap, ◌∙◌}
 use Rattle.std.proofs.lemmas.List.{length-map}
 use Rattle.stick_table.specs.References.{entered}
 use Rattle.stick_table.proofs.TicketLemmas.{track-entered}
@@ -6,7 +6,7 @@ use Rattle.table_model.specs.Key.{Key}
 use Rattle.table_model.specs.State.{State}
 use Rattle.table_model.specs.Step.{begun, connected}
 use Rattle.table_model.specs.declared.rows.Ticket.{Ticket}
-use Rattle.pooled_table.specs.Table.{with_key, state_of, tickets_of}
+use Rattle.pooled_table.specs.Table.{with_key, tickets_of}
 use Rattle.pooled_table.proofs.StickTable.track_twice.Goals as goal
 
 pub returns-in-Some-clause-ok : goal.returns-in-Some-clause-ok

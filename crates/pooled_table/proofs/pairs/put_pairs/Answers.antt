@@ -1,8 +1,7 @@
-use Rattle.std.proofs.Common.{◌≡◌, ℕ, ◌+◌, ◌<◌, refl, sym, subst, ap, ◌∙◌, List, length, drop, get_or, None, Some, Option, is_some, IsSome}
+use Rattle.std.proofs.Common.{◌≡◌, ℕ, ◌+◌, ◌<◌, refl, sym, ap, ◌∙◌, List, length, drop, get_or, None, Some, Option, is_some, IsSome}
 use Rattle.std.proofs.lemmas.Bool.{false≢true}
 use Rattle.std.proofs.lemmas.List.{at_drop_more, drop_all}
 use Rattle.stored_data.specs.Acts.{with_value}
-use Rattle.stored_data.specs.declared.values.StoredValue.{StoredValue}
 use Rattle.entry_store.specs.Stock.{Held, Stock, held_at, with_values}
 use Rattle.table_model.specs.Step.{put_pairs}
 use Rattle.table_model.specs.declared.rows.Cell.{Cell}

@@ -1,5 +1,4 @@
 use Rattle.std.proofs.Common.{◌<◌, ◌≤◌, sym, subst, ◌∙◌}
-use Rattle.entry_store.specs.Stock.{Stock}
 use Rattle.pooled_table.specs.Space.{IsRoomy}
 use Rattle.pooled_table.proofs.RoomLemmas.{roomy-below, full-kept, full-tracked, roomy-purged}
 use Rattle.pooled_table.proofs.room.make_room.Goals as goal

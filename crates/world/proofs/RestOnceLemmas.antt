@@ -8,13 +8,13 @@ use Rattle.admit_core.specs.Connection.{Connection, is_judged, need}
 use Rattle.admit_core.specs.Left.{is_still}
 use Rattle.admit_core.specs.declared.need.Need.{Need}
 use Rattle.admit_core.specs.declared.need.Need.TheVariants as needs
-use Rattle.world.specs.Alike.{GoesUnrefused, SettlesUnrefused}
-use Rattle.world.specs.Calls.{call_of}
-use Rattle.world.specs.Moves.{Goes, Settles}
-use Rattle.world.specs.Tables.{AreTablesOf, TableState}
-use Rattle.world.specs.declared.reference.Reference.{Reference}
+use Rattle.world.specs.Alike.{GoesUnrefused, ComesToRestUnrefused}
+use Rattle.connection_drive.specs.Calls.{call_of}
+use Rattle.connection_drive.specs.Moves.{Goes, ComesToRest}
+use Rattle.connection_drive.specs.Tables.{AreTablesOf, TableState}
+use Rattle.connection_drive.specs.declared.reference.Reference.{Reference}
 use Rattle.world.proofs.BehindLemmas.{as_told, moved_told}
-use Rattle.world.proofs.GrowLemmas.{move_tables}
+use Rattle.connection_drive.proofs.TablesLemmas.{move_tables}
 use Rattle.world.proofs.OneWorldLemmas.{IsOne, Moved, SameView, View, move_plain, moved_once, quiet_of, view}
 use Rattle.world.proofs.PlainConnectionLemmas.{need_plain, plain_connection}
 
@@ -90,5 +90,5 @@ goes_on : (now count : ℕ) (old : List TableState) (connection : Connection Ref
 goes_on now zero old connection new later goes = goes
 goes_on now (suc count) old connection new later goes = (goes.0, goes.1, false, goes.2, goes_on now count goes.0 goes.1 new later goes.3)
 
-pub settles_so : (now : ℕ) (old : List TableState) (connection : Connection Reference) (new : List TableState) (later : Connection Reference) → SettlesUnrefused now old connection new later → Settles now old connection new later
-settles_so now old connection new later settles = record { count = settles.count; goes = goes_on now settles.count old connection new later settles.goes; still = settles.still }
+pub rests_so : (now : ℕ) (old : List TableState) (connection : Connection Reference) (new : List TableState) (later : Connection Reference) → ComesToRestUnrefused now old connection new later → ComesToRest now old connection new later
+rests_so now old connection new later settles = record { count = settles.count; goes = goes_on now settles.count old connection new later settles.goes; still = settles.still }

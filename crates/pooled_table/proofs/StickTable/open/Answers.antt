@@ -1,8 +1,0 @@
-use Rattle.std.proofs.Common.{List, ap, ◌∙◌}
-use Rattle.stored_data.specs.declared.stored_set.Column.{Column}
-use Rattle.entry_store.specs.Stock.{empty}
-use Rattle.pooled_table.proofs.TableLemmas.{new-state}
-use Rattle.pooled_table.proofs.StickTable.open.Goals as goal
-
-pub returns : goal.returns
-returns c = new-state c.args.spec c.in_ok-store.store c.in_ok-book.book (c.in_ok-store.ensures ∙ ap (λ (columns : List Column). empty c.args.spec.size columns) c.in_ok-columns.ensures) c.in_ok-book.ensures
