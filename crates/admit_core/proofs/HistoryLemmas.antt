@@ -18,6 +18,7 @@ use Rattle.admit_core.specs.declared.need.Need.{Need}
 use Rattle.admit_core.specs.declared.need.Need.TheVariants as needs
 use Rattle.admit_core.specs.declared.need.Phase.{Phase}
 use Rattle.admit_core.specs.declared.need.Phase.TheVariants.{New, Judging, Admitted, Rejected, Ended}
+use Rattle.admit_core.proofs.SkippedLemmas.{skipped_leaves}
 
 -- ---- once it is rejected
 
@@ -136,14 +137,7 @@ took_sound setup samples connection answer reference false judged sound =
 
 -- a refusal
 skips : {R : Type 0} (need : Need) (progress : Progress R) → ((skipped need progress).phase ≡ progress.phase) × ((skipped need progress).given ≡ progress.given)
-skips (needs.Get table key) progress = (refl, refl)
-skips (needs.Track slot table key) progress = (refl, refl)
-skips (needs.Look slot) progress = (refl, refl)
-skips (needs.Count slot act) progress = (refl, refl)
-skips (needs.Release slot) progress = (refl, refl)
-skips needs.Rest progress = (refl, refl)
-skips needs.Turn progress = (refl, refl)
-skips needs.Finished progress = (refl, refl)
+skips need progress = let same = skipped_leaves need progress in (ap (λ (p : Progress _). p.phase) same, ap (λ (p : Progress _). p.given) same)
 
 -- while it is judged it is rejected, or stays
 refused_before-phase : {R : Type 0} (asking : Bool) (need : Need) (progress : Progress R) → is_judged progress.phase ≡ true → progress.given ≡ None

@@ -13,6 +13,7 @@ use Rattle.admit_core.specs.declared.need.Need.{Need}
 use Rattle.admit_core.specs.declared.need.Need.TheVariants as needs
 use Rattle.admit_core.specs.declared.need.Phase.{Phase}
 use Rattle.admit_core.specs.declared.need.Phase.TheVariants.{New, Judging, Admitted, Rejected, Ended}
+use Rattle.admit_core.proofs.SkippedLemmas.{skipped_leaves}
 
 stays_at : {R : Type 0} (held : Held R) (s t : Slot) (entry : Option (ℕ × R)) → (held_at (held_with held s entry) t ≡ held_at held t) ⊎ (s ≡ t)
 stays_at held Sc0 Sc0 entry = inr refl
@@ -59,14 +60,7 @@ took_keeps want progress reference (Some out) slot entry free here = here
 -- ---- refusals
 
 skipped_keeps : {R : Type 0} (need : Need) (progress : Progress R) → (skipped need progress).held ≡ progress.held
-skipped_keeps (needs.Get table key) progress = refl
-skipped_keeps (needs.Track slot table key) progress = refl
-skipped_keeps (needs.Look slot) progress = refl
-skipped_keeps (needs.Count slot act) progress = refl
-skipped_keeps (needs.Release slot) progress = refl
-skipped_keeps needs.Rest progress = refl
-skipped_keeps needs.Turn progress = refl
-skipped_keeps needs.Finished progress = refl
+skipped_keeps need progress = ap (λ (p : Progress _). p.held) (skipped_leaves need progress)
 
 before_keeps : {R : Type 0} (asking : Bool) (need : Need) (progress : Progress R) → (refused_before asking need progress).held ≡ progress.held
 before_keeps true need progress = refl

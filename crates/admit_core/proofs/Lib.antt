@@ -1,3 +1,4 @@
+pub mod SkippedLemmas
 pub mod HeldLemmas
 pub mod ConnLemmas
 pub mod NeedLemmas

@@ -16,6 +16,7 @@ use Rattle.admit_core.specs.declared.need.Phase.{Phase}
 use Rattle.admit_core.specs.declared.need.Phase.TheVariants.{New, Judging, Admitted, Rejected, Ended}
 use Rattle.connection_drive.specs.Balance.{times_by, times_in}
 use Rattle.connection_drive.specs.declared.reference.Reference.{Reference}
+use Rattle.admit_core.proofs.SkippedLemmas.{skipped_leaves}
 
 -- one slot holds another reference, or none
 pub times_with : (reference : ℕ × Reference) (held : Held Reference) (slot : Slot) (entry : Option (ℕ × Reference))
@@ -138,14 +139,7 @@ gave_back want progress slot some = gave_some slot progress (held_at progress.he
 -- ---- what is held after a refusal
 
 skipped_same : {R : Type 0} (wanted : Need) (progress : Progress R) → ((skipped wanted progress).held ≡ progress.held) × ((skipped wanted progress).given ≡ progress.given)
-skipped_same (needs.Get t k) progress = (refl, refl)
-skipped_same (needs.Track s t k) progress = (refl, refl)
-skipped_same (needs.Look s) progress = (refl, refl)
-skipped_same (needs.Count s a) progress = (refl, refl)
-skipped_same (needs.Release s) progress = (refl, refl)
-skipped_same needs.Rest progress = (refl, refl)
-skipped_same needs.Turn progress = (refl, refl)
-skipped_same needs.Finished progress = (refl, refl)
+skipped_same wanted progress = let same = skipped_leaves wanted progress in (ap (λ (p : Progress _). p.held) same, ap (λ (p : Progress _). p.given) same)
 
 before_same : {R : Type 0} (asking : Bool) (wanted : Need) (progress : Progress R) → ((refused_before asking wanted progress).held ≡ progress.held) × ((refused_before asking wanted progress).given ≡ progress.given)
 before_same true wanted progress = (refl, refl)

@@ -27,6 +27,7 @@ use Rattle.admit_core.specs.declared.need.Phase.TheVariants.{New, Judging, Admit
 use Rattle.connection_drive.specs.Lived.{IsLived}
 use Rattle.connection_drive.specs.declared.reference.Reference.{Reference}
 use Rattle.connection_drive.proofs.HeldLemmas.{track_in}
+use Rattle.admit_core.proofs.SkippedLemmas.{skipped_leaves}
 
 -- ---- what the rules track, and what is held
 
@@ -184,14 +185,8 @@ took_lived connection answer reference lived heard = by (is_asking (asks connect
 -- ---- a refusal
 
 skipped_lived : (connection : Connection Reference) (wanted : Need) → IsLived connection → IsLived (record connection { progress = skipped wanted connection.progress })
-skipped_lived connection (needs.Count slot act) lived = record { tracks = lived.tracks; accepted = lived.accepted; given = lived.given }
-skipped_lived connection (needs.Get table key) lived = lived
-skipped_lived connection (needs.Track slot table key) lived = lived
-skipped_lived connection (needs.Look slot) lived = lived
-skipped_lived connection (needs.Release slot) lived = lived
-skipped_lived connection needs.Rest lived = lived
-skipped_lived connection needs.Turn lived = lived
-skipped_lived connection needs.Finished lived = lived
+skipped_lived connection wanted lived =
+    subst (λ (p : Progress Reference). IsLived (record connection { progress = p })) (sym (skipped_leaves wanted connection.progress)) (record { tracks = lived.tracks; accepted = lived.accepted; given = lived.given })
 
 pub refused_lived : (connection : Connection Reference) → IsLived connection → IsLived (refused connection None)
 unfolding refused_of

@@ -22,6 +22,7 @@ use Rattle.connection_drive.specs.Calls.{answer_of, call_of, heard, reference_of
 use Rattle.connection_drive.specs.Moves.{Goes, Makes, MovesBy}
 use Rattle.connection_drive.specs.Tables.{TableState}
 use Rattle.connection_drive.specs.declared.reference.Reference.{Reference}
+use Rattle.admit_core.proofs.SkippedLemmas.{skipped_leaves}
 
 -- ---- one that has ended
 
@@ -67,14 +68,9 @@ unfolding took_of
 took_empty connection answer reference before = took_given-empty connection.progress.given (asks connection) connection.progress reference before
 
 skipped_empty : {R : Type 0} (wanted : Need) (progress : Progress R) → EndsEmpty progress → EndsEmpty (skipped wanted progress)
-skipped_empty (needs.Get table key) progress before = before
-skipped_empty (needs.Track slot table key) progress before = before
-skipped_empty (needs.Look slot) progress before = before
-skipped_empty (needs.Count slot act) progress before = λ is. record { holds = (before is).holds; given = (before is).given }
-skipped_empty (needs.Release slot) progress before = before
-skipped_empty needs.Rest progress before = before
-skipped_empty needs.Turn progress before = before
-skipped_empty needs.Finished progress before = before
+skipped_empty wanted progress before =
+    let same = skipped_leaves wanted progress in
+    subst EndsEmpty (sym same) (λ is. record { holds = (before is).holds; given = (before is).given })
 
 before_empty : {R : Type 0} (asking : Bool) (wanted : Need) (progress : Progress R) → EndsEmpty progress → EndsEmpty (refused_before asking wanted progress)
 before_empty true wanted progress before = λ is. absurd (cc)

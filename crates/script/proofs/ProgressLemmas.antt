@@ -21,6 +21,7 @@ use Rattle.admit_core.specs.Left.{is_still}
 use Rattle.connection_drive.specs.Moves.{Goes, Makes, MovesBy}
 use Rattle.connection_drive.specs.Tables.{TableState}
 use Rattle.connection_drive.specs.declared.reference.Reference.{Reference}
+use Rattle.admit_core.proofs.SkippedLemmas.{skipped_leaves}
 
 -- ---- one that is still
 
@@ -100,14 +101,7 @@ gave_bytes needs.Turn progress = refl
 gave_bytes needs.Finished progress = refl
 
 skipped_bytes : {R : Type 0} (wanted : Need) (progress : Progress R) → (skipped wanted progress).bytes ≡ progress.bytes
-skipped_bytes (needs.Get table key) progress = refl
-skipped_bytes (needs.Track slot table key) progress = refl
-skipped_bytes (needs.Look slot) progress = refl
-skipped_bytes (needs.Count slot act) progress = refl
-skipped_bytes (needs.Release slot) progress = refl
-skipped_bytes needs.Rest progress = refl
-skipped_bytes needs.Turn progress = refl
-skipped_bytes needs.Finished progress = refl
+skipped_bytes wanted progress = ap (λ (p : Progress _). p.bytes) (skipped_leaves wanted progress)
 
 before_bytes : {R : Type 0} (asking : Bool) (wanted : Need) (progress : Progress R) → (refused_before asking wanted progress).bytes ≡ progress.bytes
 before_bytes true wanted progress = refl

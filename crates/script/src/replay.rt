@@ -13,9 +13,9 @@ use crate::server::ScriptServer;
 use byte_ports::{Sink, Source};
 use connection_drive::open_tables;
 use line_service::{LineFaultKind, serve_lines};
+use pooled_table::StickTable;
 use rule_model::Setup;
 use std::alloc::Global;
-use stick_table::PlainTable;
 
 /// Why a replay stopped before the script's end.
 #[derive(Clone, Copy, Debug, PartialEq, Eq)]
@@ -59,7 +59,7 @@ pub fn replay_script<R: Source, W: Sink>(
     ensures memory { IfErr result (λ fault. fault.kind ≡ FaultKind.Memory → (fault.done ≡ 0) × Takes R.tells (R.left reader.old) (R.left reader.new) []
         × Grows W.tells (W.written writer.old) (W.written writer.new) []) }
 {
-    let tables = match open_tables::<PlainTable>(alloc, setup) {
+    let tables = match open_tables::<StickTable>(alloc, setup) {
         Ok(tables) => tables,
         Err(_) => {
             return Err(ReplayFault {
