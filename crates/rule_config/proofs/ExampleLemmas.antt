@@ -18,7 +18,7 @@ use Rattle.rule_terms.specs.Names.{fetch_of, on_slot, plain_subject, slot_subjec
 use Rattle.rule_terms.specs.Values.{operator_of, pattern_of, range_of}
 use Rattle.rule_config.specs.Actions.{action_of, key_of, rule_of, rule_with, table_named, track_of, tracked_slot}
 use Rattle.rule_config.specs.Config.{at_line, config_of, nothing_read, read_from, whole}
-use Rattle.rule_config.specs.Examples.{ExamplesLaw, frontend, rules_of, with_table}
+use Rattle.rule_config.specs.Examples.{ExamplesLaw, frontend, limiting, rules_of, tables_in, with_table}
 use Rattle.rule_config.specs.Lines.{line_says, section_says, with_line, with_statement, words_say}
 use Rattle.rule_config.specs.Statements.{default_backend_says, keyword_says, section_kind, stick_table_says, tcp_request_says}
 use Rattle.rule_config.specs.declared.reading.Reading.{Reading}
@@ -110,5 +110,6 @@ examples_law = record {
   unknown_acl = unknown_acl;
   unknown_table = unknown_table;
   unknown_backend = unknown_backend;
-  limit = ap rules_of (text_config (with_table (codes "tcp-request connection track-sc0 src\ntcp-request connection reject if { sc0_conn_cur gt 1 }")) refl);
+  limit_table = ap tables_in (text_config limiting refl);
+  limit = ap rules_of (text_config limiting refl);
 }

@@ -10,3 +10,4 @@ pub mod EndedLemmas
 pub mod TimeLemmas
 pub mod ServedLemmas
 pub mod ServerLemmas
+pub mod UnrefusedLemmas

@@ -4,3 +4,4 @@ pub mod BuiltIn
 pub mod Script
 pub mod Seen
 pub mod Laws
+pub mod Unrefused

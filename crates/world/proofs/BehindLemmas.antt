@@ -90,7 +90,7 @@ gave_phase needs.Turn progress = refl
 gave_phase needs.Finished progress = refl
 
 module _ (samples : Samples) (given : List Answer) where
-  need_told : (connection : Connection Reference) → is_judged connection.progress.phase ≡ false → need connection ≡ need (as_told samples given connection)
+  pub need_told : (connection : Connection Reference) → is_judged connection.progress.phase ≡ false → need connection ≡ need (as_told samples given connection)
   unfolding need_of
   need_told connection judged = given_behind connection.progress.given (asks connection) (asks (as_told samples given connection)) connection.progress judged
 

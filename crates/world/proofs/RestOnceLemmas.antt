@@ -29,13 +29,14 @@ goes_plain setup now zero old connection new later are goes = (λ table part. ap
 goes_plain setup now (suc count) old connection new later are goes =
     (view goes.0, plain_connection goes.1, move_plain setup now old goes.0 connection goes.1 are goes.2, goes_plain setup now count goes.0 goes.1 new later (move_tables now setup old connection goes.0 goes.1 false are goes.2) goes.3)
 
--- behind the verdict, with other samples and answers
+-- behind the verdict, with other samples and answers, and it stays behind it
 pub course_told : (samples : Samples) (given : List Answer) (now count : ℕ) (old : View) (connection : Connection Reference) (new : View) (later : Connection Reference) → is_judged connection.progress.phase ≡ false → Course now count old connection new later
-    → Course now count old (as_told samples given connection) new (as_told samples given later)
-course_told samples given now zero old connection new later judged course = (course.0, ap (as_told samples given) course.1)
+    → Course now count old (as_told samples given connection) new (as_told samples given later) × (is_judged later.progress.phase ≡ false)
+course_told samples given now zero old connection new later judged course = ((course.0, ap (as_told samples given) course.1), ap (λ (c : Connection Reference). is_judged c.progress.phase) course.1 ∙ judged)
 course_told samples given now (suc count) old connection new later judged course =
     let moved = moved_told samples given now old course.0 connection course.1 judged course.2 in
-    (course.0, as_told samples given course.1, moved.0, course_told samples given now count course.0 course.1 new later moved.1 course.3)
+    let rest = course_told samples given now count course.0 course.1 new later moved.1 course.3 in
+    ((course.0, as_told samples given course.1, moved.0, rest.0), rest.1)
 
 -- one that rests stays
 still_quiet : (connection : Connection Reference) (wanted : Need) → is_still wanted ≡ true → quiet_of connection wanted ≡ connection

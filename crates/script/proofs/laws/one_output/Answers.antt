@@ -1,0 +1,5 @@
+use Rattle.script.proofs.UnrefusedLemmas.{one_output_law}
+use Rattle.script.proofs.laws.one_output.Goals as goal
+
+pub returns : goal.returns
+returns c = one_output_law
