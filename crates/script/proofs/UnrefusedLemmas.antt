@@ -15,11 +15,11 @@ use Rattle.admit_core.specs.Left.{is_still}
 use Rattle.admit_core.specs.declared.conn.Conn.{Conn}
 use Rattle.admit_core.specs.declared.need.Phase.{Phase}
 use Rattle.admit_core.specs.declared.need.Phase.TheVariants.{New, Judging, Admitted, Rejected, Ended}
-use Rattle.world.specs.declared.reference.Reference.{Reference}
+use Rattle.connection_drive.specs.declared.reference.Reference.{Reference}
 use Rattle.world.proofs.BehindLemmas.{as_told, need_told}
 use Rattle.world.proofs.OneWorldLemmas.{IsOne, SameView, view}
 use Rattle.world.proofs.PlainConnectionLemmas.{plain_connection, plain_progress}
-use Rattle.world.proofs.SettledOnceLemmas.{Course, course_once, course_told, goes_plain, settles_so, still_plain}
+use Rattle.world.proofs.RestOnceLemmas.{Course, course_once, course_told, goes_plain, rests_so, still_plain}
 use Rattle.script.specs.Guests.{IsOpen, IsServed, ScriptState, guest_of, progress_in, without}
 use Rattle.script.specs.Script.{Line, Empty, Bad, Commands, Open, Close, Closes, ClosesAt, LineSays, OpensAt, OpensFrom, admitted, bad_line, line_of, open_text, samples_of}
 use Rattle.script.specs.Start.{start}
@@ -36,13 +36,13 @@ opens_so None guest moment id port old text new is opens = opens
 opens_so (Some source) (Some guest) moment id port old text new is opens = subst (λ o. OpensAt o moment id source port old text new) (sym is) opens
 opens_so (Some source) None moment id port old text new is opens =
     subst (λ o. OpensAt o moment id source port old text new) (sym is)
-    (inl (opens.0, opens.1, opens.2, settles_so moment old.tables (arrived old.setup (samples_of old.setup source port)) new.tables opens.1 opens.3, opens.4, opens.5))
+    (inl (opens.0, opens.1, opens.2, rests_so moment old.tables (arrived old.setup (samples_of old.setup source port)) new.tables opens.1 opens.3, opens.4, opens.5))
 
 closes_so : (guest : Option Guest) (moment id bytes_in bytes_out : ℕ) (old : ScriptState) (text : List ℕ) (new : ScriptState) → guest_of id old.guests ≡ guest → ClosesUnrefused guest moment id bytes_in bytes_out old text new → Closes moment id bytes_in bytes_out old text new
 closes_so None moment id bytes_in bytes_out old text new is closes = subst (λ o. ClosesAt o moment id bytes_in bytes_out old text new) (sym is) closes
 closes_so (Some guest) moment id bytes_in bytes_out old text new is closes =
     subst (λ o. ClosesAt o moment id bytes_in bytes_out old text new) (sym is)
-    (closes.0, closes.1, closes.2, settles_so moment old.tables (closed closes.0 bytes_in bytes_out) new.tables closes.1 closes.3, closes.4, closes.5)
+    (closes.0, closes.1, closes.2, rests_so moment old.tables (closed closes.0 bytes_in bytes_out) new.tables closes.1 closes.3, closes.4, closes.5)
 
 line_so : (line : Line) (old : ScriptState) (text : List ℕ) (new : ScriptState) → LineUnrefused line old text new → LineSays line old text new
 line_so Empty old text new says = says

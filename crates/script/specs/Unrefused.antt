@@ -8,9 +8,9 @@ use Rattle.rule_eval.specs.declared.wants.Samples.{Samples}
 use Rattle.admit_core.specs.Conn.{Stands}
 use Rattle.admit_core.specs.Connection.{Connection, arrived, closed}
 use Rattle.admit_core.specs.declared.conn.Conn.{Conn}
-use Rattle.world.specs.Alike.{SettlesUnrefused}
-use Rattle.world.specs.Tables.{CanOpen}
-use Rattle.world.specs.declared.reference.Reference.{Reference}
+use Rattle.world.specs.Alike.{ComesToRestUnrefused}
+use Rattle.connection_drive.specs.Tables.{CanOpen}
+use Rattle.connection_drive.specs.declared.reference.Reference.{Reference}
 use Rattle.script.specs.Guests.{MayBe, ScriptState, guest_of, without}
 use Rattle.script.specs.Script.{Bad, Close, Commands, Empty, Line, Open, Says, admitted, bad_line, close_text, line_of, open_text, samples_of}
 use Rattle.script.specs.Start.{start}
@@ -19,7 +19,7 @@ use Rattle.script.specs.declared.guests.Guest.{Guest}
 -- the rules judge a connection, and nothing that it asks is refused
 abbrev pub JudgesUnrefused : ℕ → ℕ → Samples → ScriptState → List ℕ → ScriptState → Type 0
 JudgesUnrefused moment id samples old text new =
-    (conn : Conn Reference) × (after : Connection Reference) × Stands conn after × SettlesUnrefused moment old.tables (arrived old.setup samples) new.tables after
+    (conn : Conn Reference) × (after : Connection Reference) × Stands conn after × ComesToRestUnrefused moment old.tables (arrived old.setup samples) new.tables after
     × (new ≡ record old { tables = new.tables; guests = old.guests ++ admitted after.progress.phase id conn }) × (text ≡ open_text id after.progress.phase)
 
 abbrev pub OpensUnrefused : Option Address → Option Guest → ℕ → ℕ → ℕ → ScriptState → List ℕ → ScriptState → Type 0
@@ -31,7 +31,7 @@ OpensUnrefused (Some source) None moment id port old text new = JudgesUnrefused 
 abbrev pub ClosesUnrefused : Option Guest → ℕ → ℕ → ℕ → ℕ → ScriptState → List ℕ → ScriptState → Type 0
 ClosesUnrefused None moment id bytes_in bytes_out old text new = (text ≡ codes "no such connection\n") × (new ≡ old)
 ClosesUnrefused (Some guest) moment id bytes_in bytes_out old text new =
-    (connection after : Connection Reference) × MayBe old.setup guest connection × SettlesUnrefused moment old.tables (closed connection bytes_in bytes_out) new.tables after
+    (connection after : Connection Reference) × MayBe old.setup guest connection × ComesToRestUnrefused moment old.tables (closed connection bytes_in bytes_out) new.tables after
     × (new ≡ record old { tables = new.tables; guests = without id old.guests }) × (text ≡ close_text id)
 
 -- a line without commands may write this text, where nothing is refused

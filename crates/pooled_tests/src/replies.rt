@@ -1,0 +1,65 @@
+//! Whether two tables answered the same.
+
+use stick_table::{Refusal, Reply, Row};
+
+/// Whether two rows show the same.
+fn is_same_row(a: &Row, b: &Row) -> bool {
+    a.key == b.key
+        && a.refs == b.refs
+        && a.left == b.left
+        && a.cells.as_slice() == b.cells.as_slice()
+}
+
+/// Whether two lists of rows show the same.
+fn are_same_rows(a: &[Row], b: &[Row]) -> bool {
+    a.len() == b.len() && a.iter().zip(b).all(|(one, other)| is_same_row(one, other))
+}
+
+/// Whether two replies tell the same. The slot of a reference is its table's own matter.
+pub fn is_same(a: &Reply, b: &Reply) -> bool {
+    match (a, b) {
+        (Reply::Absent, Reply::Absent)
+        | (Reply::NoRefs, Reply::NoRefs)
+        | (Reply::Full, Reply::Full)
+        | (Reply::Released, Reply::Released)
+        | (Reply::InUse, Reply::InUse)
+        | (Reply::Removed, Reply::Removed) => true,
+        (Reply::Row(one), Reply::Row(other)) => is_same_row(one, other),
+        (
+            Reply::Tracked { ticket, row },
+            Reply::Tracked {
+                ticket: other_ticket,
+                row: other,
+            },
+        ) => ticket.number == other_ticket.number && is_same_row(row, other),
+        (Reply::Value(value), Reply::Value(other)) => value == other,
+        (Reply::NotSettable(datum), Reply::NotSettable(other)) => datum == other,
+        (Reply::NotStored(datum), Reply::NotStored(other)) => datum == other,
+        (Reply::Written { created }, Reply::Written { created: other }) => created == other,
+        (
+            Reply::Cleared { removed, kept },
+            Reply::Cleared {
+                removed: gone,
+                kept: stayed,
+            },
+        ) => removed == gone && kept == stayed,
+        (
+            Reply::Rows { used, rows },
+            Reply::Rows {
+                used: all,
+                rows: others,
+            },
+        ) => used == all && are_same_rows(rows.as_slice(), others.as_slice()),
+        (Reply::Expired(count), Reply::Expired(other)) => count == other,
+        _ => false,
+    }
+}
+
+/// Whether two events were answered alike: by replies that tell the same, or for the same reason not.
+pub fn is_alike(a: &Result<Reply, Refusal>, b: &Result<Reply, Refusal>) -> bool {
+    match (a, b) {
+        (Ok(one), Ok(other)) => is_same(one, other),
+        (Err(one), Err(other)) => one == other,
+        _ => false,
+    }
+}
