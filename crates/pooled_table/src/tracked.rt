@@ -1,7 +1,6 @@
 //! A key that is tracked once more.
 ghost use Rattle.std.specs.Prelude.{◌≡◌, ◌+◌, ◌≤◌, ◌<◌, ◌^◌, IfOk, IfSome, IfNone, OnErr, filter, max, true, unwrap_or, length};
 ghost use Rattle.std.specs.Option.{option_map_or};
-ghost use Rattle.entry_store.specs.Stock.{IsStock};
 ghost use Rattle.table_model.specs.State.{record_at, refs, row_of, stays, zero_record};
 ghost use Rattle.table_model.specs.Step.{begun, connected, is_free_slot, slot_of, track as reply_to_track};
 ghost use Rattle.pooled_table.specs.Seen.{IsLive, IsGone, cells_of};
