@@ -1,9 +1,10 @@
 -- What a look is answered.
-use Rattle.std.proofs.Common.{◌≡◌, ℕ, refl, sym, ◌∙◌, ap, List, [], ◌∷◌, filter, map, Bool, true, false, cond, Option, Some, None}
+use Rattle.std.proofs.Common.{subst, ◌≡◌, ℕ, refl, sym, ◌∙◌, ap, List, [], ◌∷◌, filter, map, Bool, true, false, cond, Option, Some, None}
 use Rattle.std.specs.Prelude.{◌||◌}
 use Rattle.std.specs.BTreeMap.{is_at}
 use Rattle.std.specs.Cmp.{IsTotalOrder}
 use Rattle.std.specs.Cmp.Lexicographic.{nat_list_cmp_total}
+use Rattle.std.specs.List.{AllByRecursion}
 use Rattle.std.specs.List.Sorted.{IsStrictlySortedBy}
 use Rattle.std.specs.Map.{keys_of, lookup}
 use Rattle.std.specs.Option.{option_map, option_map_or}
@@ -11,7 +12,8 @@ use Rattle.std.specs.Ordering.{is_eq}
 use Rattle.std.specs.declared.cmp.Ordering.{Ordering}
 use Rattle.std.specs.declared.cmp.Ordering.TheVariants.{Less, Equal, Greater}
 use Rattle.std.proofs.lemmas.Map.Lookups.{exact_bytes}
-use Rattle.entry_store.specs.Stock.{Held, Stock, IsAbsent, held_at}
+use Rattle.entry_store.specs.Stock.{Held, Stock, held_at}
+use Rattle.entry_store.proofs.CountLemmas.{all-entries}
 use Rattle.entry_store.proofs.StockLemmas.{none_some, same_some}
 use Rattle.entry_store.proofs.SlotLemmas.{sorted-entries, missing, level}
 use Rattle.ticket_book.specs.Tickets.{Tickets, entry_of}
@@ -26,26 +28,30 @@ use Rattle.table_model.specs.declared.rows.Row.{Row}
 use Rattle.table_model.specs.declared.specification.Spec.{Spec}
 use Rattle.table_model.proofs.EntryLemmas.{all-filter}
 use Rattle.table_model.proofs.TestLemmas.{lt-to}
-use Rattle.pooled_table.specs.Seen.{is_kept}
+use Rattle.pooled_table.specs.Seen.{is_kept, IsGone}
 use Rattle.pooled_table.specs.Shown.{record_of, keyed, records_of}
 use Rattle.pooled_table.specs.Table.{key_in, tickets_of, state_of, IsTable}
 use Rattle.pooled_table.proofs.CountLemmas.{lookup-keys}
-use Rattle.pooled_table.proofs.RecordLemmas.{lookup-at}
+use Rattle.pooled_table.proofs.RecordLemmas.{lookup-at, held-from}
 use Rattle.pooled_table.proofs.ReleaseLemmas.{release-some}
 use Rattle.pooled_table.proofs.SeenLemmas.{kept-is}
-use Rattle.pooled_table.proofs.TableLemmas.{record-absent}
 
 -- ---- a look into what a filter leaves
-module _ {K X : Type 0} (R : K → K → Ordering) (p : K × X → Bool) where
-  no-more : (k : K) (es : List (K × X)) → lookup (is_at (R k)) es ≡ None → lookup (is_at (R k)) (filter p es) ≡ None
-  no-more k [] none = refl
-  no-more k (e ∷ es) none = go (no-more k es) (p e) (is_eq (R k e.0)) refl none
-    where
-      go : (lookup (is_at (R k)) es ≡ None → lookup (is_at (R k)) (filter p es) ≡ None) → (b hit : Bool) → is_eq (R k e.0) ≡ hit → cond hit (Some e.1) (lookup (is_at (R k)) es) ≡ None → lookup (is_at (R k)) (cond b (e ∷ filter p es) (filter p es)) ≡ None
-      go rest b true is none = absurd (none_some (sym none))
-      go rest false false is none = rest none
-      go rest true false is none = ap (λ t. cond t (Some e.1) (lookup (is_at (R k)) (filter p es))) is ∙ rest none
+-- where all of a key fail, a filter leaves none
+none-left : {K X : Type 0} (R : K → K → Ordering) (p : K × X → Bool) (k : K) (es : List (K × X)) → AllByRecursion (λ e. R k e.0 ≡ Equal → p e ≡ false) es → lookup (is_at (R k)) (filter p es) ≡ None
+none-left R p k [] h = refl
+none-left R p k (e ∷ es) h = go (none-left R p k es h.1) (R k e.0) refl (p e) refl
+  where
+    miss : lookup (is_at (R k)) (filter p es) ≡ None → is_eq (R k e.0) ≡ false → (b : Bool) → lookup (is_at (R k)) (cond b (e ∷ filter p es) (filter p es)) ≡ None
+    miss rest other true = ap (λ t. cond t (Some e.1) (lookup (is_at (R k)) (filter p es))) other ∙ rest
+    miss rest other false = rest
 
+    go : lookup (is_at (R k)) (filter p es) ≡ None → (o : Ordering) → R k e.0 ≡ o → (b : Bool) → p e ≡ b → lookup (is_at (R k)) (filter p (e ∷ es)) ≡ None
+    go rest Less is b passes = miss rest (ap is_eq is) (p e)
+    go rest Greater is b passes = miss rest (ap is_eq is) (p e)
+    go rest Equal is b passes = ap (λ q. lookup (is_at (R k)) (cond q (e ∷ filter p es) (filter p es))) (h.0 is) ∙ rest
+
+module _ {K X : Type 0} (R : K → K → Ordering) (p : K × X → Bool) where
   one-left : IsTotalOrder R → (k : K) (x : X) (b : Bool) (es : List (K × X)) → IsStrictlySortedBy R (keys_of es) → lookup (is_at (R k)) es ≡ Some x → ((key : K) → R k key ≡ Equal → p (key, x) ≡ b) → lookup (is_at (R k)) (filter p es) ≡ cond b (Some x) None
   unfolding IsStrictlySortedBy
   one-left total k x b [] sorted there is = absurd (none_some there)
@@ -76,22 +82,21 @@ module _ (spec : Spec) (clock events : ℕ) (s : Stock) (book : Tickets) (table 
       one-left key_cmp (stays at (tickets_of s book)) nat_list_cmp_total h.key (record_of spec.expire h) (is_kept at spec.expire h) (records_of spec.expire s) (sorted-entries key_cmp nat_list_cmp_total (map (option_map (keyed spec.expire)) s.slots)) (lookup-at spec.expire s table.stock slot h there)
       (λ key same. ap (λ k. stays at (tickets_of s book) (k, record_of spec.expire h)) (sym (exact_bytes h.key key same)) ∙ sym (kept-is (tickets_of s book) at spec.expire h (table.counted slot h there)))
 
-  pub dead-record : (key : Key) → IsAbsent s key → record_at key (filter (stays at (tickets_of s book)) (records_of spec.expire s)) ≡ None
-  dead-record key none = no-more key_cmp (stays at (tickets_of s book)) key (records_of spec.expire s) (record-absent spec clock events s book table key none)
+  -- and of a key that has none that it leaves
+  pub gone-record : (key : Key) → IsGone s spec.expire at key → record_at key (filter (stays at (tickets_of s book)) (records_of spec.expire s)) ≡ None
+  gone-record key gone =
+      none-left key_cmp (stays at (tickets_of s book)) key (records_of spec.expire s) (all-entries key_cmp exact_bytes (λ (e : Key × Record). key_cmp key e.0 ≡ Equal → stays at (tickets_of s book) e ≡ false) (map (option_map (keyed spec.expire)) s.slots) (λ j e there same.
+      let b = held-from spec.expire s table.stock j e there in
+      subst (λ (x : Key × Record). stays at (tickets_of s book) x ≡ false) b.2
+      (sym (kept-is (tickets_of s book) at spec.expire b.0 (table.counted j b.0 b.1)) ∙ gone j b.0 b.1 (ap (λ (x : Key × Record). x.0) b.2 ∙ sym (exact_bytes key e.0 same)))))
 
   shows : Key → Option Record → Reply
   shows key o = option_map_or (λ found. ARow (row_of spec.columns at (refs key (tickets_of s book)) key found)) o Absent
 
   -- ---- a look at a key
-  pub shown-absent : (key : Key) → IsAbsent s key → shown_reply (state_of spec clock events s book) at key ≡ Absent
+  pub shown-gone : (key : Key) → IsGone s spec.expire at key → shown_reply (state_of spec clock events s book) at key ≡ Absent
   unfolding shows
-  shown-absent key none = ap (shows key) (dead-record key none)
-
-  pub shown-gone : (key : Key) (slot : ℕ) (h : Held) → held_at s slot ≡ Some h → h.key ≡ key → option_map_or (is_kept at spec.expire) (held_at s slot) false ≡ false → shown_reply (state_of spec clock events s book) at key ≡ Absent
-  unfolding shows
-  shown-gone key slot h there keyed gone =
-      let dead : is_kept at spec.expire h ≡ false = sym (ap (λ o. option_map_or (is_kept at spec.expire) o false) there) ∙ gone in
-      ap (λ k. shown_reply (state_of spec clock events s book) at k) (sym keyed) ∙ ap (shows h.key) (live-record slot h there ∙ ap (λ b. cond b (Some (record_of spec.expire h)) None) dead)
+  shown-gone key gone = ap (shows key) (gone-record key gone)
 
   pub shown-row : (key : Key) (slot : ℕ) (h : Held) (row : Row) → held_at s slot ≡ Some h → h.key ≡ key → is_kept at spec.expire h ≡ true → row ≡ row_of spec.columns at h.entry.refs h.key (record_of spec.expire h)
       → ARow row ≡ shown_reply (state_of spec clock events s book) at key

@@ -1,22 +1,14 @@
 -- What is shown of a key that is tracked once more.
-use Rattle.std.proofs.Common.{◌≡◌, ℕ, ◌+◌, ◌-◌, refl, sym, ◌∙◌, ap, subst, List, [], ◌∷◌, filter, map, Bool, true, false, cond, Option, Some, None, unwrap_or}
+use Rattle.std.proofs.Common.{◌≡◌, ℕ, ◌+◌, ◌-◌, sym, ◌∙◌, ap, List, filter, cond, Option, Some, None, unwrap_or}
 use Rattle.std.specs.Prelude.{max}
-use Rattle.std.specs.BTreeMap.{is_at}
-use Rattle.std.specs.List.{AllByRecursion}
-use Rattle.std.specs.Map.{lookup}
 use Rattle.std.specs.Option.{option_map}
-use Rattle.std.specs.Ordering.{is_eq}
-use Rattle.std.specs.declared.cmp.Ordering.{Ordering}
-use Rattle.std.specs.declared.cmp.Ordering.TheVariants.{Less, Equal, Greater}
-use Rattle.std.proofs.lemmas.Map.Lookups.{exact_bytes}
 use Rattle.stored_data.specs.Acts.{acted}
 use Rattle.stored_data.specs.declared.act.Act.TheVariants.{Connection}
 use Rattle.stored_data.specs.declared.values.StoredValue.{StoredValue}
 use Rattle.slot_handle.specs.declared.Handle.{Handle}
 use Rattle.entry_store.specs.Stock.{Stock, IsAt, IsAbsent}
-use Rattle.entry_store.proofs.CountLemmas.{all-entries}
 use Rattle.ticket_book.specs.Tickets.{Tickets}
-use Rattle.table_model.specs.Key.{Key, key_cmp}
+use Rattle.table_model.specs.Key.{Key}
 use Rattle.table_model.specs.State.{State, refs, record_at, row_of, stays, zero_record}
 use Rattle.table_model.specs.Step.{begun, connected}
 use Rattle.table_model.specs.declared.rows.Cell.{Cell}
@@ -24,26 +16,10 @@ use Rattle.table_model.specs.declared.rows.Record.{Record}
 use Rattle.table_model.specs.declared.rows.Row.{Row}
 use Rattle.table_model.specs.declared.specification.Spec.{Spec}
 use Rattle.pooled_table.specs.Seen.{IsLive, IsGone, cells_of}
-use Rattle.pooled_table.specs.Shown.{record_of, keyed, records_of}
+use Rattle.pooled_table.specs.Shown.{record_of, records_of}
 use Rattle.pooled_table.specs.Table.{tickets_of, IsTable}
-use Rattle.pooled_table.proofs.LookLemmas.{live-record}
-use Rattle.pooled_table.proofs.RecordLemmas.{held-from}
-use Rattle.pooled_table.proofs.SeenLemmas.{kept-is}
+use Rattle.pooled_table.proofs.LookLemmas.{live-record, gone-record}
 use Rattle.pooled_table.proofs.StoreLemmas.{refs-absent}
-
--- where all of a key fail, a filter leaves none
-none-left : {K X : Type 0} (R : K → K → Ordering) (p : K × X → Bool) (k : K) (es : List (K × X)) → AllByRecursion (λ e. R k e.0 ≡ Equal → p e ≡ false) es → lookup (is_at (R k)) (filter p es) ≡ None
-none-left R p k [] h = refl
-none-left R p k (e ∷ es) h = go (none-left R p k es h.1) (R k e.0) refl (p e) refl
-  where
-    miss : lookup (is_at (R k)) (filter p es) ≡ None → is_eq (R k e.0) ≡ false → (b : Bool) → lookup (is_at (R k)) (cond b (e ∷ filter p es) (filter p es)) ≡ None
-    miss rest other true = ap (λ t. cond t (Some e.1) (lookup (is_at (R k)) (filter p es))) other ∙ rest
-    miss rest other false = rest
-
-    go : lookup (is_at (R k)) (filter p es) ≡ None → (o : Ordering) → R k e.0 ≡ o → (b : Bool) → p e ≡ b → lookup (is_at (R k)) (filter p (e ∷ es)) ≡ None
-    go rest Less is b passes = miss rest (ap is_eq is) (p e)
-    go rest Greater is b passes = miss rest (ap is_eq is) (p e)
-    go rest Equal is b passes = ap (λ q. lookup (is_at (R k)) (cond q (e ∷ filter p es) (filter p es))) (h.0 is) ∙ rest
 
 module _ (spec : Spec) (clock events : ℕ) (s : Stock) (book : Tickets) (table : IsTable spec clock events s book) (key : Key) where
   pub refs-there : (handle : Handle) (at : IsAt s key handle) → at.held.entry.refs ≡ refs key (tickets_of s book)
@@ -53,13 +29,6 @@ module _ (spec : Spec) (clock events : ℕ) (s : Stock) (book : Tickets) (table 
   refs-none none = sym (refs-absent s key none book.tickets table.held)
 
   module _ (at : ℕ) where
-    gone-record : IsGone s spec.expire at key → record_at key (filter (stays at (tickets_of s book)) (records_of spec.expire s)) ≡ None
-    gone-record gone =
-        none-left key_cmp (stays at (tickets_of s book)) key (records_of spec.expire s) (all-entries key_cmp exact_bytes (λ (e : Key × Record). key_cmp key e.0 ≡ Equal → stays at (tickets_of s book) e ≡ false) (map (option_map (keyed spec.expire)) s.slots) (λ j e there same.
-        let b = held-from spec.expire s table.stock j e there in
-        subst (λ (x : Key × Record). stays at (tickets_of s book) x ≡ false) b.2
-        (sym (kept-is (tickets_of s book) at spec.expire b.0 (table.counted j b.0 b.1)) ∙ gone j b.0 b.1 (ap (λ (x : Key × Record). x.0) b.2 ∙ sym (exact_bytes key e.0 same)))))
-
     -- the data of a key's entry
     pub values-live : (slot : ℕ) (l : IsLive s spec.expire at key slot) → l.held.values ≡ (unwrap_or (record_at key (filter (stays at (tickets_of s book)) (records_of spec.expire s))) (zero_record spec.columns)).values
     values-live slot l =
@@ -67,7 +36,7 @@ module _ (spec : Spec) (clock events : ℕ) (s : Stock) (book : Tickets) (table 
         ∙ ap (λ (o : Option Record). (unwrap_or o (zero_record spec.columns)).values) (live-record spec clock events s book table at slot l.held l.there ∙ ap (λ b. cond b (Some (record_of spec.expire l.held)) None) l.kept))
 
     pub values-gone : IsGone s spec.expire at key → (zero_record spec.columns).values ≡ (unwrap_or (record_at key (filter (stays at (tickets_of s book)) (records_of spec.expire s))) (zero_record spec.columns)).values
-    values-gone gone = sym (ap (λ (o : Option Record). (unwrap_or o (zero_record spec.columns)).values) (gone-record gone))
+    values-gone gone = sym (ap (λ (o : Option Record). (unwrap_or o (zero_record spec.columns)).values) (gone-record spec clock events s book table at key gone))
 
 -- the row of a key that is tracked once more
 pub connected-row : (state : State) (now clock : ℕ) (key shown : Key) (count left : ℕ) (values acts : List StoredValue) (cells : List Cell) → clock ≡ max state.clock now → shown ≡ key → count ≡ refs key state.tickets + 1

@@ -1,13 +1,14 @@
 //! Which entries a filter means, and which the clock leaves.
-ghost use Rattle.std.specs.Prelude.{◌≡◌, ◌<◌, ◌^◌, ◌&&◌, Some, IsSome, false};
+ghost use Rattle.std.specs.Prelude.{◌≡◌, ◌<◌, ◌^◌, ◌&&◌, Some, IfSome, IfNone, IsSome, false};
 ghost use Rattle.std.specs.Option.{option_map_or};
 ghost use Rattle.entry_store.specs.Stock.{Held, held_at};
 ghost use Rattle.table_model.specs.Filters.{compares as compares_by, not_stored as not_stored_in};
-ghost use Rattle.pooled_table.specs.Seen.{is_kept, is_meant, is_meant_as};
+ghost use Rattle.pooled_table.specs.Seen.{is_kept, is_meant, is_meant_as, IsLive, IsGone};
 
 use crate::expiry::is_alive;
 use entry_store::Store;
 use std::cmp::Ordering;
+use stick_key::StickKey;
 use stored_data::{Datum, StoredSet};
 use table_model::{Filter, Op};
 
@@ -81,6 +82,24 @@ pub(crate) fn is_live(store: &Store, expire: Option<u32>, clock: u64, slot: u32)
     }
     let entry = store.entry(slot);
     entry.refs > 0 || is_alive(expire, entry.moment, clock)
+}
+
+/// The slot of a key's entry, where it is there when the clock has come to this moment.
+pub(crate) fn live_slot(
+    store: &Store,
+    expire: Option<u32>,
+    clock: u64,
+    key: &StickKey,
+) -> Option<u32>
+    requires { clock < 2 ^ 62 }
+    ensures live { IfSome result (IsLive store.now expire clock key.now) }
+    ensures gone { IfNone result (IsGone store.now expire clock key.now) }
+{
+    let handle = store.find(key)?;
+    if !is_live(store, expire, clock, handle.slot) {
+        return None;
+    }
+    Some(handle.slot)
 }
 
 /// Whether a slot has an entry that is there when the clock has come to this moment, and that a filter means.

@@ -1,4 +1,4 @@
-//! The pooled stick table: each event costs the same whatever the table's size.
+//! The pooled stick table: an event of one key costs the same whatever the table's size.
 #![tactic(auto)]
 
 mod clearing;
@@ -24,8 +24,8 @@ use stick_table::{PlainTable, Table};
 use table_model::{Event, Refusal, Reply, Spec};
 use ticket_book::TicketBook;
 
-/// A table whose every event costs the same whatever its size. `open` takes the memory of its whole size; after it only
-/// replies and keys take some.
+/// A table in which an event of one key costs the same whatever its size. `open` takes the memory of its whole size;
+/// after it only replies and keys take some.
 #[derive(Drop)]
 pub struct StickTable {
     alloc: Global,

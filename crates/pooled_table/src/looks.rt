@@ -4,7 +4,7 @@ ghost use Rattle.table_model.specs.Step.{begun, get as reply_to_get, look as rep
 ghost use Rattle.stick_table.specs.Replies.{shown_reply, looked_reply};
 
 use crate::StickTable;
-use crate::filters::is_live;
+use crate::filters::live_slot;
 use crate::rows::show_row;
 use sequence::NoMemory;
 use stick_key::StickKey;
@@ -17,13 +17,10 @@ impl StickTable {
         requires limit { clock < 2 ^ 62 }
         ensures { IfOk result (λ reply. reply ≡ shown_reply self.now clock key.now) }
     {
-        let Some(handle) = self.store.find(key) else {
+        let Some(at) = live_slot(&self.store, self.spec.expire, clock, key) else {
             return Ok(Reply::Absent);
         };
-        if !is_live(&self.store, self.spec.expire, clock, handle.slot) {
-            return Ok(Reply::Absent);
-        }
-        let row = show_row(self.alloc, &self.spec, &self.store, clock, handle.slot)?;
+        let row = show_row(self.alloc, &self.spec, &self.store, clock, at)?;
         Ok(Reply::Row(row))
     }
 

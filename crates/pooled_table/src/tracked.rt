@@ -1,33 +1,18 @@
 //! A key that is tracked once more.
-ghost use Rattle.std.specs.Prelude.{◌≡◌, ◌+◌, ◌≤◌, ◌<◌, ◌^◌, IfOk, IfSome, IfNone, OnErr, filter, max, true, unwrap_or, length};
+ghost use Rattle.std.specs.Prelude.{◌≡◌, ◌+◌, ◌≤◌, ◌<◌, ◌^◌, IfOk, OnErr, filter, max, true, unwrap_or, length};
 ghost use Rattle.std.specs.Option.{option_map_or};
-ghost use Rattle.entry_store.specs.Stock.{IsStock};
 ghost use Rattle.table_model.specs.State.{record_at, refs, row_of, stays, zero_record};
 ghost use Rattle.table_model.specs.Step.{begun, connected, is_free_slot, slot_of, track as reply_to_track};
-ghost use Rattle.pooled_table.specs.Seen.{IsLive, IsGone, cells_of};
+ghost use Rattle.pooled_table.specs.Seen.{cells_of};
 
 use crate::StickTable;
-use crate::filters::is_live;
+use crate::filters::live_slot;
 use crate::rows::left_at;
-use entry_store::Store;
 use sequence::{NoMemory, Sequence};
 use std::alloc::Global;
 use stick_key::StickKey;
 use stored_data::{Act, StoredSet, Values};
 use table_model::{Cell, Cells, Reply, Row};
-
-/// The slot of a key's entry, where it is there when the clock has come to this moment.
-fn live_slot(store: &Store, expire: Option<u32>, clock: u64, key: &StickKey) -> Option<u32>
-    requires { clock < 2 ^ 62 }
-    ensures live { IfSome result (IsLive store.now expire clock key.now) }
-    ensures gone { IfNone result (IsGone store.now expire clock key.now) }
-{
-    let handle = store.find(key)?;
-    if !is_live(store, expire, clock, handle.slot) {
-        return None;
-    }
-    Some(handle.slot)
-}
 
 /// What a row shows of data, of an entry that has so many references.
 fn cells_with(

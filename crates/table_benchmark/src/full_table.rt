@@ -1,0 +1,163 @@
+//! A table that is full, and what is done to it.
+ghost use Rattle.std.specs.Prelude.{◌≤◌, ◌<◌, ◌^◌, IfOk};
+ghost use Rattle.table_model.specs.Limits.{IsTableEvent, IsTableSpec};
+
+use random_numbers::Random;
+use sequence::Sequence;
+use std::alloc::{AllocError, Global};
+use stick_key::{KeyType, Sample, StickKey, convert};
+use stick_table::{Cell, Event, Reply, Spec, Table, Ticket};
+use stored_data::{Act, Column, Datum, StoredSet};
+
+/// What is timed.
+#[derive(Clone, Copy)]
+pub enum Work {
+    Get,
+    Put,
+    Renew,
+    Track,
+    Connect,
+    Expire,
+}
+
+/// What the table is made with: entries that live for an hour.
+fn spec(alloc: Global, size: u32) -> Result<Spec, AllocError>
+    requires { (1 ≤ size) × (size ≤ 2 ^ 30) }
+    ensures { IfOk result IsTableSpec }
+{
+    let mut columns = StoredSet::new(alloc);
+    columns.add(Column {
+        datum: Datum::Gpc0,
+        period: 0,
+    })?;
+    columns.add(Column {
+        datum: Datum::ConnRate,
+        period: 10_000,
+    })?;
+    columns.add(Column {
+        datum: Datum::ConnCur,
+        period: 0,
+    })?;
+    Ok(Spec {
+        kind: KeyType::Ip,
+        size,
+        expire: Some(3_600_000),
+        nopurge: false,
+        columns,
+        max_refs: 1_024,
+        life: 1 << 62,
+        seed: 1,
+    })
+}
+
+/// The key of an address.
+fn key(alloc: Global, number: u32) -> Result<StickKey, AllocError> {
+    match convert(alloc, &Sample::V4(number.to_be_bytes()), KeyType::Ip) {
+        Ok(Some(key)) => Ok(key),
+        _ => Err(AllocError),
+    }
+}
+
+/// A put of one value.
+fn put(alloc: Global, number: u32) -> Result<Event, AllocError>
+    ensures { IfOk result IsTableEvent }
+{
+    let pair = Cell {
+        datum: Datum::Gpc0,
+        value: 1,
+    };
+    Ok(Event::Put(
+        0,
+        key(alloc, number)?,
+        Sequence::from_slice(alloc, &[pair])?,
+    ))
+}
+
+/// A table that has as many entries as it can have, of the keys from 0 on.
+#[derive(Drop)]
+pub struct FullTable<T: Table> {
+    alloc: Global,
+    table: T,
+    size: u32,
+    newest: u32,
+}
+
+impl<T: Table> FullTable<T> {
+    pub fn new(alloc: Global, size: u32) -> Result<FullTable<T>, AllocError>
+        requires { (1 ≤ size) × (size ≤ 2 ^ 30) }
+    {
+        let mut table = T::open(alloc, spec(alloc, size)?)?;
+        for number in 0..size {
+            let event = put(alloc, number)?;
+            drop(table.step(&event));
+        }
+        Ok(FullTable {
+            alloc,
+            table,
+            size,
+            newest: size,
+        })
+    }
+
+    /// One event; answers how many were refused.
+    fn step(&mut self, event: &Event) -> u64
+        requires { IsTableEvent event.now }
+    {
+        match self.table.step(event) {
+            Ok(_) => 0,
+            Err(_) => 1,
+        }
+    }
+
+    /// The ticket of a reference to a key.
+    fn track(&mut self, number: u32) -> Result<Option<Ticket>, AllocError> {
+        let event = Event::Track(0, key(self.alloc, number)?);
+        Ok(match self.table.step(&event) {
+            Ok(Reply::Tracked { ticket, .. }) => Some(ticket),
+            _ => None,
+        })
+    }
+
+    /// A work on the entry of a key; answers how many events were refused.
+    fn work(&mut self, work: Work, number: u32) -> Result<u64, AllocError> {
+        match work {
+            Work::Get => {
+                let event = Event::Get(0, key(self.alloc, number)?);
+                Ok(self.step(&event))
+            }
+            Work::Put => {
+                let event = put(self.alloc, number)?;
+                Ok(self.step(&event))
+            }
+            Work::Renew => {
+                self.newest = self.newest.wrapping_add(1);
+                let event = put(self.alloc, self.newest)?;
+                Ok(self.step(&event))
+            }
+            Work::Track => match self.track(number)? {
+                Some(ticket) => Ok(self.step(&Event::Release(0, ticket))),
+                None => Ok(1),
+            },
+            Work::Connect => match self.track(number)? {
+                Some(ticket) => {
+                    let counted = self.step(&Event::Count(0, ticket, Act::IncGpc0));
+                    let looked = self.step(&Event::Look(0, ticket));
+                    let released = self.step(&Event::Release(0, ticket));
+                    Ok(counted.saturating_add(looked).saturating_add(released))
+                }
+                None => Ok(1),
+            },
+            Work::Expire => Ok(self.step(&Event::Expire(0))),
+        }
+    }
+
+    /// So many rounds of a work, on entries drawn at random; answers how many events were refused.
+    pub fn run(&mut self, work: Work, random: &mut Random, count: u32) -> Result<u64, AllocError> {
+        let mut refused: u64 = 0;
+        for _round in 0..count {
+            let number = random.below(self.size.max(1));
+            refused = refused.saturating_add(self.work(work, number)?);
+        }
+        Ok(refused)
+    }
+}

@@ -1,0 +1,95 @@
+//! Times the events of a table that is full. It is run by hand, with the kind of table, how many entries it has, and how
+//! many rounds there are.
+#![tactic(auto)]
+
+mod full_table;
+
+ghost use Rattle.std.specs.Prelude.{◌≤◌, ◌^◌};
+
+use full_table::{FullTable, Work};
+use pooled_table::StickTable;
+use random_numbers::Random;
+use std::alloc::Global;
+use std::io::Print;
+use std::rt::Clock;
+use std::time::{Duration, Instant};
+use std::{env, io};
+use stick_table::{PlainTable, Table};
+
+/// Prints the least time of five runs, in tenths of a nanosecond for each round, and how many events were refused.
+fn print_time<T: Table, R: Clock + Print>(
+    rt: &R,
+    full: &mut FullTable<T>,
+    name: &str,
+    work: Work,
+    count: u32,
+) -> io::Result<()> {
+    let mut random = Random::new(1);
+    let mut least = u128::MAX;
+    let mut refused: u64 = 0;
+    for _run in 0..5usize {
+        let start = Instant::now(rt)?;
+        refused = refused.saturating_add(full.run(work, &mut random, count)?);
+        let time: Duration = start.elapsed(rt)?;
+        least = least.min(time.as_nanos());
+    }
+    let tenths = least.saturating_mul(10) / u128::from(count.max(1));
+    println!(rt;
+        "{name}: {}.{} ns ({refused} refused)",
+        tenths / 10,
+        tenths % 10
+    )
+}
+
+static WORKS: [(&str, Work); 6] = [
+    ("get", Work::Get),
+    ("put on an entry", Work::Put),
+    ("track, release", Work::Track),
+    ("track, count, look, release", Work::Connect),
+    ("expire", Work::Expire),
+    ("put on a new key, the oldest purged", Work::Renew),
+];
+
+/// Prints the times of a table of this size.
+fn print_times<T: Table, R: Clock + Print>(
+    rt: &R,
+    alloc: Global,
+    size: u32,
+    count: u32,
+) -> io::Result<()>
+    requires { (1 ≤ size) × (size ≤ 2 ^ 30) }
+{
+    let mut full = FullTable::<T>::new(alloc, size)?;
+    for (name, work) in WORKS.iter() {
+        print_time(rt, &mut full, name, *work, count)?;
+    }
+    Ok(())
+}
+
+/// The number that a word of the command line is.
+fn number_of(rt: &HostRuntime, place: usize) -> io::Result<Option<u32>> {
+    Ok(match env::args(rt)?.nth(place) {
+        Some(word) => word.as_str().parse::<u32>().ok(),
+        None => None,
+    })
+}
+
+/// Whether the first word of the command line asks for a plain table.
+fn is_plain(rt: &HostRuntime) -> io::Result<bool> {
+    Ok(match env::args(rt)?.nth(1) {
+        Some(word) => word.as_str() == "plain",
+        None => false,
+    })
+}
+
+fn main(rt: HostRuntime) -> io::Result<()> {
+    match (number_of(&rt, 2)?, number_of(&rt, 3)?) {
+        (Some(size), Some(count)) if 1 <= size && size <= 1 << 30 => {
+            if is_plain(&rt)? {
+                return print_times::<PlainTable, HostRuntime>(&rt, rt.alloc(), size, count);
+            }
+            print_times::<StickTable, HostRuntime>(&rt, rt.alloc(), size, count)
+        }
+        _ => println!(rt; "usage: table_benchmark plain|pooled SIZE COUNT"),
+    }
+}
