@@ -1,0 +1,2 @@
+pub mod ShardsLemmas
+pub mod ReplyLemmas

@@ -1,0 +1,2 @@
+pub mod ShardsState
+pub mod Tracking

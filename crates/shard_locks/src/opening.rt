@@ -1,0 +1,77 @@
+//! What a table in shards begins with.
+
+ghost use Rattle.std.specs.Prelude.{◌≡◌, ◌≤◌, length, map, IfOk};
+ghost use Rattle.std.specs.List.{range_with_len};
+ghost use Rattle.table_model.specs.Limits.{IsTableSpec};
+ghost use Rattle.shard_book.specs.Keeping.{part_of};
+ghost use Rattle.shard_locks.specs.ShardsState.{fresh_seats};
+
+use crossbeam_utils::CachePadded;
+use sequence::NoMemory;
+use shard_book::Book;
+use shard_seats::Seat;
+use std::alloc::Global;
+use std::sync::Mutex;
+use stick_key::size_of_shard;
+use stick_table::{Spec, Table};
+
+/// The books of a table's shards, each under a lock, in memory that no other's lock lies in.
+pub(crate) type Locks<T> = Vec<CachePadded<Mutex<Book<T>>>>;
+
+/// What a shard of a table is made with: all as the table, and the shard's part of its size.
+fn spec_of_shard(spec: &Spec, shards: u32, shard: u32) -> Result<Spec, NoMemory>
+    requires { 1 ≤ shards }
+    ensures { IfOk result (λ part. part ≡ part_of spec.now shards shard) }
+{
+    let mut part = spec.copy()?;
+    part.size = size_of_shard(spec.size, shards, shard);
+    Ok(part)
+}
+
+/// What each shard of a table is made with.
+pub(crate) fn specs_of_shards(
+    alloc: Global,
+    spec: &Spec,
+    shards: u32,
+) -> Result<Vec<Spec>, NoMemory>
+    requires { 1 ≤ shards }
+    ensures { IfOk result (λ specs. specs.items ≡ map (part_of spec.now shards) (range_with_len 0 shards)) }
+{
+    let mut specs = Vec::new(alloc);
+    for shard in 0..shards {
+        specs.push(spec_of_shard(spec, shards, shard)?)?;
+    }
+    Ok(specs)
+}
+
+/// The books of a table's empty shards, under their locks.
+pub(crate) fn open_locks<T: Table>(
+    alloc: Global,
+    spec: &Spec,
+    shards: u32,
+) -> Result<Locks<T>, NoMemory>
+    requires spec { IsTableSpec spec.now }
+    requires some { 1 ≤ shards }
+    requires places { shards ≤ spec.now.size }
+    ensures { IfOk result (λ locks. length locks.items ≡ shards) }
+{
+    let mut locks = Vec::new(alloc);
+    for shard in 0..shards {
+        let part = spec_of_shard(spec, shards, shard)?;
+        let book = Book::open(alloc, part)?;
+        locks.push(CachePadded::new(Mutex::new(book)))?;
+    }
+    Ok(locks)
+}
+
+/// Seats with the numbers from 0 on, that have asked and seen nothing yet.
+#[tactic(auto, using(crate::proofs::ShardsLemmas::fresh_seats_more))]
+pub(crate) fn open_seats(alloc: Global, seats: u32, keeps: bool) -> Result<Vec<Seat>, NoMemory>
+    ensures { IfOk result (λ made. made.items ≡ fresh_seats seats keeps) }
+{
+    let mut made = Vec::new(alloc);
+    for number in 0..seats {
+        made.push(Seat::new(alloc, number, keeps))?;
+    }
+    Ok(made)
+}
