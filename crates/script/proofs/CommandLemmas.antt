@@ -18,7 +18,7 @@ use Rattle.shard_book.specs.BooksState.{BooksState, ExtendsAt}
 use Rattle.command_text.specs.Form.{Form, Request, Nothing, Unknown, Tables, Of, form_of}
 use Rattle.command_text.specs.Seen.{words_of}
 use Rattle.command_text.specs.declared.message.Message.{Message}
-use Rattle.table_cli.specs.Answers.{Answers, AsksOf, Does, HeadAt, Says as SaysForm, ShowsTables, place_of}
+use Rattle.table_cli.specs.Answers.{Answers, AsksOf, Does, HeadAt, AnswersForm as SaysForm, ShowsTables, place_of}
 use Rattle.table_cli.specs.Shards.{AsksInTurn, shards_of}
 use Rattle.table_cli.specs.States.{CommandState}
 use Rattle.connection_drive.specs.Balance.{times_of, times_out}

@@ -238,8 +238,8 @@ impl<T: Table> Shards<T> {
     }
 
     /// Makes a shard's live state the base of its record, as `Book::roll` does, where the record has that many calls and no
-    /// receipts are kept; answers whether it did. The table is copied while the lock is held: of 100,000 entries that takes
-    /// some ms. Where a growth is refused, nothing changes.
+    /// receipts are kept; answers whether it did. The whole table is copied while the lock is held. Where a growth is
+    /// refused, nothing changes.
     pub fn roll(&self, rt: &impl Wait, shard: u32, least: u64) -> Result<bool, NoMemory>
         requires shard { shard < self.now.shards }
         ensures kept { self.now.keep ≡ true → result ≡ Ok false }
