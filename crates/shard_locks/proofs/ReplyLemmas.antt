@@ -1,5 +1,6 @@
--- What a caller knows of the reply to an event of a reference.
+-- What a caller knows of a reply.
 use Rattle.std.proofs.Common.{◌≡◌, ℕ, true, Option, Some, None, is_some, refl, sym, subst}
+use Rattle.std.specs.Prelude.{Result, Ok, Err, IfOk}
 use Rattle.std.proofs.lemmas.Bool.{false≢true}
 use Rattle.table_model.specs.Key.{Key}
 use Rattle.table_model.specs.State.{State, key_of}
@@ -10,7 +11,9 @@ use Rattle.table_model.specs.declared.rows.Ticket.{Ticket}
 use Rattle.table_model.specs.declared.events.Event.{Event}
 use Rattle.table_model.specs.declared.events.Event.TheVariants.{Look}
 use Rattle.table_model.specs.declared.replies.Reply.{Reply}
+use Rattle.table_model.specs.declared.replies.Refusal.{Refusal}
 use Rattle.table_model.proofs.ReferenceLemmas.{reference-law}
+use Rattle.shard_book.specs.Keeping.{IsAnswer}
 use Rattle.shard_seats.specs.SeatState.{SeatState}
 use Rattle.shard_seats.specs.Told.{Told}
 use Rattle.shard_locks.specs.Tracking.{IsShown}
@@ -27,3 +30,9 @@ pub told_shown : (old new : SeatState) (shard now : ℕ) (ticket : Ticket) (repl
 told_shown old new shard now ticket reply told =
     let from = answered_from told.before (Look now ticket) reply told.after ticket (key_of ticket told.before.tickets) told.legal told.step refl refl told.step.out in
     subst IsShown (sym from.1.answered) tt
+
+-- what a seat was told is an answer that a table gives
+pub told_answers : (old new : SeatState) (shard : ℕ) (event : Event) (result : Result Reply Refusal)
+    → IfOk result (λ reply. Told old shard event reply new) → IfOk result (λ reply. IsAnswer event reply)
+told_answers old new shard event (Ok reply) told = record { before = told.before; after = told.after; limits = told.limits; legal = told.legal; step = told.step }
+told_answers old new shard event (Err refusal) told = tt

@@ -16,6 +16,11 @@ pub record ShardsState : Type 0 where
   pub shards : ℕ
   pub keep : Bool
 
+-- a table in shards, and the seat that asks it
+pub record SeatedState : Type 0 where
+  pub table : ShardsState
+  pub seat : SeatState
+
 -- 1 to 64 shards, no more than the table has places; and what each is made with
 pub record AreShards (spec : Spec) (shards : ℕ) (specs : List Spec) : Type 0 where
   pub limits : IsTableSpec spec

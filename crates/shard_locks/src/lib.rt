@@ -2,8 +2,10 @@
 #![tactic(auto)]
 
 mod opening;
+mod seated;
 mod shards;
 mod tracking;
 
+pub use seated::Seated;
 pub use shards::Shards;
 pub use tracking::Tracking;

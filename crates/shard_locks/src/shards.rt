@@ -95,6 +95,15 @@ impl<T: Table> Shards<T> {
         &self.specs[shard as usize]
     }
 
+    /// What the whole table was made with.
+    pub(crate) fn whole(&self) -> &Spec
+        ensures spec { result.now ≡ self.now.spec }
+        ensures limits { IsTableSpec result.now }
+        ensures places { self.now.shards ≤ result.now.size }
+    {
+        &self.spec
+    }
+
     /// Has a shard's book answer an event for a seat, under the shard's lock.
     fn call_any(
         &self,

@@ -1,0 +1,81 @@
+//! A table in shards, asked by one seat.
+
+ghost use Rattle.std.specs.Prelude.{◌≡◌};
+
+use crate::Shards;
+use shard_book::Keeper;
+use shard_seats::Seat;
+use std::marker::Model;
+use std::sync::Wait;
+use stick_table::{Event, Refusal, Reply, Spec, Table};
+
+/// A table in shards that threads share, asked by one seat: what commands ask, as those of a socket.
+#[derive(Drop)]
+pub struct Seated<'a, T: Table, R> {
+    shards: &'a Shards<T>,
+    rt: &'a R,
+    seat: Seat,
+}
+
+impl<'a, T: Table, R> Model for Seated<'a, T, R> {
+    ghost use Rattle.shard_locks.specs.ShardsState.{SeatedState};
+
+    ghost Value = { SeatedState };
+
+    ghost view = { λ seated. record { table = seated.shards.now; seat = seated.seat } };
+}
+
+impl<'a, T: Table, R> Seated<'a, T, R> {
+    /// The table, asked by this seat.
+    pub fn new(shards: &'a Shards<T>, rt: &'a R, seat: Seat) -> Seated<'a, T, R>
+        ensures { result ≡ record { table = shards.now; seat = seat } }
+    {
+        Seated { shards, rt, seat }
+    }
+
+    /// The seat, with its calls.
+    pub fn into_seat(self) -> Seat
+        ensures { result ≡ self.entry.seat }
+    {
+        let Seated {
+            shards: _,
+            rt: _,
+            seat,
+        } = self;
+        seat
+    }
+}
+
+impl<'a, T: Table, R: Wait> Keeper for Seated<'a, T, R> {
+    ghost use Rattle.shard_seats.specs.SeatState.{SeatState};
+    ghost use Rattle.shard_seats.specs.Told.{Told, IsRefusedTo};
+
+    ghost table = { λ seated. seated.table.spec };
+
+    ghost parts = { λ seated. seated.table.shards };
+
+    ghost State = { SeatState };
+
+    ghost state = { λ seated. seated.seat };
+
+    ghost answers = { Told };
+
+    ghost refuses = { IsRefusedTo };
+
+    fn size(&self) -> u32 {
+        self.shards.whole().size
+    }
+
+    fn shards(&self) -> u32 {
+        self.shards.shards()
+    }
+
+    fn spec(&self) -> &Spec {
+        self.shards.whole()
+    }
+
+    #[tactic(auto, using(crate::proofs::ReplyLemmas::told_answers))]
+    fn ask(&mut self, shard: u32, event: Event) -> Result<Reply, Refusal> {
+        self.shards.call(self.rt, &mut self.seat, shard, event)
+    }
+}
