@@ -83,6 +83,7 @@ pub struct FullTable<T: Table> {
 }
 
 impl<T: Table> FullTable<T> {
+    /// A table of this size, each place of which is taken.
     pub fn new(alloc: Global, size: u32) -> Result<FullTable<T>, AllocError>
         requires { (1 ≤ size) × (size ≤ 2 ^ 30) }
     {
