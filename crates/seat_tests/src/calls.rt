@@ -122,10 +122,7 @@ fn is_refused(alloc: Global, keeps: bool) -> Result<bool, Refusal> {
             && refusal(&mut book, &mut seat, Event::Release(0, ticket)).is_none()
             && refusal(&mut book, &mut seat, Event::Release(0, ticket)) == Some(Refusal::Stale)
             && refusal(&mut fresh, &mut seat, Event::Release(0, ticket))
-                == Some(Refusal::Behind {
-                    count: 0,
-                    prefix: 3,
-                })
+                == Some(Refusal::Behind { count: 0, front: 3 })
             && (seat.calls(7), seat.seen(7)) == (3, 3)
             && fresh.events() == 0,
     )
