@@ -66,14 +66,10 @@ impl<T: Table> Book<T> {
         ensures release { (now : _) (ticket : _) → event ≡ Release now ticket → is_some (key_of ticket self.old.live.tickets) ≡ true → IsOk result }
         ensures err { OnErr result (self.new ≡ self.old) }
     {
-        match answer(&mut self.live, &mut self.calls, self.out, &event) {
-            Ok(reply) => {
-                self.out = out_after(self.out, &reply);
-                self.calls.push_reserved(record_of(seat, event, &reply));
-                Ok(reply)
-            }
-            Err(refusal) => Err(refusal),
-        }
+        let reply = answer(&mut self.live, &mut self.calls, self.out, &event)?;
+        self.out = out_after(self.out, &reply);
+        self.calls.push_reserved(record_of(seat, event, &reply));
+        Ok(reply)
     }
 
     /// The same, the reply given twice, as for the caller and for what the caller keeps. Memory for both is taken before
@@ -89,14 +85,10 @@ impl<T: Table> Book<T> {
         ensures release { (now : _) (ticket : _) → event ≡ Release now ticket → is_some (key_of ticket self.old.live.tickets) ≡ true → IsOk result }
         ensures err { OnErr result (self.new ≡ self.old) }
     {
-        match answer_twice(&mut self.live, &mut self.calls, self.out, &event) {
-            Ok((reply, again)) => {
-                self.out = out_after(self.out, &reply);
-                self.calls.push_reserved(record_of(seat, event, &reply));
-                Ok((reply, again))
-            }
-            Err(refusal) => Err(refusal),
-        }
+        let (reply, again) = answer_twice(&mut self.live, &mut self.calls, self.out, &event)?;
+        self.out = out_after(self.out, &reply);
+        self.calls.push_reserved(record_of(seat, event, &reply));
+        Ok((reply, again))
     }
 
     /// Makes the live state the base, and empties the record. The record's memory stays, and so its places for the

@@ -1,2 +1,3 @@
 pub mod ShardsLemmas
 pub mod ReplyLemmas
+pub mod ListingLemmas

@@ -9,7 +9,7 @@ use Rattle.shard_book.specs.Keeping.{part_of}
 use Rattle.shard_book.proofs.BookLemmas.{one_behind}
 use Rattle.shard_book.proofs.BooksLemmas.{part_limits}
 use Rattle.shard_seats.specs.SeatState.{fresh}
-use Rattle.shard_locks.specs.ShardsState.{ShardsState, AreShards, fresh_seats}
+use Rattle.shard_locks.specs.ShardsState.{ShardsState, UnlockedState, AreShards, fresh_seats}
 
 -- one seat more
 pub fresh_seats_more : (n : ℕ) (keeps : Bool) → fresh_seats (n + 1) keeps ≡ fresh_seats n keeps ++ fresh n keeps ∷ []
@@ -41,3 +41,9 @@ pub part_within : (inside now : ShardsState) (specs : List Spec) (i : ℕ) (foun
 part_within inside now specs i found same are below is =
     let whole : found ≡ part_of inside.spec inside.shards i = part_found inside now specs i found same are below is ∙ sym (ap (λ (table : ShardsState). part_of table.spec table.shards i) same) in
     subst IsTableSpec (sym whole) (part_limits inside.spec inside.shards i are.limits are.some are.places)
+
+-- out of their locks, there are as many books as shards were made
+pub parts_count : (inside now : UnlockedState) → inside ≡ now → AreShards inside.spec (length inside.books) inside.specs → length now.books ≡ length inside.specs
+parts_count inside now same are =
+    let count : length inside.specs ≡ length inside.books = ap length are.parts ∙ length-map-range_with_len (part_of inside.spec (length inside.books)) 0 (length inside.books) in
+    ap (λ (table : UnlockedState). length table.books) (sym same) ∙ sym count

@@ -1,2 +1,3 @@
 pub mod ShardsState
 pub mod Tracking
+pub mod Listing

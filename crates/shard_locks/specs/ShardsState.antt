@@ -1,5 +1,5 @@
 -- What a table in shards is to those who share it. What its books hold is known under their locks alone.
-use Rattle.std.specs.Prelude.{◌≡◌, ℕ, ◌≤◌, Bool, List, map, ◌⊎◌}
+use Rattle.std.specs.Prelude.{◌≡◌, ℕ, ◌≤◌, Bool, List, length, map, ◌⊎◌}
 use Rattle.std.specs.List.{range_with_len}
 use Rattle.table_model.specs.Limits.{IsTableSpec}
 use Rattle.table_model.specs.declared.specification.Spec.{Spec}
@@ -7,6 +7,7 @@ use Rattle.table_model.specs.declared.events.Event.{Event}
 use Rattle.table_model.specs.declared.replies.Refusal.{Refusal}
 use Rattle.table_model.specs.declared.replies.Refusal.TheVariants.{Stale}
 use Rattle.shard_book.specs.Keeping.{part_of}
+use Rattle.shard_book.specs.BookState.{BookState}
 use Rattle.shard_seats.specs.SeatState.{SeatState, fresh}
 use Rattle.shard_seats.specs.Told.{IsRefusedTo}
 
@@ -15,6 +16,13 @@ pub record ShardsState : Type 0 where
   pub spec : Spec
   pub shards : ℕ
   pub keep : Bool
+
+-- the same with its books, out of their locks, and what each of its shards was made with
+pub record UnlockedState : Type 0 where
+  pub spec : Spec
+  pub specs : List Spec
+  pub keep : Bool
+  pub books : List BookState
 
 -- a table in shards, and the seat that asks it
 pub record SeatedState : Type 0 where
@@ -28,6 +36,19 @@ pub record AreShards (spec : Spec) (shards : ℕ) (specs : List Spec) : Type 0 w
   pub few : shards ≤ 64
   pub places : shards ≤ spec.size
   pub parts : specs ≡ map (part_of spec shards) (range_with_len 0 shards)
+
+-- what each of its shards is made with
+abbrev pub parts_of : ShardsState → List Spec
+parts_of table = map (part_of table.spec table.shards) (range_with_len 0 table.shards)
+
+-- a table out of its locks, and in them
+abbrev pub IsUnlocked : ShardsState → UnlockedState → Type 0
+IsUnlocked table unlocked = (unlocked.spec ≡ table.spec) × (unlocked.specs ≡ parts_of table) × (unlocked.keep ≡ table.keep) × (length unlocked.books ≡ table.shards)
+
+-- an empty list has a place for each lock
+pub record HasRoom (used capacity locks : ℕ) : Type 0 where
+  pub empty : used ≡ 0
+  pub places : locks ≤ capacity
 
 -- seats with the numbers from 0 on
 abbrev pub fresh_seats : ℕ → Bool → List SeatState

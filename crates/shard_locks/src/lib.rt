@@ -1,11 +1,15 @@
 //! A table in shards, shared by threads: each shard's book under its lock.
 #![tactic(auto)]
 
+mod listing;
 mod opening;
 mod seated;
 mod shards;
 mod tracking;
+mod unlocked;
 
+pub use listing::Listing;
 pub use seated::Seated;
 pub use shards::Shards;
 pub use tracking::Tracking;
+pub use unlocked::Unlocked;

@@ -1,6 +1,6 @@
 //! A table in shards, shared by threads.
 
-ghost use Rattle.std.specs.Prelude.{◌≡◌, ◌≤◌, ◌<◌, ◌^◌, Ok, Err, true, false, IfOk, IfErr, OnOk, OnErr};
+ghost use Rattle.std.specs.Prelude.{◌≡◌, ◌≤◌, ◌<◌, ◌^◌, Ok, Err, true, false, length, IfOk, IfErr, OnOk, OnErr};
 ghost use Rattle.stick_key.specs.Shard.{shard};
 ghost use Rattle.stored_data.specs.Laws.{HasTag};
 ghost use Rattle.table_model.specs.Limits.{IsTableSpec, IsTableEvent};
@@ -9,12 +9,13 @@ ghost use Rattle.table_model.specs.declared.replies.Reply.TheVariants.{Row as Sh
 ghost use Rattle.table_model.specs.declared.replies.Refusal.TheVariants.{Stale};
 ghost use Rattle.shard_book.specs.Keeping.{MayAsk, part_of};
 ghost use Rattle.shard_seats.specs.Told.{Told, IsRefusedTo};
-ghost use Rattle.shard_locks.specs.ShardsState.{IsReferenceRefused, fresh_seats};
+ghost use Rattle.shard_locks.specs.ShardsState.{IsReferenceRefused, IsUnlocked, fresh_seats};
 ghost use Rattle.shard_locks.specs.Tracking.{IsAt, reply_of};
 
-use crate::Tracking;
 use crate::opening::{Locks, open_locks, open_seats, specs_of_shards};
 use crate::tracking::{counted_value, shown_row, tracking_of};
+use crate::unlocked::{lock_all, unlock_all};
+use crate::{Tracking, Unlocked};
 use sequence::NoMemory;
 use shard_seats::{Seat, TrackRef, serve};
 use std::alloc::Global;
@@ -74,6 +75,51 @@ impl<T: Table> Shards<T> {
             books,
         };
         Ok((table, seats))
+    }
+
+    /// The books out of their locks, as settling needs them: nobody waits for a lock that is owned. Where there is no memory
+    /// for the list of them, the table comes back.
+    pub fn into_books(self, alloc: Global) -> Result<Unlocked<T>, Shards<T>>
+        ensures ok { IfOk result (IsUnlocked self) }
+        ensures err { IfErr result (λ table. table ≡ self) }
+    {
+        let mut books = Vec::new(alloc);
+        if books.reserve(self.books.as_slice().len()).is_err() {
+            return Err(self);
+        }
+        let Shards {
+            spec,
+            specs,
+            keep,
+            books: locks,
+        } = self;
+        let room = unlock_all(locks, &mut books);
+        Ok(Unlocked {
+            spec,
+            specs,
+            keep,
+            books,
+            room,
+        })
+    }
+
+    /// The table again, its books under locks. It takes no memory.
+    pub fn from_books(unlocked: Unlocked<T>) -> Shards<T>
+        ensures { result ≡ record { spec = unlocked.spec; shards = length unlocked.books; keep = unlocked.keep } }
+    {
+        let Unlocked {
+            spec,
+            specs,
+            keep,
+            books,
+            room,
+        } = unlocked;
+        Shards {
+            spec,
+            specs,
+            keep,
+            books: lock_all(books, room),
+        }
     }
 
     /// How many shards there are.

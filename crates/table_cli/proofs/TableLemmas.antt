@@ -12,7 +12,8 @@ use Rattle.table_cli.specs.Answers.{AsksOf, Does, HeadAt, HeadsOf, IsHead, place
 use Rattle.command_text.specs.Form.{Request}
 use Rattle.command_text.specs.Request.{Asks}
 use Rattle.shard_book.specs.NamedTables.{NamedState, state_of, states_of}
-use Rattle.table_cli.specs.Shards.{Answering, AsksInTurn, Refusing, total}
+use Rattle.joined_replies.specs.Total.{total}
+use Rattle.table_cli.specs.Shards.{Answering, AsksInTurn, Refusing}
 use Rattle.command_text.specs.Texts.{message_text}
 use Rattle.command_text.specs.declared.message.Message.{Message}
 use Rattle.command_text.specs.declared.message.Message.TheVariants.{NoSuchTable}

@@ -15,7 +15,8 @@ use Rattle.table_model.specs.declared.replies.Reply.TheVariants.{Rows}
 use Rattle.command_text.specs.Form.{Form, Request, Nothing, Unknown, Tables, Of, form_of}
 use Rattle.command_text.specs.Request.{Asks}
 use Rattle.command_text.specs.Seen.{words_of}
-use Rattle.table_cli.specs.Shards.{Answering, AsksInTurn, IsShown, Refusing, shards_of, total}
+use Rattle.joined_replies.specs.Total.{IsShown, total}
+use Rattle.table_cli.specs.Shards.{Answering, AsksInTurn, Refusing, shards_of}
 use Rattle.shard_book.specs.NamedTables.{NamedState}
 use Rattle.table_cli.specs.States.{CommandState, Showing}
 use Rattle.command_text.specs.Texts.{message_text, reply_text}

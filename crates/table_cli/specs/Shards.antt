@@ -1,21 +1,24 @@
--- What the shards of a table answer an event, one after another, and what that comes to.
-use Rattle.std.specs.Prelude.{◌≡◌, ◌⊎◌, ℕ, ◌+◌, true, Option, Some, None, List, [], ◌∷◌, ◌++◌, fold}
+-- Which shards of a table are asked an event, and what they answer, one after another.
+use Rattle.std.specs.Prelude.{◌≡◌, ◌⊎◌, ℕ, true, Option, Some, None, List, [], ◌∷◌}
 use Rattle.std.specs.Option.{option_map_or}
-use Rattle.std.specs.Ordering.{is_lt}
 use Rattle.std.specs.List.{range_with_len}
-use Rattle.std.specs.List.Sorted.{IsPermutation, IsSortedBy}
 use Rattle.stick_key.specs.Shard.{shard}
-use Rattle.table_model.specs.Key.{key_cmp}
 use Rattle.table_model.specs.Step.{asks_rows, shows_rows}
-use Rattle.table_model.specs.declared.rows.Row.{Row}
 use Rattle.table_model.specs.declared.events.Event.{Event}
-use Rattle.table_model.specs.declared.events.Event.TheVariants.{Put, Clear}
+use Rattle.table_model.specs.declared.events.Event.TheVariants.{Put, Clear, ClearWhere, List as ListRows}
 use Rattle.table_model.specs.declared.replies.Reply.{Reply}
-use Rattle.table_model.specs.declared.replies.Reply.TheVariants.{Absent, Rows, Cleared}
 use Rattle.table_model.specs.declared.replies.Refusal.{Refusal}
 use Rattle.command_text.specs.Texts.{refusal_message}
 use Rattle.command_text.specs.declared.message.Message.{Message}
 use Rattle.command_text.specs.declared.message.Message.TheVariants.{OutOfMemory}
+
+-- an event that a command makes
+abbrev pub IsCommand : Event → Type 0
+IsCommand (Put now key pairs) = Unit {0}
+IsCommand (Clear now key) = Unit {0}
+IsCommand (ClearWhere now choice) = Unit {0}
+IsCommand (ListRows now choice) = Unit {0}
+IsCommand _ = ⊥
 
 -- in a state a shard may answer an event so, and leave that state
 abbrev pub Answering : Type 0 → Type 1
@@ -52,28 +55,3 @@ AsksInTurn {S} answers refuses event (i ∷ shards) old (reply ∷ replies) end 
 -- rows are replied only to an event that asks for some
 abbrev pub AsksWhatIsShown : Event → Reply → Type 0
 AsksWhatIsShown event reply = shows_rows reply ≡ true → asks_rows event ≡ true
-
--- the replies of two shards together: rows and counts add up, and all else is as the first says
-abbrev pub both : Reply → Reply → Reply
-both (Rows used rows) (Rows more others) = Rows (used + more) (rows ++ others)
-both (Cleared removed kept) (Cleared more others) = Cleared (removed + more) (kept + others)
-both reply _ = reply
-
--- the replies so far, if there are any, and one more
-abbrev pub together : Option Reply → Reply → Reply
-together None reply = reply
-together (Some before) reply = both before reply
-
-abbrev pub total : List Reply → Reply
-total [] = Absent
-total (reply ∷ replies) = fold both reply replies
-
--- the same rows, in the order of their keys
-pub record IsInKeyOrder (rows ordered : List Row) : Type 0 where
-  pub same : IsPermutation rows ordered
-  pub rising : IsSortedBy (λ (a b : Row). is_lt (key_cmp a.key b.key)) ordered
-
--- what is shown of the total of the shards' replies: rows in the order of their keys
-abbrev pub IsShown : Reply → Reply → Type 0
-IsShown (Rows used rows) (Rows count ordered) = (count ≡ used) × IsInKeyOrder rows ordered
-IsShown reply shown = shown ≡ reply

@@ -7,7 +7,7 @@ ghost use Rattle.table_model.specs.Limits.{IsTableEvent};
 ghost use Rattle.table_model.specs.declared.events.Event.{Event};
 ghost use Rattle.table_cli.specs.Answers.{Answers, AnswersLine, AsksOf, Does, AnswersForm, AnswersEvent, commands_of, has_words as specified_words, place_of as specified_place};
 ghost use Rattle.line_text.specs.Chain.{StopsIn};
-ghost use Rattle.table_cli.specs.Counted.{IsCommand};
+ghost use Rattle.table_cli.specs.Shards.{IsCommand};
 ghost use Rattle.shard_book.specs.NamedTables.{state_of, states_of};
 ghost use Rattle.table_cli.specs.States.{CommandState};
 ghost use Rattle.command_text.specs.declared.message.Message.{Message};

@@ -7,7 +7,8 @@ ghost use Rattle.table_model.specs.declared.events.Event.TheVariants.{List as Li
 ghost use Rattle.table_model.specs.declared.filters.Filter.TheVariants as filters;
 ghost use Rattle.table_model.specs.declared.replies.Reply.{Reply as ItsReply};
 ghost use Rattle.table_cli.specs.Answers.{ShowsTables, used_of as specified_used};
-ghost use Rattle.table_cli.specs.Shards.{AsksInTurn, total};
+ghost use Rattle.joined_replies.specs.Total.{total};
+ghost use Rattle.table_cli.specs.Shards.{AsksInTurn};
 ghost use Rattle.shard_book.specs.NamedTables.{states_of};
 ghost use Rattle.command_text.specs.Bytes.{bytes_of};
 ghost use Rattle.command_text.specs.declared.message.Message.{Message as ItsMessage};

@@ -3,7 +3,8 @@ use Rattle.table_model.specs.declared.events.Event.{Event}
 use Rattle.shard_book.specs.Keeping.{IsAnswer}
 use Rattle.table_cli.specs.Shards.{Ends}
 use Rattle.command_text.specs.declared.message.Message.TheVariants.{OutOfMemory}
-use Rattle.table_cli.proofs.ShardLemmas.{asks_shown, asks_shown-together, counted, counted-more, later, ends_all, ends_here, ends_in_memory, goes_more, range-more, range-none, so_far_of, so_far-more, so_far-none, so_far-total}
+use Rattle.joined_replies.proofs.TotalLemmas.{counted, counted-more, later, so_far_of, so_far-more, so_far-none, so_far-total}
+use Rattle.table_cli.proofs.ShardLemmas.{asks_shown, asks_shown-together, ends_all, ends_here, ends_in_memory, goes_more, range-more, range-none}
 use Rattle.table_cli.proofs.shards.ask_all.Goals as goal
 
 pub returns-in-Err-clause-asks : goal.returns-in-Err-clause-asks
@@ -28,7 +29,8 @@ returns-in-Err-ask_shard-clause-asks g c =
 
 pub added-requires-clause-reply : goal.added-requires-clause-reply
 added-requires-clause-reply g c =
-    later (2 ^ 30) (2 ^ 62) _ (omega arith) (counted c.args.event.now _ c.requires.asked (subst (λ (event : Event). IsAnswer event c.in-Ok-ask_shard.reply) c.in-Ok.ensures c.in-Ok-ask_shard.ensures.answer))
+    let told = subst (λ (event : Event). IsAnswer event c.in-Ok-ask_shard.reply) c.in-Ok.ensures c.in-Ok-ask_shard.ensures.answer in
+    later (2 ^ 30) (2 ^ 62) _ (omega arith) (counted c.args.event.now told.before told.after _ c.requires.asked told.limits told.legal told.step)
 
 pub returns-in-Err-added-clause-asks : goal.returns-in-Err-added-clause-asks
 returns-in-Err-added-clause-asks g c =
@@ -38,8 +40,8 @@ returns-in-Err-added-clause-asks g c =
     let answered = subst (λ (event : Event). K.answers (K.state c.loop-shard.keeper) c.loop-shard.shard event c.in-Ok-ask_shard.reply (K.state c.ask_shard.new.keeper)) c.in-Ok.ensures c.in-Ok-ask_shard.ensures.ok in
     let more = goes_more K.answers K.refuses c.args.event.now _ _ _ _ _ _ c.loop-shard.shard here.asked.0 c.in-Ok-ask_shard.reply (range-more _ _ below) here.asked.2 answered in
     let told = subst (λ (event : Event). IsAnswer event c.in-Ok-ask_shard.reply) c.in-Ok.ensures c.in-Ok-ask_shard.ensures.answer in
-    let asks = asks_shown c.args.event.now c.in-Ok-ask_shard.reply told c.in-Err-added.ensures.rows in
-    (_, Some OutOfMemory, more [] (Some OutOfMemory) _ (ends_in_memory K.answers K.refuses c.args.event.now _ _ asks), ap Some (sym c.in-Err-added.ensures.memory))
+    let asks = asks_shown c.args.event.now c.in-Ok-ask_shard.reply told c.in-Err-added.ensures.memory in
+    (_, Some OutOfMemory, more [] (Some OutOfMemory) _ (ends_in_memory K.answers K.refuses c.args.event.now _ _ asks), refl)
 
 pub loop-shard-preserved : goal.loop-shard-preserved
 loop-shard-preserved g c =
@@ -56,7 +58,7 @@ loop-shard-preserved g c =
         goes_more K.answers K.refuses c.args.event.now _ _ _ _ _ _ c.loop-shard.shard here.asked.0 c.in-Ok-ask_shard.reply (range-more _ _ below) here.asked.2 answered,
       );
       rows = rw c.in-Ok-added.ensures.added (asks_shown-together c.args.event.now c.loop-shard.so_far c.in-Ok-ask_shard.reply here.rows (asks_shown c.args.event.now _ told));
-      counted = rw c.in-Ok-added.ensures.added (counted-more c.loop-shard.shard c.loop-shard.so_far _ here.counted (counted c.args.event.now _ c.requires.asked told));
+      counted = rw c.in-Ok-added.ensures.added (counted-more c.loop-shard.shard c.loop-shard.so_far _ here.counted (counted c.args.event.now told.before told.after _ c.requires.asked told.limits told.legal told.step));
       table = search rules;
       parts = search rules;
       end = here.end;

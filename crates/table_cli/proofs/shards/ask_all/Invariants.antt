@@ -1,9 +1,10 @@
 use Rattle.std.proofs.Common.{◌≡◌, ◌≤◌, ◌-◌, ◌*◌, ◌^◌, List, IfSome}
 use Rattle.std.specs.List.{range_with_len}
 use Rattle.table_model.specs.declared.replies.Reply.{Reply}
-use Rattle.table_cli.specs.Counted.{IsCounted}
+use Rattle.joined_replies.specs.Total.{IsCounted}
+use Rattle.joined_replies.proofs.TotalLemmas.{so_far_of}
 use Rattle.table_cli.specs.Shards.{AsksWhatIsShown}
-use Rattle.table_cli.proofs.ShardLemmas.{GoesOn, so_far_of}
+use Rattle.table_cli.proofs.ShardLemmas.{GoesOn}
 use Rattle.table_cli.proofs.shards.ask_all.Given as goal
 
 -- the shards so far are asked, and what the others answer is what all answer

@@ -9,20 +9,20 @@ pub out_after-self-inside-requires-clause-held : goal.out_after-self-inside-requ
 out_after-self-inside-requires-clause-held g c is =
     let live : State = g.T.Table.state c.self.inside.live in
     let next : State = g.T.Table.state c.answer_twice.new.live in
-    held_counted live c.args.event c.in-Ok.reply next c.self.inside.out c.self.invariant.0.live_legal c.in-Ok.ensures.ok c.self.invariant.1.counted is
+    held_counted live c.args.event c.in_ok-reply.reply next c.self.inside.out c.self.invariant.0.live_legal c.in_ok-reply.ensures.ok c.self.invariant.1.counted is
 
-pub invariant_of-self : goal.invariant_of-self
-invariant_of-self g c =
-    let reply : Reply = c.in-Ok.reply in
+pub invariant_of-self-2 : goal.invariant_of-self-2
+invariant_of-self-2 g c =
+    let reply : Reply = c.in_ok-reply.reply in
     let live : State = g.T.Table.state c.self.inside.live in
     let next : State = g.T.Table.state c.answer_twice.new.live in
-    let place : vec_len c.answer_twice.new.calls + c.self.inside.out + life_taken c.args.event ≤ vec_capacity c.answer_twice.new.calls = c.in-Ok.ensures.place in (
-      recorded_more c.self.inside.base live c.self.inside.calls.items c.answer_twice.new.calls.items c.push_reserved.new.self.items c.record_of.result c.args.seat c.args.event reply next c.push_reserved.ensures.items c.answer_twice.ensures.items c.record_of.ensures c.self.invariant.0 c.requires c.in-Ok.ensures.lives c.in-Ok.ensures.ok,
-      places-recorded live c.args.event reply next (vec_len c.answer_twice.new.calls) (vec_capacity c.answer_twice.new.calls) c.self.inside.out (vec_len c.push_reserved.new.self) (vec_capacity c.push_reserved.new.self) c.out_after-self-inside.result c.self.invariant.0.live_legal c.in-Ok.ensures.ok c.self.invariant.1.counted place c.push_reserved.ensures.len c.push_reserved.ensures.capacity c.out_after-self-inside.ensures,
+    let place : vec_len c.answer_twice.new.calls + c.self.inside.out + life_taken c.args.event ≤ vec_capacity c.answer_twice.new.calls = c.in_ok-reply.ensures.place in (
+      recorded_more c.self.inside.base live c.self.inside.calls.items c.answer_twice.new.calls.items c.push_reserved.new.self.items c.record_of.result c.args.seat c.args.event reply next c.push_reserved.ensures.items c.answer_twice.ensures.items c.record_of.ensures c.self.invariant.0 c.requires c.in_ok-reply.ensures.lives c.in_ok-reply.ensures.ok,
+      places-recorded live c.args.event reply next (vec_len c.answer_twice.new.calls) (vec_capacity c.answer_twice.new.calls) c.self.inside.out (vec_len c.push_reserved.new.self) (vec_capacity c.push_reserved.new.self) c.out_after-self-inside.result c.self.invariant.0.live_legal c.in_ok-reply.ensures.ok c.self.invariant.1.counted place c.push_reserved.ensures.len c.push_reserved.ensures.capacity c.out_after-self-inside.ensures,
     )
 
-pub returns-in-Ok-clause-book : goal.returns-in-Ok-clause-book
-returns-in-Ok-clause-book g c =
+pub returns-clause-book : goal.returns-clause-book
+returns-clause-book g c =
     let live : State = g.T.Table.state c.self.inside.live in
     let next : State = g.T.Table.state c.answer_twice.new.live in
-    recorded_more c.self.inside.base live c.self.inside.calls.items c.answer_twice.new.calls.items c.push_reserved.new.self.items c.record_of.result c.args.seat c.args.event c.in-Ok.reply next c.push_reserved.ensures.items c.answer_twice.ensures.items c.record_of.ensures c.self.invariant.0 c.requires c.in-Ok.ensures.lives c.in-Ok.ensures.ok
+    recorded_more c.self.inside.base live c.self.inside.calls.items c.answer_twice.new.calls.items c.push_reserved.new.self.items c.record_of.result c.args.seat c.args.event c.in_ok-reply.reply next c.push_reserved.ensures.items c.answer_twice.ensures.items c.record_of.ensures c.self.invariant.0 c.requires c.in_ok-reply.ensures.lives c.in_ok-reply.ensures.ok

@@ -1,0 +1,12 @@
+//! Calls of tables in shards for tests and benchmarks: events drawn at random, and asked by callers that hold references.
+#![tactic(auto)]
+
+mod asking;
+mod books;
+mod caller;
+mod draws;
+
+pub use asking::ask;
+pub use books::books_of;
+pub use caller::{Caller, Drawing, Held};
+pub use draws::{event, key, spec};

@@ -1,0 +1,33 @@
+//! Rows in the order of their keys.
+
+ghost use Rattle.std.specs.Prelude.{◌≡◌, true, IfOk, OnErr};
+ghost use Rattle.table_model.specs.Step.{shows_rows};
+ghost use Rattle.joined_replies.specs.Total.{IsInKeyOrder, IsShown};
+
+use sequence::{NoMemory, Sequence};
+use table_model::{Reply, Row, Rows};
+
+/// The same rows, in the order of their keys.
+fn sort_rows(rows: Rows) -> Result<Rows, NoMemory>
+    ensures { IfOk result (IsInKeyOrder rows) }
+{
+    let mut all = rows.into_vec();
+    match all.sort_by(|a: &Row, b: &Row| a.key.cmp(&b.key)) {
+        Ok(()) => Ok(Sequence::from_vec(all)),
+        Err(refused) => Err(refused),
+    }
+}
+
+/// The reply with its rows in the order of their keys. Only rows want memory.
+pub fn in_key_order(reply: Reply) -> Result<Reply, NoMemory>
+    ensures shown { IfOk result (IsShown reply) }
+    ensures memory { OnErr result (shows_rows reply ≡ true) }
+{
+    match reply {
+        Reply::Rows { used, rows } => match sort_rows(rows) {
+            Ok(rows) => Ok(Reply::Rows { used, rows }),
+            Err(refused) => Err(refused),
+        },
+        reply => Ok(reply),
+    }
+}

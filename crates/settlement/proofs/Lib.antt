@@ -1,0 +1,5 @@
+pub mod FaultLemmas
+pub mod ListLemmas
+pub mod TicketLemmas
+pub mod ReplayLemmas
+pub mod ToldLemmas

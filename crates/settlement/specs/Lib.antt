@@ -1,0 +1,3 @@
+pub mod Order
+pub mod Settled
+pub mod Faults

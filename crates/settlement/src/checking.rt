@@ -1,0 +1,146 @@
+//! Whether books are settled.
+
+ghost use Rattle.std.specs.Prelude.{◌≡◌, ◌≤◌, ◌<◌, ℕ, Bool, List, Some, length, slice_get, IfOk, OnOk, IfErr};
+ghost use Rattle.table_model.specs.declared.specification.Spec.{Spec};
+ghost use Rattle.shard_book.specs.BookState.{BookState};
+ghost use Rattle.shard_seats.specs.SeatState.{RefState};
+ghost use Rattle.settlement.specs.Settled.{AreSettled, IsCounted, IsRecorded, counts_in, tickets_in, tickets_of};
+ghost use Rattle.settlement.specs.Faults.{IsCountFault, IsFault, IsFaultOf, IsRecordFault};
+
+use crate::counts::{adds_up, are_shown};
+use crate::found::found_in;
+use crate::telling::are_told;
+use crate::{Fault, Found, replay};
+use same_events::same_spec;
+use shard_book::Book;
+use shard_seats::{Seat, TrackRef};
+use std::alloc::Global;
+use stick_table::{Spec, Table, Ticket};
+
+/// Compares the books of a table's shards with what its callers keep: their seats, and the references that they hold. With
+/// `keep`, the seats' receipts are to be the record, call by call. Each book is compared in time that grows with its calls,
+/// its tickets and what is shown, but that tickets are sorted; where a record's slots are not those that a table of the
+/// book's own kind chooses, with its calls times its entries. Room for what is answered is taken first; then the calls and
+/// the references of each shard are counted, then the records are made again.
+pub fn check<T: Table>(
+    alloc: Global,
+    specs: &[Spec],
+    keep: bool,
+    books: &[Book<T>],
+    seats: &[Seat],
+    refs: &[TrackRef],
+) -> Result<Found, Fault>
+    requires shards { length books.now ≡ length specs.now }
+    requires few { length books.now ≤ 64 }
+    ensures settled { OnOk result (AreSettled specs.now keep seats.now refs.now books.now) }
+    ensures counts { IfOk result (λ found. found.counts.items ≡ counts_in books.now) }
+    ensures tickets { IfOk result (λ found. found.tickets.items ≡ tickets_in books.now) }
+    ensures fault { IfErr result (IsFault specs.now keep seats.now refs.now books.now) }
+{
+    let Ok(found) = found_in(alloc, books) else {
+        return Err(Fault::Memory);
+    };
+    check_counts(alloc, books, &found, seats, refs)?;
+    check_records(alloc, specs, keep, books, seats)?;
+    Ok(found)
+}
+
+/// Whether each shard has counted the seats' calls, and has the references' tickets out.
+fn check_counts<T: Table>(
+    alloc: Global,
+    books: &[Book<T>],
+    found: &Found,
+    seats: &[Seat],
+    refs: &[TrackRef],
+) -> Result<(), Fault>
+    requires few { length books.now ≤ 64 }
+    requires tickets { found.now.tickets.items ≡ tickets_in books.now }
+    ensures ok { OnOk result ((shard : ℕ) (book : BookState) → slice_get books.now shard ≡ Some book → IsCounted seats.now refs.now shard book) }
+    ensures err { IfErr result (IsCountFault seats.now refs.now books.now) }
+{
+    for shard in 0..books.len() {
+        let tickets = found.tickets[shard].as_slice();
+        check_count(alloc, &books[shard], tickets, seats, refs, shard as u32)?;
+    }
+    Ok(())
+}
+
+/// Whether a shard has counted the seats' calls, and has the references' tickets out.
+fn check_count<T: Table>(
+    alloc: Global,
+    book: &Book<T>,
+    tickets: &[Ticket],
+    seats: &[Seat],
+    refs: &[TrackRef],
+    shard: u32,
+) -> Result<(), Fault>
+    requires shard { shard < 64 }
+    requires tickets { tickets.now ≡ tickets_of book.now.live }
+    ensures ok { OnOk result (IsCounted seats.now refs.now shard book.now) }
+    ensures err { IfErr result (λ fault. (part : Spec) (keep : Bool) → IsFaultOf part keep seats.now refs.now shard book.now fault) }
+{
+    if !adds_up(book.events(), seats, shard) {
+        return Err(Fault::MissingCalls(shard));
+    }
+    match are_shown(alloc, tickets, refs, shard) {
+        Ok(true) => Ok(()),
+        Ok(false) => Err(Fault::MissingRefs(shard)),
+        Err(_) => Err(Fault::Memory),
+    }
+}
+
+/// Whether each shard's table is made as it should be, and its record is what the seats were told, where that is kept.
+fn check_records<T: Table>(
+    alloc: Global,
+    specs: &[Spec],
+    keep: bool,
+    books: &[Book<T>],
+    seats: &[Seat],
+) -> Result<(), Fault>
+    requires shards { length books.now ≡ length specs.now }
+    requires few { length books.now ≤ 64 }
+    ensures ok { OnOk result ((shard : ℕ) (book : BookState) (part : Spec) → slice_get books.now shard ≡ Some book → slice_get specs.now shard ≡ Some part → IsRecorded part keep seats.now shard book) }
+    ensures err { IfErr result (IsRecordFault specs.now keep seats.now books.now) }
+{
+    for shard in 0..books.len() {
+        check_record(
+            alloc,
+            &specs[shard],
+            keep,
+            &books[shard],
+            seats,
+            shard as u32,
+        )?;
+    }
+    Ok(())
+}
+
+/// Whether a shard's table is made as it should be, and its record is what the seats were told, where that is kept.
+fn check_record<T: Table>(
+    alloc: Global,
+    part: &Spec,
+    keep: bool,
+    book: &Book<T>,
+    seats: &[Seat],
+    shard: u32,
+) -> Result<(), Fault>
+    ensures ok { OnOk result (IsRecorded part.now keep seats.now shard book.now) }
+    ensures err { IfErr result (λ fault. (refs : List RefState) → IsFaultOf part.now keep seats.now refs shard book.now fault) }
+{
+    if !same_spec(book.live().spec(), part) {
+        return Err(Fault::Mismatch(shard));
+    }
+    if !keep {
+        return Ok(());
+    }
+    if !book.base().is_new() {
+        return Err(Fault::Mismatch(shard));
+    }
+    let Ok(replies) = replay(alloc, book) else {
+        return Err(Fault::Memory);
+    };
+    if !are_told(seats, shard, book.calls(), replies.as_slice()) {
+        return Err(Fault::Mismatch(shard));
+    }
+    Ok(())
+}

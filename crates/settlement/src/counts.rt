@@ -1,0 +1,53 @@
+//! The calls and the references of a shard, against those that are shown.
+
+ghost use Rattle.std.specs.Prelude.{◌≡◌, ◌<◌, ◌↔◌, IsTrue, IfOk, IsPermutation};
+ghost use Rattle.settlement.specs.Settled.{calls_made, shown};
+
+use crate::tickets::are_same;
+use sequence::NoMemory;
+use shard_seats::{Seat, TrackRef};
+use std::alloc::Global;
+use stick_table::Ticket;
+
+/// Whether a count is that of the seats' calls of a shard.
+pub(crate) fn adds_up(count: u64, seats: &[Seat], shard: u32) -> bool
+    requires { shard < 64 }
+    ensures { IsTrue result ↔ (count ≡ calls_made seats.now shard) }
+{
+    let mut left = count;
+    for seat in seats {
+        let calls = seat.calls(shard);
+        if left < calls {
+            return false;
+        }
+        left -= calls;
+    }
+    left == 0
+}
+
+/// The tickets of the references to a shard.
+fn shown_tickets(alloc: Global, refs: &[TrackRef], shard: u32) -> Result<Vec<Ticket>, NoMemory>
+    ensures { IfOk result (λ tickets. tickets.items ≡ shown shard refs.now) }
+{
+    let mut tickets = Vec::new(alloc);
+    for reference in refs {
+        if reference.shard() == shard {
+            tickets.push(reference.ticket())?;
+        }
+    }
+    Ok(tickets)
+}
+
+/// Whether tickets are those of the references to a shard, each once. Copies are sorted: the references may be many.
+pub(crate) fn are_shown(
+    alloc: Global,
+    tickets: &[Ticket],
+    refs: &[TrackRef],
+    shard: u32,
+) -> Result<bool, NoMemory>
+    ensures { IfOk result (λ are. IsTrue are ↔ IsPermutation tickets.now (shown shard refs.now)) }
+{
+    let found = Vec::from_slice(alloc, tickets)?;
+    let shown = shown_tickets(alloc, refs, shard)?;
+    Ok(are_same(found, shown))
+}
