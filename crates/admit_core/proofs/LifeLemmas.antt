@@ -1,7 +1,9 @@
 -- What is over in the life of an accepted connection: its sessions, its rest, its bytes, its references, and its end.
-use Rattle.std.proofs.Common.{◌≡◌, ◌∙◌, append_assoc, ℕ, ◌+◌, ◌≤◌, arith, true, false, not, ◌&&◌, if◌then◌else◌, List, [], ◌∷◌, ◌++◌, drop, length, map, slice_get, Option, Some, None, refl, sym, ap, subst}
+use Rattle.std.proofs.Common.{◌≡◌, ◌∙◌, append_assoc, ℕ, ◌+◌, ◌≤◌, arith, Bool, true, false, not, ◌&&◌, ◌||◌, if◌then◌else◌, List, [], ◌∷◌, ◌++◌, drop, length, map, slice_get, Option, Some, None, refl, sym, ap, subst}
+use Rattle.std.specs.List.{list_any}
 use Rattle.std.proofs.lemmas.Bool.{false≢true}
 use Rattle.std.proofs.lemmas.List.{drop_all}
+use Rattle.std.proofs.lemmas.List.Folds.{list_any-append}
 use Rattle.stored_data.specs.declared.act.Act.{Act}
 use Rattle.rule_model.specs.declared.actions.Slot.{Slot}
 use Rattle.rule_model.specs.declared.sections.Setup.{Setup}
@@ -16,7 +18,8 @@ use Rattle.rule_eval.specs.declared.wants.Want.TheVariants as wants
 use Rattle.admit_core.specs.Connection.{Connection, answers_need, bytes_of, counting, gave_at, gave_of, is_event, is_judged, is_release, leaving, need, need_of, refused_of, sessions, skipped, took_of, turned_of}
 use Rattle.admit_core.specs.Held.{held_with, holding}
 use Rattle.admit_core.specs.History.{Happening, Lives, after, answered, closes, gives, is_count, turns, was_refused}
-use Rattle.admit_core.specs.Life.{counts, life_of, over, over_all, LifeLaw}
+use Rattle.admit_core.specs.Left.{is_rest}
+use Rattle.admit_core.specs.Life.{closings, counts, life_of, over, over_all, LifeLaw}
 use Rattle.admit_core.specs.declared.held.Held.{Held}
 use Rattle.admit_core.specs.declared.need.Need.{Need}
 use Rattle.admit_core.specs.declared.need.Need.TheVariants as needs
@@ -178,9 +181,37 @@ module _ {R : Type 0} (setup : Setup) (samples : Samples) (given_answers : List 
 abbrev behind : ℕ → ℕ → List Slot → List Need
 behind bytes_in bytes_out slots = needs.Rest ∷ counts (bytes_of bytes_in bytes_out slots) ++ map needs.Release slots ++ needs.Turn ∷ []
 
--- some bytes with which this is over
-abbrev WithBytes : (ℕ → ℕ → List Need) → List Need → Type 0
-WithBytes all over_these = (bytes_in : ℕ) × (bytes_out : ℕ) × (over_these ≡ all bytes_in bytes_out)
+-- the bytes with which a history closes it, once, and with which this is over
+abbrev WithBytes : {R : Type 0} → (ℕ → ℕ → List Need) → List (Happening R) → List Need → Type 0
+WithBytes all history over_these = (bytes_in : ℕ) × (bytes_out : ℕ) × (closings history ≡ (bytes_in, bytes_out) ∷ []) × (over_these ≡ all bytes_in bytes_out)
+
+-- ---- behind its close there is no other
+
+none_on_right : (a b : Bool) → (a || b) ≡ false → b ≡ false
+none_on_right true b none = absurd (false≢true (sym none))
+none_on_right false b none = none
+
+rest_behind : (first more : List Need) → list_any is_rest (first ++ more) ≡ false → list_any is_rest more ≡ false
+rest_behind first more none = none_on_right (list_any is_rest first) (list_any is_rest more) (sym (list_any-append is_rest first more) ∙ none)
+
+-- without a rest it isn't closed
+closed_no_more : {R : Type 0} (connection : Connection R) (history : List (Happening R)) → list_any is_rest (over_all connection history) ≡ false → closings history ≡ []
+closed_no_more connection [] none = refl
+closed_no_more connection (closes i o ∷ more) none = absurd (false≢true (sym none))
+closed_no_more connection (answered answer reference ∷ more) none =
+    closed_no_more (after connection (answered answer reference)) more (rest_behind (over connection (answered answer reference)) (over_all (after connection (answered answer reference)) more) none)
+closed_no_more connection (was_refused reference ∷ more) none =
+    closed_no_more (after connection (was_refused reference)) more (rest_behind (over connection (was_refused reference)) (over_all (after connection (was_refused reference)) more) none)
+closed_no_more connection (turns ∷ more) none = closed_no_more (after connection turns) more none
+closed_no_more connection (gives ∷ more) none = closed_no_more (after connection gives) more none
+
+released_no_rest : (slots : List Slot) → list_any is_rest (map needs.Release slots ++ needs.Turn ∷ []) ≡ false
+released_no_rest [] = refl
+released_no_rest (slot ∷ slots) = released_no_rest slots
+
+left_no_rest : (acts : List (Slot × Act)) (slots : List Slot) → list_any is_rest (counts acts ++ map needs.Release slots ++ needs.Turn ∷ []) ≡ false
+left_no_rest [] slots = released_no_rest slots
+left_no_rest (act ∷ acts) slots = left_no_rest acts slots
 
 never_rests : {wanted : Need} (k : ℕ) (acts : List (Slot × Act)) → Stands acts k [] wanted → wanted ≡ needs.Rest → ⊥
 never_rests k acts (at_act one at) may = cc
@@ -197,13 +228,16 @@ module _ {R : Type 0} (setup : Setup) (samples : Samples) (given_answers : List 
   admitted_at k held = record { setup = setup; samples = samples; answers = given_answers; progress = record { phase = Admitted; bytes = None; counted = k; held = held; given = None } }
 
   rested : (history : List (Happening R)) (last : Connection R) (k : ℕ) (held : Held R) → last.progress.phase ≡ Ended → Lives (admitted_at k held) history last
-      → WithBytes (λ bytes_in bytes_out. behind bytes_in bytes_out (holding held)) (over_all (admitted_at k held) history)
+      → WithBytes (λ bytes_in bytes_out. behind bytes_in bytes_out (holding held)) history (over_all (admitted_at k held) history)
   unfolding need_of
   rested [] last k held ended lives =
       let not_ended : Admitted ≡ Ended = sym (ap (λ (c : Connection R). c.progress.phase) lives) ∙ ended in
       cc
   rested (closes bytes_in bytes_out ∷ more) last k held ended lives =
-      (bytes_in, bytes_out, ap (λ rest. needs.Rest ∷ rest) (closing_life setup samples given_answers bytes_in bytes_out more last ended 0 held None lives.1 tt))
+      let life = closing_life setup samples given_answers bytes_in bytes_out more last ended 0 held None lives.1 tt in
+      let no_rest : list_any is_rest (over_all (closing_at setup samples given_answers bytes_in bytes_out 0 held None) more) ≡ false =
+      ap (list_any is_rest) life ∙ left_no_rest (drop 0 (bytes_of bytes_in bytes_out (holding held))) (holding held) in
+      (bytes_in, bytes_out, ap (λ others. (bytes_in, bytes_out) ∷ others) (closed_no_more _ more no_rest), ap (λ rest. needs.Rest ∷ rest) life)
   rested (answered answer reference ∷ more) last k held ended lives = absurd (false≢true lives.0.0)
   rested (was_refused reference ∷ more) last k held ended lives = absurd (false≢true lives.0.0)
   rested (turns ∷ more) last k held ended lives = cc
@@ -219,7 +253,7 @@ module _ {R : Type 0} (setup : Setup) (samples : Samples) (given_answers : List 
 
   module _ (phase : Phase) (judged : is_judged phase ≡ true) (accepted : next setup samples given_answers ≡ wants.Done Accept) where
     abbrev Accepted : List (Happening R) → Connection R → Type 0
-    Accepted more last = (k : ℕ) (held : Held R) → Lives (judged_at phase k held) more last → WithBytes (sessions_left k held) (over_all (judged_at phase k held) more)
+    Accepted more last = (k : ℕ) (held : Held R) → Lives (judged_at phase k held) more last → WithBytes (sessions_left k held) more (over_all (judged_at phase k held) more)
 
     needed : (k : ℕ) (held : Held R) → need (judged_at phase k held) ≡ counting (slice_get (sessions (holding held)) k) (leaving [])
     unfolding need_of
@@ -284,13 +318,13 @@ module _ {R : Type 0} (setup : Setup) (samples : Samples) (given_answers : List 
 
     -- a session is over, answered or skipped
     session_over : (more : List (Happening R)) (last : Connection R) (k : ℕ) (held : Held R) (act : Slot × Act) → Accepted more last → drop k (sessions (holding held)) ≡ act ∷ drop (k + 1) (sessions (holding held))
-        → Lives (judged_at phase (k + 1) held) more last → WithBytes (sessions_left k held) (needs.Count act.0 act.1 ∷ over_all (judged_at phase (k + 1) held) more)
+        → Lives (judged_at phase (k + 1) held) more last → WithBytes (sessions_left k held) more (needs.Count act.0 act.1 ∷ over_all (judged_at phase (k + 1) held) more)
     session_over more last k held act later at lives =
         let rest = later (k + 1) held lives in
-        (rest.0, rest.1, ap (λ over_these. needs.Count act.0 act.1 ∷ over_these) rest.2 ∙ ap (λ acts. counts acts ++ needs.Turn ∷ behind rest.0 rest.1 (holding held)) (sym at))
+        (rest.0, rest.1, rest.2, ap (λ over_these. needs.Count act.0 act.1 ∷ over_these) rest.3 ∙ ap (λ acts. counts acts ++ needs.Turn ∷ behind rest.0 rest.1 (holding held)) (sym at))
 
     answer_over : {wanted : Need} (answer : Answer) (reference : Option R) (more : List (Happening R)) (last : Connection R) (k : ℕ) (held : Held R) → Accepted more last → Stands (sessions (holding held)) k [] wanted
-        → answers_need wanted answer reference ≡ true → Lives (judged_at phase (k + 1) held) more last → WithBytes (sessions_left k held) (wanted ∷ over_all (judged_at phase (k + 1) held) more)
+        → answers_need wanted answer reference ≡ true → Lives (judged_at phase (k + 1) held) more last → WithBytes (sessions_left k held) more (wanted ∷ over_all (judged_at phase (k + 1) held) more)
     answer_over answer reference more last k held later (at_act one at) may lives = session_over more last k held one later at lives
     answer_over answer reference more last k held later (at_slot one rest counted is) may lives = cc
     answer_over answer reference more last k held later (at_end counted is) may lives = absurd (false≢true may)
@@ -299,19 +333,19 @@ module _ {R : Type 0} (setup : Setup) (samples : Samples) (given_answers : List 
     skips_at wanted k held = record (judged_at phase k held) { progress = skipped wanted (judged_at phase k held).progress }
 
     refusal_over : {wanted : Need} (more : List (Happening R)) (last : Connection R) (k : ℕ) (held : Held R) → Accepted more last → Stands (sessions (holding held)) k [] wanted → is_event wanted ≡ true → Lives (skips_at wanted k held) more last
-        → WithBytes (sessions_left k held) ((if is_count wanted then wanted ∷ [] else []) ++ over_all (skips_at wanted k held) more)
+        → WithBytes (sessions_left k held) more ((if is_count wanted then wanted ∷ [] else []) ++ over_all (skips_at wanted k held) more)
     refusal_over more last k held later (at_act one at) may lives = session_over more last k held one later at lives
     refusal_over more last k held later (at_slot one rest counted is) may lives = cc
     refusal_over more last k held later (at_end counted is) may lives = absurd (false≢true may)
 
     turn_over : {wanted : Need} (more : List (Happening R)) (last : Connection R) (k : ℕ) (held : Held R) → last.progress.phase ≡ Ended → Stands (sessions (holding held)) k [] wanted → wanted ≡ needs.Turn → Lives (admitted_at k held) more last
-        → WithBytes (sessions_left k held) (needs.Turn ∷ over_all (admitted_at k held) more)
+        → WithBytes (sessions_left k held) more (needs.Turn ∷ over_all (admitted_at k held) more)
     turn_over more last k held ended (at_act one at) may lives = cc
     turn_over more last k held ended (at_slot one rest counted is) may lives = cc
     turn_over more last k held ended (at_end counted is) may lives =
         let none : drop k (sessions (holding held)) ≡ [] = drop_all k (sessions (holding held)) counted in
         let rest = rested more last k held ended lives in
-        (rest.0, rest.1, ap (λ over_these. needs.Turn ∷ over_these) rest.2 ∙ sym (ap (λ acts. counts acts ++ needs.Turn ∷ behind rest.0 rest.1 (holding held)) none))
+        (rest.0, rest.1, rest.2, ap (λ over_these. needs.Turn ∷ over_these) rest.3 ∙ sym (ap (λ acts. counts acts ++ needs.Turn ∷ behind rest.0 rest.1 (holding held)) none))
 
     accepted_life : (history : List (Happening R)) (last : Connection R) → last.progress.phase ≡ Ended → Accepted history last
     accepted_life [] last ended k held lives =
@@ -319,15 +353,15 @@ module _ {R : Type 0} (setup : Setup) (samples : Samples) (given_answers : List 
         absurd (false≢true not_ended)
     accepted_life (answered answer reference ∷ more) last ended k held lives =
         let step = after_answer answer reference k held in
-        subst (λ (c : Connection R). WithBytes (sessions_left k held) (need (judged_at phase k held) ∷ over_all c more)) (sym step)
+        subst (λ (c : Connection R). WithBytes (sessions_left k held) more (need (judged_at phase k held) ∷ over_all c more)) (sym step)
         (answer_over answer reference more last k held (accepted_life more last ended) (stands_there k held) lives.0.0 (subst (λ (c : Connection R). Lives c more last) step lives.1))
     accepted_life (was_refused reference ∷ more) last ended k held lives =
         let step = after_refusal reference k held in
-        subst (λ (c : Connection R). WithBytes (sessions_left k held) (over (judged_at phase k held) (was_refused reference) ++ over_all c more)) (sym step)
+        subst (λ (c : Connection R). WithBytes (sessions_left k held) more (over (judged_at phase k held) (was_refused reference) ++ over_all c more)) (sym step)
         (refusal_over more last k held (accepted_life more last ended) (stands_there k held) lives.0.0 (subst (λ (c : Connection R). Lives c more last) step lives.1))
     accepted_life (turns ∷ more) last ended k held lives =
         let step = after_turn k held in
-        subst (λ (c : Connection R). WithBytes (sessions_left k held) (needs.Turn ∷ over_all c more)) (sym step)
+        subst (λ (c : Connection R). WithBytes (sessions_left k held) more (needs.Turn ∷ over_all c more)) (sym step)
         (turn_over more last k held ended (stands_there k held) lives.0 (subst (λ (c : Connection R). Lives c more last) step lives.1))
     accepted_life (closes bytes_in bytes_out ∷ more) last ended k held lives = absurd (never_rests k (sessions (holding held)) (stands_there k held) lives.0)
     accepted_life (gives ∷ more) last ended k held lives = absurd (never_leaves k (sessions (holding held)) (stands_there k held) lives.0.0)
@@ -345,4 +379,4 @@ life_law {R} connection last history judged accepted counted bytes given lives e
     let same : connection ≡ here = (λ k. record connection { progress = record connection.progress { counted = counted k; bytes = bytes k; given = given k } }) in
     let life = accepted_life connection.setup connection.samples connection.answers connection.progress.phase judged accepted history last ended 0 connection.progress.held (subst (λ (c : Connection R). Lives c history last) same lives) in
     let slots : List Slot = holding connection.progress.held in
-    (life.0, life.1, ap (λ (c : Connection R). over_all c history) same ∙ life.2 ∙ ap (λ acts. counts acts ++ needs.Turn ∷ behind life.0 life.1 slots) (none_dropped (sessions slots)) ∙ life_is slots life.0 life.1)
+    (life.0, life.1, life.2, ap (λ (c : Connection R). over_all c history) same ∙ life.3 ∙ ap (λ acts. counts acts ++ needs.Turn ∷ behind life.0 life.1 slots) (none_dropped (sessions slots)) ∙ life_is slots life.0 life.1)

@@ -28,14 +28,22 @@ over_all connection (happening ∷ more) = over connection happening ++ over_all
 abbrev pub counts : List (Slot × Act) → List Need
 counts acts = map (λ one. Count one.0 one.1) acts
 
+-- the bytes with which a history closes a connection, each time
+abbrev pub closings : {R : Type 0} → List (Happening R) → List (ℕ × ℕ)
+closings [] = []
+closings (closes bytes_in bytes_out ∷ more) = (bytes_in, bytes_out) ∷ closings more
+closings (happening ∷ more) = closings more
+
 -- for slots that hold a reference: their sessions are counted, it is admitted, rests until it is closed, their bytes are
 -- counted, their references go back, and it ends
 abbrev pub life_of : List Slot → ℕ → ℕ → List Need
 life_of slots bytes_in bytes_out = counts (sessions slots) ++ Turn ∷ Rest ∷ counts (bytes_of bytes_in bytes_out slots) ++ map Release slots ++ Turn ∷ []
 
--- from the verdict to the end each of these is over once, in this order, whatever is refused on the way
+-- from the verdict to the end each of these is over once, in this order, whatever is refused on the way; it is closed once,
+-- and the bytes that are counted are those with which it was closed
 abbrev pub LifeLaw : Type 0 → Type 0
 LifeLaw R = (connection last : Connection R) (history : List (Happening R)) →
     is_judged connection.progress.phase ≡ true → asks connection ≡ Done Accept → connection.progress.counted ≡ 0 → connection.progress.bytes ≡ None → connection.progress.given ≡ None →
     Lives connection history last → last.progress.phase ≡ Ended →
-    (bytes_in : ℕ) × (bytes_out : ℕ) × (over_all connection history ≡ life_of (holding connection.progress.held) bytes_in bytes_out)
+    (bytes_in : ℕ) × (bytes_out : ℕ) × (closings history ≡ (bytes_in, bytes_out) ∷ [])
+    × (over_all connection history ≡ life_of (holding connection.progress.held) bytes_in bytes_out)

@@ -25,7 +25,8 @@ pub fn held<R>()
 {}
 
 /// From the verdict to accept it to its end, a connection that ends has counted its sessions, rested until it was closed,
-/// counted its bytes, and given each of its references back, in this order and each once.
+/// which it was once, counted the bytes with which it was closed, and given each of its references back, in this order and
+/// each once.
 pub fn life<R>()
     ensures { LifeLaw R }
 {}

@@ -23,7 +23,7 @@ use Rattle.rule_config.specs.Lines.{line_says, section_says, with_line, with_sta
 use Rattle.rule_config.specs.Statements.{default_backend_says, keyword_says, section_kind, stick_table_says, tcp_request_says}
 use Rattle.rule_config.specs.declared.reading.Reading.{Reading}
 
-abbrev in_ascii : List ℕ → Bool
+abbrev pub in_ascii : List ℕ → Bool
 in_ascii line = list_all (λ b. nat_lt b 128) line
 
 both : (a b : Bool) → (a && b) ≡ true → (a ≡ true) × (b ≡ true)
@@ -42,7 +42,7 @@ is_text : (line : List ℕ) → in_ascii line ≡ true → is_utf8 line ≡ true
 is_text line ascii = is_utf8-from_IsUtf8 line (IsUtf8-from_ascii line (bytes line ascii))
 
 -- a line that is a text, read
-abbrev with_text : ℕ → Reading → List ℕ → Result Reading Fault
+abbrev pub with_text : ℕ → Reading → List ℕ → Result Reading Fault
 with_text number read line = words_say read (is_plain line) (words_of line) >>= (λ statement. Ok (with_statement number read statement))
 
 text_line : (number : ℕ) (read : Reading) (line : List ℕ) → in_ascii line ≡ true → with_line number read line ≡ with_text number read line
@@ -50,11 +50,11 @@ unfolding line_says
 text_line number read line ascii = ap (λ b. (demand b NotUtf8 >>= (λ _. words_say read (is_plain line) (words_of line))) >>= (λ statement. Ok (with_statement number read statement))) (is_text line ascii)
 
 -- and all of them
-abbrev texts_from : ℕ → Reading → List (List ℕ) → Result Reading (ℕ × Fault)
+abbrev pub texts_from : ℕ → Reading → List (List ℕ) → Result Reading (ℕ × Fault)
 texts_from number read [] = Ok read
 texts_from number read (line ∷ lines) = at_line number (with_text number read line) >>= (λ next. texts_from (number + 1) next lines)
 
-text_lines : (number : ℕ) (read : Reading) (lines : List (List ℕ)) → list_all in_ascii lines ≡ true → read_from number read lines ≡ texts_from number read lines
+pub text_lines : (number : ℕ) (read : Reading) (lines : List (List ℕ)) → list_all in_ascii lines ≡ true → read_from number read lines ≡ texts_from number read lines
 unfolding read_from
 text_lines number read [] ascii = refl
 text_lines number read (line ∷ lines) ascii =
@@ -66,7 +66,7 @@ text_lines number read (line ∷ lines) ascii =
     later (Ok next) same = same next
     later (Err fault) same = refl
 
-text_config : (text : List ℕ) → list_all in_ascii (lines_of text) ≡ true → config_of text ≡ (texts_from 1 nothing_read (lines_of text) >>= whole)
+pub text_config : (text : List ℕ) → list_all in_ascii (lines_of text) ≡ true → config_of text ≡ (texts_from 1 nothing_read (lines_of text) >>= whole)
 unfolding config_of
 text_config text ascii = ap (λ said. said >>= whole) (text_lines 1 nothing_read (lines_of text) ascii)
 

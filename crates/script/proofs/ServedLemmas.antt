@@ -4,19 +4,17 @@ use Rattle.std.specs.Prelude.{All}
 use Rattle.std.specs.List.{AllByRecursion, IsDistinct}
 use Rattle.std.proofs.lemmas.List.{length-map}
 use Rattle.std.proofs.lemmas.Option.{slice_get-map}
-use Rattle.std.proofs.lemmas.List.Sums.{sum_by_push}
 use Rattle.line_text.specs.Chain.{Chain}
 use Rattle.line_text.specs.Line.{held}
 use Rattle.line_text.specs.Parts.{is_line_end, parts}
 use Rattle.line_service.specs.Service.{Serves as ServesLine}
 use Rattle.address_text.specs.Addresses.{address_of}
 use Rattle.address_text.specs.declared.address.Address.{Address}
-use Rattle.table_model.proofs.EntryLemmas.{distinct-filter, distinct-push}
 use Rattle.rule_model.specs.declared.sections.NamedSpec.{NamedSpec}
 use Rattle.rule_model.specs.declared.sections.Setup.{Setup}
 use Rattle.rule_eval.specs.declared.wants.Samples.{Samples}
 use Rattle.admit_core.specs.Connection.{Connection, Progress, arrived, closed, need}
-use Rattle.admit_core.specs.Conn.{Stands}
+use Rattle.admit_core.specs.Conn.{Stands, progress_of}
 use Rattle.admit_core.specs.declared.conn.Conn.{Conn}
 use Rattle.admit_core.specs.declared.need.Need.TheVariants.{Rest}
 use Rattle.admit_core.specs.declared.need.Phase.TheVariants.{Admitted, Ended}
@@ -31,14 +29,13 @@ use Rattle.connection_drive.proofs.SumLemmas.{some_same}
 use Rattle.connection_drive.proofs.KeepingLemmas.{IsKept, rest_kept}
 use Rattle.connection_drive.proofs.LivedLemmas.{arrived_lived, closed_lived}
 use Rattle.connection_drive.proofs.StartLemmas.{nothing_out, once_out, opened_tables}
-use Rattle.script.specs.Guests.{IsOpen, IsServed, MayBe, ScriptState, guest_of, id_in, progress_in, times_held, without}
+use Rattle.script.specs.Guests.{Guest, IsOpen, IsServed, MayBe, ScriptState, guest_of, id_in, times_held, without}
 use Rattle.script.specs.Laws.{ReferencesLaw}
 use Rattle.script.specs.Script.{Line, Empty, Bad, Commands, Open, Close, ClosesAt, IsJudged, LineSays, OpensAt, OpensFrom, Says, admitted, at_moment, line_of, samples_of}
 use Rattle.script.specs.Start.{start}
-use Rattle.script.specs.declared.guests.Guest.{Guest}
 use Rattle.script.proofs.CommandBooks.{HasBooks, commands_leave_books}
 use Rattle.script.proofs.CommandLemmas.{commands_keep, kept_in, out_kept}
-use Rattle.script.proofs.GuestLemmas.{all_at, all_more, all_without, closed_differs, sum_without}
+use Rattle.script.proofs.GuestLemmas.{all_at, all_with, all_without, distinct_with, distinct_without, sum_with, sum_without}
 use Rattle.script.proofs.EndedLemmas.{EndsEmpty, ended_holds, goes_empty}
 use Rattle.script.proofs.ProgressLemmas.{IsAtRest, goes_bytes, still_rests}
 use Rattle.script.proofs.TimeLemmas.{IsInTime, line_in_time}
@@ -106,42 +103,39 @@ commands_served moment commands old text new says are =
 nothing_covered : (tables : List TableState) (setup : Setup) (samples : Samples) → IsCovered tables (arrived setup samples).progress.held
 nothing_covered tables setup samples reference = omega arith
 
-abbrev pub IsOf : Setup → Guest → Type 0
+abbrev pub IsOf : Setup → Conn Reference → Type 0
 IsOf setup guest = (connection : Connection Reference) × MayBe setup guest connection
 
 -- where it rests it is open, and where it has ended it holds nothing
 record Added (old : ScriptState) (id : ℕ) (after : Connection Reference) (new : List Guest) : Type 0 where
   pub held : (reference : ℕ × Reference) → times_held reference new ≡ times_held reference old.guests + times_by reference after.progress.held
   pub ids : IsDistinct nat_eq (map id_in new)
-  pub open_all : All IsOpen new
-  pub judged : All (IsOf old.setup) new
+  pub open_all : All (λ (guest : Guest). IsOpen guest.1) new
+  pub judged : All (λ (guest : Guest). IsOf old.setup guest.1) new
 
 added : (old : ScriptState) (id : ℕ) (conn : Conn Reference) (after : Connection Reference) → IsServed old → guest_of id old.guests ≡ None → Stands conn after → after.setup ≡ old.setup → IsLived after → EndsEmpty after.progress
-    → IsAtRest after.progress → Added old id after (old.guests ++ admitted after.progress.phase id conn)
+    → IsAtRest after.progress → Added old id after (admitted after.progress.phase id conn old.guests)
 added old id conn after are free stands judged lived empty rests = elim rests [
-  | inl ended ↦ subst (λ p. Added old id after (old.guests ++ admitted p id conn)) (sym ended) (record {
+  | inl ended ↦ subst (λ p. Added old id after (admitted p id conn old.guests)) (sym ended) (record {
     held = λ reference.
         let none : ◌≡◌ {A = ℕ} (times_by reference after.progress.held) 0 = ended_holds after.progress reference empty ended in
-        let same : ◌≡◌ {A = ℕ} (times_held reference (old.guests ++ [])) (times_held reference old.guests) = ap (times_held reference) (append-nil old.guests) in
-        omega (arith, none, same);
-    ids = subst (λ gs. IsDistinct nat_eq (map id_in gs)) (sym (append-nil old.guests)) are.ids_differ;
-    open_all = subst (λ gs. All IsOpen gs) (sym (append-nil old.guests)) are.open_all;
-    judged = subst (λ gs. All (IsOf old.setup) gs) (sym (append-nil old.guests)) are.judged;
+        omega (arith, none);
+    ids = are.ids_differ;
+    open_all = are.open_all;
+    judged = are.judged;
   })
-  | inr stays ↦ subst (λ p. Added old id after (old.guests ++ admitted p id conn)) (sym stays.0) (
-      let guest : Guest = record { id = id; conn = conn } in
-      record {
-        held = λ reference.
-            let same : ◌≡◌ {A = ℕ} (times_by reference (progress_in guest).held) (times_by reference after.progress.held) = ap (λ (p : Progress Reference). times_by reference p.held) stands.progress in
-            omega (arith, same, sum_by_push (λ (g : Guest). times_by reference (progress_in g).held) old.guests guest);
-        ids = distinct-push id_in nat_eq old.guests guest are.ids_differ (closed_differs id old.guests free);
-        open_all = all_more IsOpen old.guests guest are.open_all (record {
-          phase = ap (λ (p : Progress Reference). p.phase) stands.progress ∙ stays.0;
-          bytes = ap (λ (p : Progress Reference). p.bytes) stands.progress ∙ stays.1;
-          given = ap (λ (p : Progress Reference). p.given) stands.progress ∙ lived.given;
-        });
-        judged = all_more (IsOf old.setup) old.guests guest are.judged (after, record { judged_by = judged; stands = stands; lived = lived });
-      })
+  | inr stays ↦ subst (λ p. Added old id after (admitted p id conn old.guests)) (sym stays.0) (record {
+    held = λ reference.
+        let same : ◌≡◌ {A = ℕ} (times_by reference (progress_of conn).held) (times_by reference after.progress.held) = ap (λ (p : Progress Reference). times_by reference p.held) stands.progress in
+        omega (arith, same, sum_with id conn (λ (c : Conn Reference). times_by reference (progress_of c).held) old.guests free);
+    ids = distinct_with id conn old.guests free are.ids_differ;
+    open_all = all_with id conn IsOpen old.guests are.open_all (record {
+      phase = ap (λ (p : Progress Reference). p.phase) stands.progress ∙ stays.0;
+      bytes = ap (λ (p : Progress Reference). p.bytes) stands.progress ∙ stays.1;
+      given = ap (λ (p : Progress Reference). p.given) stands.progress ∙ lived.given;
+    });
+    judged = all_with id conn (IsOf old.setup) old.guests are.judged (after, record { judged_by = judged; stands = stands; lived = lived });
+  })
 ]
 
 judged_served : (moment id : ℕ) (samples : Samples) (old : ScriptState) (text : List ℕ) (new : ScriptState) → moment < 2 ^ 62 → guest_of id old.guests ≡ None → IsJudged moment id samples old text new → IsServed old → IsServed new
@@ -152,7 +146,7 @@ judged_served moment id samples old text new timely free judged are =
     let comes : ComesToRest moment old.tables connection new.tables after = judged.3 in
     let kept : IsKept old.setup old.tables connection new.tables after =
     rest_kept moment old.setup old.tables connection new.tables after timely are.tables (nothing_covered old.tables old.setup samples) (arrived_lived old.setup samples) comes in
-    let guests : List Guest = old.guests ++ admitted after.progress.phase id conn in
+    let guests : List Guest = admitted after.progress.phase id conn old.guests in
     let more : Added old id after guests = added old id conn after are free judged.2 kept.same.setup kept.same.lived (goes_empty moment comes.count old.tables connection new.tables after (λ new. absurd (cc)) comes.goes) (still_rests after kept.same.lived.given comes.still) in
     let now : ScriptState = record old { tables = new.tables; guests = guests } in
     let served : IsServed now = record {
@@ -168,7 +162,7 @@ judged_served moment id samples old text new timely free judged are =
     } in
     subst IsServed (sym judged.4) served
 
-opens_served : (found : Option Guest) (moment id : ℕ) (source : Address) (port : ℕ) (old : ScriptState) (text : List ℕ) (new : ScriptState) → moment < 2 ^ 62 → guest_of id old.guests ≡ found
+opens_served : (found : Option (Conn Reference)) (moment id : ℕ) (source : Address) (port : ℕ) (old : ScriptState) (text : List ℕ) (new : ScriptState) → moment < 2 ^ 62 → guest_of id old.guests ≡ found
     → OpensAt found moment id source port old text new → IsServed old → IsServed new
 opens_served (Some guest) moment id source port old text new timely is opens are = same_served old new opens.1 are
 opens_served None moment id source port old text new timely is opens are = elim opens [
@@ -183,10 +177,10 @@ opens_from-served (Some source) moment id port old text new timely opens are = o
 -- ---- a connection goes
 
 -- what an open connection holds is out
-pub guest_covered : (state : ScriptState) (id : ℕ) (guest : Guest) → guest_of id state.guests ≡ Some guest → IsServed state → IsCovered state.tables (progress_in guest).held
+pub guest_covered : (state : ScriptState) (id : ℕ) (guest : Conn Reference) → guest_of id state.guests ≡ Some guest → IsServed state → IsCovered state.tables (progress_of guest).held
 guest_covered state id guest found are reference =
-    let all : ◌≡◌ {A = ℕ} (times_held reference (without id state.guests) + times_by reference (progress_in guest).held) (times_held reference state.guests) =
-    sum_without (λ (g : Guest). times_by reference (progress_in g).held) id state.guests guest found are.ids_differ in
+    let all : ◌≡◌ {A = ℕ} (times_held reference (without id state.guests) + times_by reference (progress_of guest).held) (times_held reference state.guests) =
+    sum_without id (λ (c : Conn Reference). times_by reference (progress_of c).held) state.guests guest found in
     let out : ◌≡◌ {A = ℕ} (times_held reference state.guests) (times_out reference state.tables) = are.balance reference in
     omega (arith, all, out)
 
@@ -208,7 +202,7 @@ closed_ends after bytes had rests = elim rests [ inl ended ↦ ended | inr stays
 admitted_ended : Admitted ≡ Ended → ⊥
 admitted_ended is = cc
 
-closes_served : (found : Option Guest) (moment id bytes_in bytes_out : ℕ) (old : ScriptState) (text : List ℕ) (new : ScriptState) → moment < 2 ^ 62 → guest_of id old.guests ≡ found
+closes_served : (found : Option (Conn Reference)) (moment id bytes_in bytes_out : ℕ) (old : ScriptState) (text : List ℕ) (new : ScriptState) → moment < 2 ^ 62 → guest_of id old.guests ≡ found
     → ClosesAt found moment id bytes_in bytes_out old text new → IsServed old → IsServed new
 closes_served None moment id bytes_in bytes_out old text new timely is closes are = same_served old new closes.1 are
 closes_served (Some guest) moment id bytes_in bytes_out old text new timely is closes are =
@@ -216,8 +210,8 @@ closes_served (Some guest) moment id bytes_in bytes_out old text new timely is c
     let after : Connection Reference = closes.1 in
     let it : MayBe old.setup guest connection = closes.2 in
     let comes : ComesToRest moment old.tables (closed connection bytes_in bytes_out) new.tables after = closes.3 in
-    let same : connection.progress ≡ progress_in guest = sym it.stands.progress in
-    let stays : IsOpen guest = all_at IsOpen id old.guests guest is are.open_all in
+    let same : connection.progress ≡ progress_of guest = sym it.stands.progress in
+    let stays : IsOpen guest = all_at id IsOpen old.guests guest is are.open_all in
     let phase : connection.progress.phase ≡ Admitted = ap (λ (p : Progress Reference). p.phase) same ∙ stays.phase in
     let kept : IsKept old.setup old.tables (closed connection bytes_in bytes_out) new.tables after =
     rest_kept moment old.setup old.tables (closed connection bytes_in bytes_out) new.tables after timely are.tables
@@ -229,16 +223,16 @@ closes_served (Some guest) moment id bytes_in bytes_out old text new timely is c
     let served : IsServed now = record {
       tables = kept.tables;
       balance = λ reference.
-          let all : ◌≡◌ {A = ℕ} (times_held reference (without id old.guests) + times_by reference (progress_in guest).held) (times_held reference old.guests) =
-          sum_without (λ (g : Guest). times_by reference (progress_in g).held) id old.guests guest is are.ids_differ in
+          let all : ◌≡◌ {A = ℕ} (times_held reference (without id old.guests) + times_by reference (progress_of guest).held) (times_held reference old.guests) =
+          sum_without id (λ (c : Conn Reference). times_by reference (progress_of c).held) old.guests guest is in
           let out : ◌≡◌ {A = ℕ} (times_held reference old.guests) (times_out reference old.tables) = are.balance reference in
-          let held_then : ◌≡◌ {A = ℕ} (times_by reference connection.progress.held) (times_by reference (progress_in guest).held) = ap (λ (p : Progress Reference). times_by reference p.held) same in
+          let held_then : ◌≡◌ {A = ℕ} (times_by reference connection.progress.held) (times_by reference (progress_of guest).held) = ap (λ (p : Progress Reference). times_by reference p.held) same in
           let held_now : ◌≡◌ {A = ℕ} (times_by reference after.progress.held) 0 = ended_holds after.progress reference empty ended in
           let moved : ◌≡◌ {A = ℕ} (times_by reference after.progress.held + times_out reference old.tables) (times_by reference connection.progress.held + times_out reference new.tables) = kept.balance reference in
           omega (arith, all, out, held_then, held_now, moved);
-      ids_differ = distinct-filter id_in nat_eq _ old.guests are.ids_differ;
-      open_all = all_without IsOpen id old.guests are.open_all;
-      judged = all_without (IsOf old.setup) id old.guests are.judged;
+      ids_differ = distinct_without id old.guests are.ids_differ;
+      open_all = all_without id IsOpen old.guests are.open_all;
+      judged = all_without id (IsOf old.setup) old.guests are.judged;
     } in
     subst IsServed (sym closes.4) served
 

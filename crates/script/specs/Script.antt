@@ -1,6 +1,8 @@
 -- What the lines of a script write.
 use Rattle.std.specs.Prelude.{◌≡◌, ◌⊎◌, ℕ, nat_lt, ◌^◌, Option, Some, None, List, [], ◌∷◌, ◌++◌, codes, decimal, if◌then◌else◌}
+use Rattle.std.specs.BTreeMap.{insert_entry}
 use Rattle.std.specs.Option.{option_map_or}
+use Rattle.std.specs.Ordering.{nat_cmp}
 use Rattle.std.specs.Str.{bytes_eq}
 use Rattle.byte_ports.specs.Bytes.{IsPrefix}
 use Rattle.line_text.specs.Chain.{StopsIn}
@@ -24,8 +26,7 @@ use Rattle.table_cli.specs.States.{CommandState, Showing}
 use Rattle.connection_drive.specs.Moves.{ComesToRest}
 use Rattle.connection_drive.specs.Tables.{TableState}
 use Rattle.connection_drive.specs.declared.reference.Reference.{Reference}
-use Rattle.script.specs.Guests.{MayBe, ScriptState, guest_of, without}
-use Rattle.script.specs.declared.guests.Guest.{Guest}
+use Rattle.script.specs.Guests.{Guest, MayBe, ScriptState, guest_of, without}
 
 -- commands at a moment; a connection of an ID opens from an address's text and a port; it closes after so many bytes in and out
 pub data Line : Type 0 where
@@ -143,19 +144,19 @@ port_at (Some bind) = bind.port
 abbrev pub samples_of : Setup → Address → ℕ → Samples
 samples_of setup source port = record { src = source; src_port = port; dst_port = port_at setup.bind }
 
--- the connection, where it was admitted
-abbrev pub admitted : Phase → ℕ → Conn Reference → List Guest
-admitted Admitted id conn = record { id = id; conn = conn } ∷ []
-admitted phase id conn = []
+-- the open connections, and the one of an ID among them where it was admitted
+abbrev pub admitted : Phase → ℕ → Conn Reference → List Guest → List Guest
+admitted Admitted id conn guests = insert_entry nat_cmp guests id conn
+admitted phase id conn guests = guests
 
 -- the rules of the setup judge a connection, at one moment, until it rests or is ended; where it was admitted, it is open
 abbrev pub IsJudged : ℕ → ℕ → Samples → ScriptState → List ℕ → ScriptState → Type 0
 IsJudged moment id samples old text new =
     (conn : Conn Reference) × (after : Connection Reference) × Stands conn after × ComesToRest moment old.tables (arrived old.setup samples) new.tables after
-    × (new ≡ record old { tables = new.tables; guests = old.guests ++ admitted after.progress.phase id conn }) × (text ≡ open_text id after.progress.phase)
+    × (new ≡ record old { tables = new.tables; guests = admitted after.progress.phase id conn old.guests }) × (text ≡ open_text id after.progress.phase)
 
 -- an ID that isn't open opens: its connection is judged; or its place is refused, it is rejected and nothing changes
-abbrev pub OpensAt : Option Guest → ℕ → ℕ → Address → ℕ → ScriptState → List ℕ → ScriptState → Type 0
+abbrev pub OpensAt : Option (Conn Reference) → ℕ → ℕ → Address → ℕ → ScriptState → List ℕ → ScriptState → Type 0
 OpensAt (Some guest) moment id source port old text new = (text ≡ codes "connection already open\n") × (new ≡ old)
 OpensAt None moment id source port old text new = IsJudged moment id (samples_of old.setup source port) old text new ⊎ ((text ≡ open_text id Rejected) × (new ≡ old))
 
@@ -168,7 +169,7 @@ abbrev pub Opens : ℕ → ℕ → List ℕ → ℕ → ScriptState → List ℕ
 Opens moment id address port old text new = OpensFrom (address_of address) moment id port old text new
 
 -- an open connection is closed: its bytes are counted and its references go back, at one moment, and it is open no more
-abbrev pub ClosesAt : Option Guest → ℕ → ℕ → ℕ → ℕ → ScriptState → List ℕ → ScriptState → Type 0
+abbrev pub ClosesAt : Option (Conn Reference) → ℕ → ℕ → ℕ → ℕ → ScriptState → List ℕ → ScriptState → Type 0
 ClosesAt None moment id bytes_in bytes_out old text new = (text ≡ codes "no such connection\n") × (new ≡ old)
 ClosesAt (Some guest) moment id bytes_in bytes_out old text new =
     (connection after : Connection Reference) × MayBe old.setup guest connection × ComesToRest moment old.tables (closed connection bytes_in bytes_out) new.tables after

@@ -4,9 +4,8 @@ use Rattle.rule_model.specs.declared.sections.Setup.{Setup}
 use Rattle.shard_book.specs.BooksState.{BooksState}
 use Rattle.shard_book.specs.declared.named.Named.{Named}
 use Rattle.connection_drive.specs.Tables.{table_states}
-use Rattle.script.specs.Guests.{ScriptState}
+use Rattle.script.specs.Guests.{Guest, ScriptState}
 use Rattle.script.specs.Script as spec
-use Rattle.script.specs.declared.guests.Guest.{Guest}
 use Rattle.script.specs.declared.line.Line.{Line}
 use Rattle.script.specs.declared.line.Line.TheVariants.{Empty, Bad, Commands, Open, Close}
 

@@ -1,42 +1,55 @@
 //! The connections that a script has open.
 
-ghost use Rattle.std.specs.Prelude.{◌≡◌, ◌<◌, nat_eq, is_some, map, length, position, IfSome};
-ghost use Rattle.std.specs.List.{find, IsDistinct};
-ghost use Rattle.script.specs.Guests.{guest_of, id_in, without};
+ghost use Rattle.std.specs.Prelude.{◌≡◌, is_some, true, OnOk, OnErr};
+ghost use Rattle.std.specs.BTreeMap.{insert_entry};
+ghost use Rattle.std.specs.Ordering.{nat_cmp};
+ghost use Rattle.script.specs.Guests.{guest_of, without};
 
 use admit_core::Conn;
 use connection_drive::Reference;
+use sequence::NoMemory;
+use std::collections::BTreeMap;
 
-/// An open connection, and its ID.
-#[derive(Drop)]
-pub struct Guest<'a> {
-    pub id: u32,
-    pub conn: Conn<'a, Reference>,
-}
-
-/// The place of the connection of an ID, if it is open.
-fn place_of(guests: &[Guest<'_>], id: u32) -> Option<usize>
-    ensures place { result ≡ position (λ guest. nat_eq guest.id id) guests.now }
-    ensures within { IfSome result (λ place. place < length guests.now) }
-{
-    guests.iter().position(|guest| guest.id == id)
-}
+/// The open connections by their IDs.
+pub type Guests<'a> = BTreeMap<u32, Conn<'a, Reference>>;
 
 /// Whether a connection of this ID is open.
-pub fn is_open(guests: &[Guest<'_>], id: u32) -> bool
-    ensures { result ≡ is_some (guest_of id guests.now) }
+pub fn is_open(guests: &Guests<'_>, id: u32) -> bool
+    ensures { result ≡ is_some (guest_of id guests.now.entries) }
 {
-    place_of(guests, id).is_some()
+    guests.contains_key(&id)
+}
+
+/// Holds the place of an ID by a connection. Where a growth is refused, nothing changes.
+pub fn hold_place<'a>(
+    guests: &mut Guests<'a>,
+    id: u32,
+    conn: Conn<'a, Reference>,
+) -> Result<(), NoMemory>
+    ensures ok { OnOk result (guests.new.entries ≡ insert_entry nat_cmp guests.old.entries id conn.entry) }
+    ensures err { OnErr result (guests.new.entries ≡ guests.old.entries) }
+{
+    match guests.insert(id, conn) {
+        Ok(_) => Ok(()),
+        Err(_) => Err(NoMemory),
+    }
+}
+
+/// Puts a connection at the place of its ID, which is held.
+pub fn keep_guest<'a>(guests: &mut Guests<'a>, id: u32, conn: Conn<'a, Reference>)
+    requires { is_some (guest_of id guests.old.entries) ≡ true }
+    ensures { guests.new.entries ≡ insert_entry nat_cmp guests.old.entries id conn.entry }
+{
+    match guests.insert(id, conn) {
+        Ok(_) => {}
+        Err(_) => unreachable!(),
+    }
 }
 
 /// Takes the connection of an ID out, if it is open.
-pub fn take_guest<'a>(guests: &mut Vec<Guest<'a>>, id: u32) -> Option<Guest<'a>>
-    requires { IsDistinct nat_eq (map id_in guests.old.items) }
-    ensures taken { result ≡ find (λ guest. nat_eq guest.id id) guests.old.items }
-    ensures others { guests.new.items ≡ without id guests.old.items }
+pub fn take_guest<'a>(guests: &mut Guests<'a>, id: u32) -> Option<Conn<'a, Reference>>
+    ensures taken { result ≡ guest_of id guests.old.entries }
+    ensures others { guests.new.entries ≡ without id guests.old.entries }
 {
-    match place_of(guests.as_slice(), id) {
-        Some(place) => Some(guests.remove(place)),
-        None => None,
-    }
+    guests.remove(&id)
 }

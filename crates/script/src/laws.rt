@@ -1,7 +1,10 @@
-//! What every script keeps. Each law is the contract of a function that does nothing.
+//! What every script keeps. Each law is the contract of a function that does nothing, but for calling a law that it rests
+//! on.
 
-ghost use Rattle.script.specs.Laws.{ReferencesLaw};
+ghost use Rattle.script.specs.Laws.{KeysLaw, ReferencesLaw};
 ghost use Rattle.script.specs.Unrefused.{OneOutputLaw, UnrefusedLaw};
+
+use stick_key::laws::reads_one_key;
 
 /// Wherever the lines of a script lead to from empty tables: a reference is out exactly where one open connection holds
 /// it, once, and no ID is open twice.
@@ -9,13 +12,20 @@ pub fn references()
     ensures { ReferencesLaw }
 {}
 
+/// Wherever the lines of a script lead to from empty tables: each shard of a table keeps records of such keys alone as lie
+/// on that shard, and so no key has records on two shards.
+pub fn keys()
+    ensures { KeysLaw }
+{}
+
 /// What a line says where nothing that it asks is refused is one of the texts that it may write.
 pub fn unrefused()
     ensures { UnrefusedLaw }
 {}
 
-/// A script of connections, without commands, in which nothing is refused has one output, whatever slots the tables give
-/// to references.
+/// A script in which nothing is refused has one output, whatever slots the tables give to references.
 pub fn one_output()
     ensures { OneOutputLaw }
-{}
+{
+    reads_one_key();
+}

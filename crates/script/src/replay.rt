@@ -9,6 +9,7 @@ ghost use Rattle.script.specs.Script.{Says, Stops};
 ghost use Rattle.script.specs.Start.{start};
 ghost use Rattle.connection_drive.specs.Tables.{CanOpen};
 
+use crate::guests::Guests;
 use crate::server::ScriptServer;
 use byte_ports::{Sink, Source};
 use connection_drive::open_tables;
@@ -72,7 +73,7 @@ pub fn replay_script<R: Source, W: Sink>(
         alloc,
         setup,
         tables,
-        guests: Vec::new(alloc),
+        guests: Guests::new(alloc),
     };
     match serve_lines(&mut server, reader, writer) {
         Ok(()) => Ok(()),

@@ -6,7 +6,7 @@ ghost use Rattle.script.specs.Guests.{IsServed, ScriptState, guest_of};
 ghost use Rattle.script.specs.Script.{Closes, Commands, LineSays, LineStops, Opens, OpensAt, Says, Stops, close_text, open_text, samples_of as specified_samples};
 ghost use Rattle.script.specs.Seen.{script_state};
 
-use crate::guests::{Guest, is_open, take_guest};
+use crate::guests::{Guests, hold_place, is_open, keep_guest, take_guest};
 use crate::line::{Line, read_line};
 use crate::short_text::ShortText;
 use address_text::{Address, read_address};
@@ -28,16 +28,16 @@ pub struct ScriptServer<'a, T: Table> {
     pub alloc: Global,
     pub setup: &'a Setup,
     pub tables: Vec<Named<Books<T>>>,
-    pub guests: Vec<Guest<'a>>,
+    pub guests: Guests<'a>,
 }
 
 impl<'a, T: Table> ScriptServer<'a, T> {
     /// What an `open` of an ID, an address and a port is answered. All that it changes is changed before.
     fn open(&mut self, moment: u64, id: u32, address: &[u8], port: u16) -> ShortText
         requires moment { moment < 2 ^ 62 }
-        requires served { IsServed (script_state self.old.setup.now self.old.tables.items self.old.guests.items) }
-        ensures { Opens moment id address.now port (script_state self.old.setup.now self.old.tables.items self.old.guests.items) result
-            (script_state self.new.setup.now self.new.tables.items self.new.guests.items) }
+        requires served { IsServed (script_state self.old.setup.now self.old.tables.items self.old.guests.entries) }
+        ensures { Opens moment id address.now port (script_state self.old.setup.now self.old.tables.items self.old.guests.entries) result
+            (script_state self.new.setup.now self.new.tables.items self.new.guests.entries) }
     {
         match read_address(address) {
             Some(source) => self.open_from(moment, id, source, port),
@@ -45,43 +45,46 @@ impl<'a, T: Table> ScriptServer<'a, T> {
         }
     }
 
-    /// The same, once the address is read. A place for the connection is reserved first.
+    /// The same, once the address is read. Its place among the open connections is held first, by one like it.
     fn open_from(&mut self, moment: u64, id: u32, source: Address, port: u16) -> ShortText
         requires moment { moment < 2 ^ 62 }
-        requires served { IsServed (script_state self.old.setup.now self.old.tables.items self.old.guests.items) }
-        ensures { OpensAt (guest_of id (script_state self.old.setup.now self.old.tables.items self.old.guests.items).guests) moment id source port
-            (script_state self.old.setup.now self.old.tables.items self.old.guests.items) result
-            (script_state self.new.setup.now self.new.tables.items self.new.guests.items) }
+        requires served { IsServed (script_state self.old.setup.now self.old.tables.items self.old.guests.entries) }
+        ensures { OpensAt (guest_of id (script_state self.old.setup.now self.old.tables.items self.old.guests.entries).guests) moment id source port
+            (script_state self.old.setup.now self.old.tables.items self.old.guests.entries) result
+            (script_state self.new.setup.now self.new.tables.items self.new.guests.entries) }
     {
-        if is_open(self.guests.as_slice(), id) {
+        if is_open(&self.guests, id) {
             return ShortText::of(b"connection already open\n");
         }
-        if self.guests.reserve(1).is_err() {
-            return opened(id, Phase::Rejected);
-        }
         let samples = samples_of(self.setup, source, port);
+        let place = Conn::new(self.setup, samples);
+        let Ok(()) = hold_place(&mut self.guests, id, place) else {
+            return opened(id, Phase::Rejected);
+        };
         let mut conn = Conn::new(self.setup, samples);
         advance_to_rest(self.alloc, self.tables.as_mut_slice(), &mut conn, moment);
         match conn.phase() {
             Phase::Admitted => {
-                self.guests.push_reserved(Guest { id, conn });
+                keep_guest(&mut self.guests, id, conn);
                 opened(id, Phase::Admitted)
             }
-            phase => opened(id, phase),
+            phase => {
+                drop(take_guest(&mut self.guests, id));
+                opened(id, phase)
+            }
         }
     }
 
     /// What a `close` is answered. It takes no memory.
     fn close(&mut self, moment: u64, id: u32, bytes_in: u64, bytes_out: u64) -> ShortText
         requires moment { moment < 2 ^ 62 }
-        requires served { IsServed (script_state self.old.setup.now self.old.tables.items self.old.guests.items) }
-        ensures { Closes moment id bytes_in bytes_out (script_state self.old.setup.now self.old.tables.items self.old.guests.items) result
-            (script_state self.new.setup.now self.new.tables.items self.new.guests.items) }
+        requires served { IsServed (script_state self.old.setup.now self.old.tables.items self.old.guests.entries) }
+        ensures { Closes moment id bytes_in bytes_out (script_state self.old.setup.now self.old.tables.items self.old.guests.entries) result
+            (script_state self.new.setup.now self.new.tables.items self.new.guests.entries) }
     {
-        let Some(guest) = take_guest(&mut self.guests, id) else {
+        let Some(mut conn) = take_guest(&mut self.guests, id) else {
             return ShortText::of(b"no such connection\n");
         };
-        let mut conn = guest.conn;
         conn.close(bytes_in, bytes_out);
         advance_to_rest(self.alloc, self.tables.as_mut_slice(), &mut conn, moment);
         closed(id)
@@ -95,11 +98,11 @@ impl<'a, T: Table> ScriptServer<'a, T> {
         writer: &mut W,
     ) -> Result<(), Failed>
         requires moment { moment < 2 ^ 62 }
-        requires served { IsServed (script_state self.old.setup.now self.old.tables.items self.old.guests.items) }
-        ensures answer { OnOk result ((text : List ℕ) × LineSays (Commands moment commands.now) (script_state self.old.setup.now self.old.tables.items self.old.guests.items) text
-            (script_state self.new.setup.now self.new.tables.items self.new.guests.items) × Grows W.tells (W.written writer.old) (W.written writer.new) text) }
-        ensures part { OnErr result ((text : List ℕ) × LineStops (Commands moment commands.now) (script_state self.old.setup.now self.old.tables.items self.old.guests.items) text
-            (script_state self.new.setup.now self.new.tables.items self.new.guests.items) × Grows W.tells (W.written writer.old) (W.written writer.new) text) }
+        requires served { IsServed (script_state self.old.setup.now self.old.tables.items self.old.guests.entries) }
+        ensures answer { OnOk result ((text : List ℕ) × LineSays (Commands moment commands.now) (script_state self.old.setup.now self.old.tables.items self.old.guests.entries) text
+            (script_state self.new.setup.now self.new.tables.items self.new.guests.entries) × Grows W.tells (W.written writer.old) (W.written writer.new) text) }
+        ensures part { OnErr result ((text : List ℕ) × LineStops (Commands moment commands.now) (script_state self.old.setup.now self.old.tables.items self.old.guests.entries) text
+            (script_state self.new.setup.now self.new.tables.items self.new.guests.entries) × Grows W.tells (W.written writer.old) (W.written writer.new) text) }
         ensures ok { OnOk result (W.failures writer.new ≡ W.failures writer.old) }
         ensures err { OnErr result (IsOneMore (W.failures writer.old) (W.failures writer.new)) }
     {
@@ -172,7 +175,7 @@ fn write_text<W: Sink>(writer: &mut W, text: &[u8]) -> Result<(), Failed>
 impl<'a, T: Table> LineServer for ScriptServer<'a, T> {
     ghost State = { ScriptState };
 
-    ghost state = { λ server. script_state server.setup.now server.tables.items server.guests.items };
+    ghost state = { λ server. script_state server.setup.now server.tables.items server.guests.entries };
 
     ghost holds = { IsServed };
 

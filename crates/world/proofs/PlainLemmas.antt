@@ -49,7 +49,7 @@ plain_outcome o = (plain_reply o.0, plain o.1)
 
 -- ---- what of the tickets a state is asked for
 
-refs_plain : (key : Key) (tickets : List (Ticket × Key)) → refs key (plain_tickets tickets) ≡ refs key tickets
+pub refs_plain : (key : Key) (tickets : List (Ticket × Key)) → refs key (plain_tickets tickets) ≡ refs key tickets
 refs_plain key [] = refl
 refs_plain key (h ∷ tickets) =
     omega (
@@ -67,7 +67,7 @@ push_plain : (tickets : List (Ticket × Key)) (ticket : Ticket) (key : Key) → 
 push_plain [] ticket key = refl
 push_plain (h ∷ tickets) ticket key = ap (λ rest. (plain_ticket h.0, h.1) ∷ rest) (push_plain tickets ticket key)
 
-begun_plain : (state : State) (now : ℕ) → begun (plain state) now ≡ plain (begun state now)
+pub begun_plain : (state : State) (now : ℕ) → begun (plain state) now ≡ plain (begun state now)
 begun_plain state now =
     (λ i. record (plain (begun state now)) { records = filter (λ (entry : Key × Record). nat_lt 0 (refs_plain entry.0 state.tickets i) || outlives (begun state now).clock entry.1) state.records })
 
@@ -149,7 +149,7 @@ stored_by is_kept spec records key found =
     else (if spec.nopurge || list_all (λ (entry : Key × Record). is_kept entry.0) records then None
     else Some (filter (λ (entry : Key × Record). not (not (is_kept entry.0) && nat_lt (count_by (λ (other : Key × Record). not (is_kept other.0) && nat_lt other.1.stamp entry.1.stamp) records) 1)) records))))
 
-stored_plain : (spec : Spec) (tickets : List (Ticket × Key)) (records : List (Key × Record)) (key : Key) (found : Record) → stored_in spec (plain_tickets tickets) records key found ≡ stored_in spec tickets records key found
+pub stored_plain : (spec : Spec) (tickets : List (Ticket × Key)) (records : List (Key × Record)) (key : Key) (found : Record) → stored_in spec (plain_tickets tickets) records key found ≡ stored_in spec tickets records key found
 stored_plain spec tickets records key found = (λ i. stored_by (λ k. nat_lt 0 (refs_plain k tickets i)) spec records key found)
 
 tracked_plain : (state : State) (key : Key) (kept : Record) (ticket : Ticket) (records : List (Key × Record))

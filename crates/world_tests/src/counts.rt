@@ -4,10 +4,11 @@ ghost use Rattle.std.specs.Prelude.{◌≡◌, ◌<◌, length};
 
 use address_text::Address;
 use admit_core::Phase;
+use pooled_table::StickTable;
 use rule_eval::Samples;
 use rule_model::Slot;
 use std::alloc::Global;
-use stick_table::{Event, Filter, PlainTable, Reply, Table};
+use stick_table::{Event, Filter, Reply, Table};
 use world::{Visit, World};
 
 /// A connection of 100 bytes in and 200 out, from 10.0.0.HOST.
@@ -24,7 +25,7 @@ pub fn visit(host: u8) -> Visit {
 }
 
 /// How many references a shard has out, as its table lists them.
-pub fn out(alloc: Global, world: &World<'_, PlainTable>, shard: u32) -> Option<u32>
+pub fn out<T: Table>(alloc: Global, world: &World<'_, T>, shard: u32) -> Option<u32>
     requires table { length world.now.setup.tables ≡ 1 }
     requires shard { shard < world.now.setup.shards }
 {
@@ -42,7 +43,7 @@ pub fn out(alloc: Global, world: &World<'_, PlainTable>, shard: u32) -> Option<u
 }
 
 /// Whether a connection holds a reference of a shard.
-fn holds(world: &World<'_, PlainTable>, number: u32, shard: u32) -> bool
+fn holds(world: &World<'_, StickTable>, number: u32, shard: u32) -> bool
     requires { number < length world.now.visitors }
 {
     match world.held(number, Slot::Sc0) {
@@ -52,7 +53,7 @@ fn holds(world: &World<'_, PlainTable>, number: u32, shard: u32) -> bool
 }
 
 /// How many of the four connections hold a reference of a shard.
-pub fn held(world: &World<'_, PlainTable>, shard: u32) -> u32
+pub fn held(world: &World<'_, StickTable>, shard: u32) -> u32
     requires { length world.now.visitors ≡ 4 }
 {
     let mut held = 0u32;
@@ -65,7 +66,7 @@ pub fn held(world: &World<'_, PlainTable>, shard: u32) -> u32
 }
 
 /// How many of the four connections are admitted, hold a reference and come from a host.
-pub fn admitted(world: &World<'_, PlainTable>, hosts: [u8; 4], host: u8) -> u32
+pub fn admitted(world: &World<'_, StickTable>, hosts: [u8; 4], host: u8) -> u32
     requires { length world.now.visitors ≡ 4 }
 {
     let mut admitted = 0u32;

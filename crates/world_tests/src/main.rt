@@ -12,11 +12,11 @@ mod setups;
 mod worlds;
 
 use counts::{admitted, held, out, visit};
+use pooled_table::StickTable;
 use setups::limiting;
 use std::alloc::Global;
 use std::io;
 use std::process::ExitCode;
-use stick_table::PlainTable;
 use world::World;
 
 /// The hosts that the connections come from.
@@ -73,7 +73,7 @@ struct Left {
 }
 
 impl Left {
-    fn of(alloc: Global, world: &World<'_, PlainTable>) -> Left
+    fn of(alloc: Global, world: &World<'_, StickTable>) -> Left
         requires count { length world.now.visitors ≡ 4 }
         requires tables { length world.now.setup.tables ≡ 1 }
         requires shards { world.now.setup.shards ≡ 1 }
@@ -115,7 +115,7 @@ impl Left {
 }
 
 /// Leads the connections of a world through the schedule. Whether all went as it says, up to the first refusal.
-fn lead<R: Print + AllocGlobal>(rt: &R, world: &mut World<'_, PlainTable>) -> io::Result<bool>
+fn lead<R: Print + AllocGlobal>(rt: &R, world: &mut World<'_, StickTable>) -> io::Result<bool>
     requires count { length world.old.visitors ≡ 4 }
     requires tables { length world.old.setup.tables ≡ 1 }
     requires shards { world.old.setup.shards ≡ 1 }
@@ -146,7 +146,7 @@ fn main(rt: HostRuntime) -> io::Result<ExitCode> {
         visit(HOSTS[2]),
         visit(HOSTS[3]),
     ];
-    let Ok(mut world) = World::<PlainTable>::new(alloc, &setup, &visits) else {
+    let Ok(mut world) = World::<StickTable>::new(alloc, &setup, &visits) else {
         println!(rt; "out of memory")?;
         return Ok(ExitCode::SUCCESS);
     };

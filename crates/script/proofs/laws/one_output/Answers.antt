@@ -2,4 +2,4 @@ use Rattle.script.proofs.UnrefusedLemmas.{one_output_law}
 use Rattle.script.proofs.laws.one_output.Goals as goal
 
 pub returns : goal.returns
-returns c = one_output_law
+returns c = one_output_law c.reads_one_key.ensures

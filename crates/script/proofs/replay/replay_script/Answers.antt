@@ -13,4 +13,4 @@ returns-in-Err-clause-fault g c =
 
 pub serve_lines-requires : goal.serve_lines-requires
 serve_lines-requires g c =
-    subst IsServed (λ i. record { setup = c.args.setup.now; tables = sym c.in-Ok.ensures.opened i; guests = sym c.new.ensures.items i }) (start_served c.args.setup.now c.requires)
+    subst IsServed (λ i. record { setup = c.args.setup.now; tables = sym c.in-Ok.ensures.opened i; guests = sym c.new.ensures.empty i }) (start_served c.args.setup.now c.requires)
