@@ -7,3 +7,4 @@ pub mod Opened
 pub mod SlotLemmas
 pub mod SoundLemmas
 pub mod Steps
+pub mod Threads

@@ -2,7 +2,8 @@
 use Rattle.std.specs.Prelude.{◌≡◌, ℕ, zero, suc, ◌+◌, ◌-◌, ◌^◌, ◌<◌, ◌≤◌, ◌↔◌, List, length, get_or, slice_get, Option, Some, None, is_some, IsSome, count_by}
 use Rattle.entry_pool.specs.Contents.{Entry, entry}
 use Rattle.entry_pool.specs.declared.Live.{Live}
-use Rattle.entry_pool.specs.declared.TheConstants.{NONE, FULL}
+use Rattle.entry_pool.specs.declared.TheConstants.{FULL}
+use Rattle.slot_handle.specs.declared.TheConstants.{NONE}
 
 -- from this slot on, so many free slots each name the next, and the last names none
 abbrev pub IsFreeChain : List ℕ → ℕ → ℕ → Type 0

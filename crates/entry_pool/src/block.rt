@@ -5,7 +5,7 @@ ghost use Rattle.std.specs.Borrow.{Lends, sem};
 ghost use Rattle.std.specs.Vec.Ownership.{FitsInBlock};
 
 use std::alloc::{AllocError, Allocator, Global};
-use std::marker::Model;
+use std::marker::{Model, Send};
 use std::mem::{align_of, size_of};
 
 /// The bytes that a block has at most.
@@ -27,6 +27,9 @@ impl<T> Model for Block<T> {
 
     ghost also_shares = { λ b p. block_lends T.row b.start b.capacity b.items };
 }
+
+// SAFETY: a block owns its values and the right to free its memory, and neither belongs to a thread.
+unsafe impl<T: Send> Send for Block<T> {}
 
 impl<T> Block<T> {
     ghost use Rattle.entry_pool.specs.Blocks.{with_items, lends_item};

@@ -13,12 +13,10 @@ pub mod laws;
 use block::Block;
 use sequence::NoMemory;
 pub use slot_handle::Handle;
+use slot_handle::NONE;
 use std::alloc::Global;
 use std::marker::Model;
 use std::snapshot::Snapshot;
-
-/// No slot: the slots are below 2^30.
-const NONE: u32 = u32::MAX;
 
 /// The link of a slot that has a value.
 const FULL: u32 = u32::MAX - 1;
@@ -99,18 +97,16 @@ impl<T> Pool<T> {
             return Err(NoMemory);
         }
         let links = free_links(alloc, capacity)?;
-        match Block::allocate(&alloc, capacity as usize) {
-            Ok(block) => Ok(Pool {
-                block,
-                links,
-                capacity,
-                first_free: 0,
-                count: 0,
-                newest: Snapshot::of(&0),
-                alloc,
-            }),
-            Err(error) => Err(error),
-        }
+        let block = Block::allocate(&alloc, capacity as usize)?;
+        Ok(Pool {
+            block,
+            links,
+            capacity,
+            first_free: 0,
+            count: 0,
+            newest: Snapshot::of(&0),
+            alloc,
+        })
     }
 
     /// How many values fit.

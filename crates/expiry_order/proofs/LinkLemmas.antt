@@ -5,7 +5,7 @@ use Rattle.std.proofs.lemmas.List.{get_or-set_same, get_or-set_other}
 use Rattle.std.proofs.lemmas.Map.Steps.{length-le_from_distinct_below}
 use Rattle.std.specs.List.{IsDistinct, list_any}
 use Rattle.expiry_order.specs.declared.Link.{Link}
-use Rattle.expiry_order.specs.declared.TheConstants.{NONE}
+use Rattle.slot_handle.specs.declared.TheConstants.{NONE}
 use Rattle.expiry_order.specs.Links.{link, no_link, walk, slots_from, IsLinked, with_next, with_previous, slot_or_none}
 use Rattle.slot_handle.proofs.DistinctSlots.{Off, Off-cut, distinct-push, distinct-cut, distinct-last, distinct-front, distinct-back, distinct-head}
 

@@ -8,11 +8,9 @@ ghost use Rattle.expiry_order.specs.Queue.{IsQueue, queue, slot_after, without};
 ghost use Rattle.expiry_order.specs.Links.{with_next, with_previous, slot_or_none};
 
 use sequence::NoMemory;
+use slot_handle::NONE;
 use std::alloc::Global;
 use std::marker::Model;
-
-/// No slot: the slots are below 2^30.
-const NONE: u32 = u32::MAX;
 
 /// The neighbours of a slot in the list.
 #[derive(Clone, Copy)]
@@ -40,7 +38,7 @@ impl Model for Order {
     ghost coded = { queue_code };
 
     ghost use Rattle.expiry_order.specs.Links.{slots_from, IsLinked};
-    ghost use Rattle.expiry_order.specs.declared.TheConstants.{NONE};
+    ghost use Rattle.slot_handle.specs.declared.TheConstants.{NONE};
 
     ghost view = { λ o. queue (length o.links.items) (slots_from o.links.items o.front) };
 

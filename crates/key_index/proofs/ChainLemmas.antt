@@ -7,7 +7,7 @@ use Rattle.std.specs.List.{IsDistinct}
 use Rattle.slot_handle.proofs.DistinctSlots.{Off-cut, distinct-head}
 use Rattle.key_index.specs.Chains.{hash_of, bucket_of, IsAmong, IsChain, link_at, steps_left}
 use Rattle.key_index.specs.declared.Link.{Link}
-use Rattle.key_index.specs.declared.TheConstants.{NONE}
+use Rattle.slot_handle.specs.declared.TheConstants.{NONE}
 use Rattle.key_index.proofs.AmongLemmas.{among_any}
 use Rattle.key_index.proofs.NodeLemmas.{not_none}
 

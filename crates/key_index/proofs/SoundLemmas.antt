@@ -8,7 +8,7 @@ use Rattle.slot_handle.proofs.DistinctSlots.{Off-append, distinct-cut, distinct-
 use Rattle.key_index.specs.Chains.{bucket_of, IsAmong, HasNode, IsChain, Chain, IsSound, link_at, no_link}
 use Rattle.key_index.specs.declared.Node.{Node}
 use Rattle.key_index.specs.declared.Link.{Link}
-use Rattle.key_index.specs.declared.TheConstants.{NONE}
+use Rattle.slot_handle.specs.declared.TheConstants.{NONE}
 use Rattle.key_index.proofs.AmongLemmas.{off_from_not_among, among_rest, among_all, apart_from, distinct-cons}
 use Rattle.key_index.proofs.NodeLemmas.{kept_node, same_node}
 use Rattle.key_index.proofs.ChainLemmas.{chain_same}

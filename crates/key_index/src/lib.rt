@@ -16,15 +16,13 @@ use core::hash::keyed_hasher;
 use sequence::NoMemory;
 use sip::{hash_of_4, hash_of_16};
 pub use slot_handle::Handle;
+use slot_handle::NONE;
 use std::alloc::Global;
 use std::hash::Hasher;
 use std::marker::Model;
 use std::mem;
 use stick_key::StickKey;
 use words::{is_same_4, is_same_16};
-
-/// No slot: the slots are below 2^30.
-const NONE: u32 = u32::MAX;
 
 /// A key, and the generation of its handle.
 #[derive(Drop)]

@@ -1,5 +1,6 @@
 pub mod RecordLemmas
 pub mod TableLemmas
+pub mod Threads
 pub mod ChangeLemmas
 pub mod CountLemmas
 pub mod RisingLemmas
@@ -20,3 +21,4 @@ pub mod ListingLemmas
 pub mod LookLemmas
 pub mod TrackedLemmas
 pub mod DispatchLemmas
+pub mod RowOrderLemmas

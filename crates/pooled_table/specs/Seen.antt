@@ -1,6 +1,6 @@
 -- What is seen of an entry by itself: its references are those that it counts.
-use Rattle.std.specs.Prelude.{◌≡◌, ℕ, nat_lt, Bool, true, false, not, ◌&&◌, ◌||◌, if◌then◌else◌, List, map, Option, Some, None, unwrap_or}
-use Rattle.std.specs.Option.{option_and_then}
+use Rattle.std.specs.Prelude.{◌≡◌, ℕ, nat_lt, Bool, true, false, not, ◌&&◌, ◌||◌, if◌then◌else◌, List, [], ◌∷◌, map, Option, Some, None, unwrap_or}
+use Rattle.std.specs.Option.{option_and_then, option_map}
 use Rattle.stored_data.specs.Acts.{value_at}
 use Rattle.stored_data.specs.declared.stored_set.Column.{Column}
 use Rattle.stored_data.specs.declared.values.StoredValue.{StoredValue}
@@ -49,6 +49,20 @@ is_meant_as clock choice tracked held = if nat_lt 0 held.entry.refs then tracked
 abbrev pub listed_of : List Column → Option ℕ → ℕ → Filter → Held → Option (Key × Row)
 listed_of columns expire clock choice held =
     if is_kept clock expire held && is_meant clock choice held then Some (held.key, row_of columns clock held.entry.refs held.key (record_of expire held)) else None
+
+-- the row that a listing shows of a slot, if it shows one
+abbrev pub listed_row : List Column → Option ℕ → ℕ → Filter → Option Held → Option Row
+listed_row columns expire clock choice slot = option_map (λ (entry : Key × Row). entry.1) (option_and_then (listed_of columns expire clock choice) slot)
+
+-- what slots have, in the order of the slots
+abbrev pub filled : {X : Type 0} → List (Option X) → List X
+filled [] = []
+filled (None ∷ slots) = filled slots
+filled (Some x ∷ slots) = x ∷ filled slots
+
+-- the rows that a listing shows of these slots, in the order of the slots
+abbrev pub listed_in : List Column → Option ℕ → ℕ → Filter → List (Option Held) → List Row
+listed_in columns expire clock choice slots = filled (map (listed_row columns expire clock choice) slots)
 
 -- what a listing shows of these slots, in the order of the keys
 abbrev pub listed_entries : List Column → Option ℕ → ℕ → Filter → List (Option Held) → List (Key × Row)

@@ -31,11 +31,7 @@ impl StickTable {
     fn has_life(&self, event: &Event) -> bool
         ensures { result ≡ has_life_for self.now event.now }
     {
-        let taken = match event {
-            Event::Release(_, _) => return true,
-            Event::Track(_, _) => 2,
-            _ => 1,
-        };
+        let taken = event.life_taken();
         let used = self.events + u64::from(self.book.len());
         used + taken <= self.spec.life
     }

@@ -1,12 +1,12 @@
 //! What a table lists.
 ghost use Rattle.std.specs.Prelude.{◌≡◌, ℕ, ◌+◌, ◌<◌, ◌≤◌, ◌^◌, false, IfOk, OnErr, Option, count_by, length};
 ghost use Rattle.std.specs.Map.{values_of};
-ghost use Rattle.std.specs.Option.{option_map_or, option_and_then};
-ghost use Rattle.entry_store.specs.Stock.{Held, held_at};
+ghost use Rattle.std.specs.Option.{option_map_or};
+ghost use Rattle.entry_store.specs.Stock.{Held, IsStock, held_at};
 ghost use Rattle.stick_table.specs.Replies.{listed_reply};
 ghost use Rattle.table_model.specs.Step.{begun, list as reply_to_list};
 ghost use Rattle.pooled_table.specs.Shown.{moment_at};
-ghost use Rattle.pooled_table.specs.Seen.{is_kept, listed_of, listed_entries};
+ghost use Rattle.pooled_table.specs.Seen.{is_kept, listed_entries, listed_in, listed_row as row_listed};
 
 use crate::StickTable;
 use crate::filters::{is_listed, is_live, not_stored};
@@ -14,8 +14,6 @@ use crate::rows::show_row;
 use entry_store::Store;
 use sequence::{NoMemory, Sequence};
 use std::alloc::Global;
-use std::collections::BTreeMap;
-use stick_key::StickKey;
 use table_model::{Filter, Reply, Row, Rows, Spec};
 
 /// How many entries are there when the clock has come to this moment.
@@ -33,8 +31,8 @@ fn count_live(store: &Store, size: u32, expire: Option<u32>, clock: u64) -> u32
     count
 }
 
-/// The row of a slot's entry with its key, where it has one that is there when the clock has come to this moment, and
-/// that a filter means.
+/// The row of a slot's entry, where it has one that is there when the clock has come to this moment, and that a filter
+/// means.
 fn listed_row(
     alloc: Global,
     spec: &Spec,
@@ -42,38 +40,35 @@ fn listed_row(
     clock: u64,
     choice: &Filter,
     slot: u32,
-) -> Result<Option<(StickKey, Row)>, NoMemory>
+) -> Result<Option<Row>, NoMemory>
     requires clock { clock < 2 ^ 62 }
     requires past { moment_at store.now slot ≤ clock }
-    ensures { IfOk result (λ row. row ≡ option_and_then (listed_of spec.now.columns spec.now.expire clock choice.now) (held_at store.now slot)) }
+    ensures { IfOk result (λ row. row ≡ row_listed spec.now.columns spec.now.expire clock choice.now (held_at store.now slot)) }
 {
     if !is_listed(store, spec.expire, clock, choice, slot) {
         return Ok(None);
     }
-    let key = store.key(slot).copy()?;
     let row = show_row(alloc, spec, store, clock, slot)?;
-    Ok(Some((key, row)))
+    Ok(Some(row))
 }
 
-/// What is listed, by the keys.
-fn rows_by_key(
+/// The rows of what is listed, in the order of the slots.
+fn gather_rows(
     alloc: Global,
     spec: &Spec,
     store: &Store,
     clock: u64,
     choice: &Filter,
-) -> Result<BTreeMap<StickKey, Row>, NoMemory>
+) -> Result<Vec<Row>, NoMemory>
     requires clock { clock < 2 ^ 62 }
     requires size { spec.now.size ≡ length store.now.slots }
     requires past { (slot : ℕ) → moment_at store.now slot ≤ clock }
-    ensures { IfOk result (λ rows. rows.entries ≡ listed_entries spec.now.columns spec.now.expire clock choice.now store.now.slots) }
+    ensures { IfOk result (λ rows. rows.items ≡ listed_in spec.now.columns spec.now.expire clock choice.now store.now.slots) }
 {
-    let mut rows = BTreeMap::new(alloc);
-    let mut slot = spec.size;
-    while slot > 0 {
-        slot -= 1;
-        if let Some((key, row)) = listed_row(alloc, spec, store, clock, choice, slot)? {
-            rows.insert(key, row)?;
+    let mut rows = Vec::new(alloc);
+    for slot in 0..spec.size {
+        if let Some(row) = listed_row(alloc, spec, store, clock, choice, slot)? {
+            rows.push(row)?;
         }
     }
     Ok(rows)
@@ -90,12 +85,11 @@ fn list_rows(
     requires clock { clock < 2 ^ 62 }
     requires size { spec.now.size ≡ length store.now.slots }
     requires past { (slot : ℕ) → moment_at store.now slot ≤ clock }
+    requires stock { IsStock store.now }
     ensures { IfOk result (λ rows. rows ≡ values_of (listed_entries spec.now.columns spec.now.expire clock choice.now store.now.slots)) }
 {
-    let mut rows = Vec::new(alloc);
-    for row in rows_by_key(alloc, spec, store, clock, choice)?.into_values() {
-        rows.push(row)?;
-    }
+    let mut rows = gather_rows(alloc, spec, store, clock, choice)?;
+    rows.sort_unstable_by(|a: &Row, b: &Row| a.key.cmp(&b.key));
     Ok(Sequence::from_vec(rows))
 }
 

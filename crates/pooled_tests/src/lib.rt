@@ -1,4 +1,5 @@
-//! A test of pooled tables: random events, each made on a pooled table and on a plain one, and the replies compared.
+//! A test of pooled tables: random events, each made on a pooled table and on a plain one, and the replies compared; and worked
+//! examples.
 #![tactic(auto)]
 
 #[cfg(test)]
@@ -7,3 +8,5 @@ mod draws;
 mod replies;
 #[cfg(test)]
 mod trials;
+#[cfg(test)]
+mod worked;

@@ -1,6 +1,9 @@
 //! What names a slot of a table, and lemmas on lists of distinct slots.
 #![tactic(auto)]
 
+/// No slot: slots are below 2^30.
+pub const NONE: u32 = u32::MAX;
+
 /// Names what a slot holds for as long as it is there. A slot is used again, a generation never is.
 #[derive(Clone, Copy, PartialEq, Eq, Debug)]
 pub struct Handle {

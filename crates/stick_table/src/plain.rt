@@ -108,7 +108,8 @@ impl PlainTable {
         ensures refused { IfErr result (IsRefused self.old stored.now.event) }
         ensures err { OnErr result (self.new ≡ self.old) }
     {
-        self.step_with(&stored.event, stored.slot.unwrap_or(0))
+        let (reply, _again) = self.step_with(&stored.event, stored.slot.unwrap_or(0))?;
+        Ok(reply)
     }
 
     /// Whether the ticket that an event names is out.
@@ -125,11 +126,7 @@ impl PlainTable {
     fn has_life(&self, event: &Event) -> bool
         ensures { result ≡ has_life_for self.now event.now }
     {
-        let taken = match event {
-            Event::Release(_, _) => return true,
-            Event::Track(_, _) => 2,
-            _ => 1,
-        };
+        let taken = event.life_taken();
         let used = self.events + self.tickets.len() as u64;
         used + taken <= self.spec.life
     }
@@ -157,10 +154,11 @@ impl PlainTable {
         }
     }
 
-    /// A step in which a reference gets this slot.
-    fn step_with(&mut self, event: &Event, slot: u32) -> Result<Reply, Refusal>
+    /// A step in which a reference gets this slot, its reply given twice.
+    fn step_with(&mut self, event: &Event, slot: u32) -> Result<(Reply, Reply), Refusal>
         requires { IsTableEvent event.now }
-        ensures ok { IfOk result (λ reply. after self.old event.now slot ≡ (reply, self.new)) }
+        ensures ok { IfOk result (λ replies. after self.old event.now slot ≡ (replies.0, self.new)) }
+        ensures twice { IfOk result (λ replies. replies.1 ≡ replies.0) }
         ensures out { OnOk result (is_event_out self.old event.now ≡ true) }
         ensures lives { OnOk result (has_life_for self.old event.now ≡ true) }
         ensures refused { IfErr result (IsRefused self.old event.now) }
@@ -170,36 +168,14 @@ impl PlainTable {
             return Err(refusal);
         }
         match self.answer(event, slot) {
-            Ok(reply) => Ok(reply),
+            Ok(replies) => Ok(replies),
             Err(_) => Err(Refusal::Memory),
         }
     }
 
-    /// The reply to an event whose ticket is out, and for which there is life.
-    fn answer(&mut self, event: &Event, slot: u32) -> Result<Reply, NoMemory>
-        requires event { IsTableEvent event.now }
-        requires out { is_event_out self.old event.now ≡ true }
-        requires life { has_life_for self.old event.now ≡ true }
-        ensures ok { IfOk result (λ reply. after self.old event.now slot ≡ (reply, self.new)) }
-        ensures err { OnErr result (self.new ≡ self.old) }
-        ensures memory { takes_memory event.now ≡ false → IsOk result }
-    {
-        match event {
-            Event::Get(now, key) => self.get(*now, key),
-            Event::Track(now, key) => self.track(*now, key, slot),
-            Event::Look(now, ticket) => self.look(*now, *ticket),
-            Event::Count(now, ticket, act) => Ok(self.count(*now, *ticket, *act)),
-            Event::Release(now, ticket) => Ok(self.release(*now, *ticket)),
-            Event::Put(now, key, pairs) => self.put(*now, key, pairs.as_slice()),
-            Event::Clear(now, key) => Ok(self.clear(*now, key)),
-            Event::ClearWhere(now, choice) => Ok(self.clear_where(*now, choice)),
-            Event::List(now, choice) => self.list(*now, choice),
-            Event::Expire(now) => Ok(self.expire(*now)),
-        }
-    }
-
-    /// The same, the reply given twice. Memory for both is taken before anything changes.
-    fn answer_twice(&mut self, event: &Event, slot: u32) -> Result<(Reply, Reply), NoMemory>
+    /// The reply to an event whose ticket is out, and for which there is life, given twice. Memory for both is taken before
+    /// anything changes.
+    fn answer(&mut self, event: &Event, slot: u32) -> Result<(Reply, Reply), NoMemory>
         requires event { IsTableEvent event.now }
         requires out { is_event_out self.old event.now ≡ true }
         requires life { has_life_for self.old event.now ≡ true }
@@ -209,10 +185,10 @@ impl PlainTable {
         ensures memory { takes_memory event.now ≡ false → IsOk result }
     {
         match event {
-            Event::Get(now, key) => self.get_twice(*now, key),
-            Event::Track(now, key) => self.track_twice(*now, key, slot),
-            Event::Look(now, ticket) => self.look_twice(*now, *ticket),
-            Event::List(now, choice) => self.list_twice(*now, choice),
+            Event::Get(now, key) => self.get(*now, key),
+            Event::Track(now, key) => self.track(*now, key, slot),
+            Event::Look(now, ticket) => self.look(*now, *ticket),
+            Event::List(now, choice) => self.list(*now, choice),
             _ => self.change_twice(event, slot),
         }
     }
@@ -248,19 +224,13 @@ impl Table for PlainTable {
     }
 
     fn step(&mut self, event: &Event) -> Result<Reply, Refusal> {
-        let slot = self.slot_for(event);
-        self.step_with(event, slot)
+        let (reply, _again) = self.step_twice(event)?;
+        Ok(reply)
     }
 
     fn step_twice(&mut self, event: &Event) -> Result<(Reply, Reply), Refusal> {
         let slot = self.slot_for(event);
-        if let Some(refusal) = self.refusal(event) {
-            return Err(refusal);
-        }
-        match self.answer_twice(event, slot) {
-            Ok(replies) => Ok(replies),
-            Err(_) => Err(Refusal::Memory),
-        }
+        self.step_with(event, slot)
     }
 
     fn to_plain(&self) -> Result<PlainTable, NoMemory> {

@@ -1,5 +1,6 @@
 //! What a table is asked.
 ghost use Rattle.std.specs.Prelude.{◌≡◌, IfOk};
+ghost use Rattle.table_model.specs.Refusals.{life_taken as life_taken_by};
 
 use crate::{Cells, Filter, Ticket};
 use sequence::NoMemory;
@@ -47,6 +48,17 @@ impl Event {
             Event::ClearWhere(now, filter) => Ok(Event::ClearWhere(*now, filter.copy()?)),
             Event::List(now, filter) => Ok(Event::List(*now, filter.copy()?)),
             Event::Expire(now) => Ok(Event::Expire(*now)),
+        }
+    }
+
+    /// How many events of a table's life it takes: two for a `Track`, whose release is to come, and so none for a `Release`.
+    pub fn life_taken(&self) -> u64
+        ensures { result ≡ life_taken_by self.now }
+    {
+        match self {
+            Event::Track(_, _) => 2,
+            Event::Release(_, _) => 0,
+            _ => 1,
         }
     }
 }

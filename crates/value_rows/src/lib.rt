@@ -112,16 +112,14 @@ impl Rows {
         let Some(all) = (count as usize).checked_mul(width) else {
             return Err(NoMemory);
         };
-        match Vec::from_elem(alloc, 0, all) {
-            Ok(words) => Ok(Rows {
-                alloc,
-                columns,
-                words,
-                width,
-                count,
-            }),
-            Err(error) => Err(error),
-        }
+        let words = Vec::from_elem(alloc, 0, all)?;
+        Ok(Rows {
+            alloc,
+            columns,
+            words,
+            width,
+            count,
+        })
     }
 
     /// The columns of each row.

@@ -161,7 +161,28 @@ impl PlainTable {
         Reply::Released
     }
 
-    /// The reply to an event that asks for no rows, twice.
+    /// The reply to an event that asks for no rows.
+    fn change(&mut self, event: &Event, slot: u32) -> Result<Reply, NoMemory>
+        requires event { IsTableEvent event.now }
+        requires out { is_out self.old event.now ≡ true }
+        requires life { has_life self.old event.now ≡ true }
+        requires rows { asks_rows event.now ≡ false }
+        ensures ok { IfOk result (λ reply. after self.old event.now slot ≡ (reply, self.new)) }
+        ensures err { OnErr result (self.new ≡ self.old) }
+        ensures memory { takes_memory event.now ≡ false → IsOk result }
+    {
+        match event {
+            Event::Put(now, key, pairs) => self.put(*now, key, pairs.as_slice()),
+            Event::Count(now, ticket, act) => Ok(self.count(*now, *ticket, *act)),
+            Event::Release(now, ticket) => Ok(self.release(*now, *ticket)),
+            Event::Clear(now, key) => Ok(self.clear(*now, key)),
+            Event::ClearWhere(now, choice) => Ok(self.clear_where(*now, choice)),
+            Event::Expire(now) => Ok(self.expire(*now)),
+            _ => unreachable!(),
+        }
+    }
+
+    /// The same, the reply given twice.
     pub(super) fn change_twice(
         &mut self,
         event: &Event,
@@ -176,7 +197,7 @@ impl PlainTable {
         ensures err { OnErr result (self.new ≡ self.old) }
         ensures memory { takes_memory event.now ≡ false → IsOk result }
     {
-        let reply = self.answer(event, slot)?;
+        let reply = self.change(event, slot)?;
         match reply.copy(self.alloc) {
             Ok(again) => Ok((reply, again)),
             Err(_) => unreachable!(),

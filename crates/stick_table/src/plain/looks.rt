@@ -61,43 +61,9 @@ impl PlainTable {
         }
     }
 
-    pub(super) fn get(&mut self, now: u64, key: &StickKey) -> Result<Reply, NoMemory>
-        requires moment { now < 2 ^ 62 }
-        requires life { self.old.events + length self.old.tickets < self.old.spec.life }
-        ensures ok { IfOk result (λ reply. reply_to_get (begun self.old now) key.now ≡ (reply, self.new)) }
-        ensures err { OnErr result (self.new ≡ self.old) }
-    {
-        let clock = self.clock.max(now);
-        let reply = self.row_reply(clock, key)?;
-        self.begin(now);
-        Ok(reply)
-    }
+    // Each of these gives its reply twice, the second taken before anything changes.
 
-    pub(super) fn look(&mut self, now: u64, ticket: Ticket) -> Result<Reply, NoMemory>
-        requires moment { now < 2 ^ 62 }
-        requires life { self.old.events + length self.old.tickets < self.old.spec.life }
-        ensures ok { IfOk result (λ reply. reply_to_look (begun self.old now) ticket ≡ (reply, self.new)) }
-        ensures err { OnErr result (self.new ≡ self.old) }
-    {
-        let clock = self.clock.max(now);
-        let reply = self.look_reply(clock, ticket)?;
-        self.begin(now);
-        Ok(reply)
-    }
-
-    pub(super) fn list(&mut self, now: u64, choice: &Filter) -> Result<Reply, NoMemory>
-        requires moment { now < 2 ^ 62 }
-        requires life { self.old.events + length self.old.tickets < self.old.spec.life }
-        ensures ok { IfOk result (λ reply. reply_to_list (begun self.old now) choice.now ≡ (reply, self.new)) }
-        ensures err { OnErr result (self.new ≡ self.old) }
-    {
-        let clock = self.clock.max(now);
-        let reply = self.list_reply(clock, choice)?;
-        self.begin(now);
-        Ok(reply)
-    }
-
-    pub(super) fn get_twice(&mut self, now: u64, key: &StickKey) -> Result<(Reply, Reply), NoMemory>
+    pub(super) fn get(&mut self, now: u64, key: &StickKey) -> Result<(Reply, Reply), NoMemory>
         requires moment { now < 2 ^ 62 }
         requires life { self.old.events + length self.old.tickets < self.old.spec.life }
         ensures ok { IfOk result (λ replies. reply_to_get (begun self.old now) key.now ≡ (replies.0, self.new)) }
@@ -111,11 +77,7 @@ impl PlainTable {
         Ok((first, second))
     }
 
-    pub(super) fn look_twice(
-        &mut self,
-        now: u64,
-        ticket: Ticket,
-    ) -> Result<(Reply, Reply), NoMemory>
+    pub(super) fn look(&mut self, now: u64, ticket: Ticket) -> Result<(Reply, Reply), NoMemory>
         requires moment { now < 2 ^ 62 }
         requires life { self.old.events + length self.old.tickets < self.old.spec.life }
         ensures ok { IfOk result (λ replies. reply_to_look (begun self.old now) ticket ≡ (replies.0, self.new)) }
@@ -129,11 +91,7 @@ impl PlainTable {
         Ok((first, second))
     }
 
-    pub(super) fn list_twice(
-        &mut self,
-        now: u64,
-        choice: &Filter,
-    ) -> Result<(Reply, Reply), NoMemory>
+    pub(super) fn list(&mut self, now: u64, choice: &Filter) -> Result<(Reply, Reply), NoMemory>
         requires moment { now < 2 ^ 62 }
         requires life { self.old.events + length self.old.tickets < self.old.spec.life }
         ensures ok { IfOk result (λ replies. reply_to_list (begun self.old now) choice.now ≡ (replies.0, self.new)) }

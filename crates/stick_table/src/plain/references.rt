@@ -15,27 +15,8 @@ use stored_data::Act;
 use table_model::{Record, Reply, Row, Ticket};
 
 impl PlainTable {
-    /// Tracks a key: where references are left and there is room, one is made, with this slot.
-    pub(super) fn track(&mut self, now: u64, key: &StickKey, slot: u32) -> Result<Reply, NoMemory>
-        requires moment { now < 2 ^ 62 }
-        requires life { self.old.events + length self.old.tickets + 2 ≤ self.old.spec.life }
-        ensures ok { IfOk result (λ reply. reply_to_track (begun self.old now) key.now slot ≡ (reply, self.new)) }
-        ensures err { OnErr result (self.new ≡ self.old) }
-    {
-        if self.tickets.len() >= self.spec.max_refs as usize {
-            self.begin(now);
-            return Ok(Reply::NoRefs);
-        }
-        let found = self.connected(now, key)?;
-        let row = self.tracked_row(now, key, &found)?;
-        match self.enter(now, key, slot, found)? {
-            Some(ticket) => Ok(Reply::Tracked { ticket, row }),
-            None => Ok(Reply::Full),
-        }
-    }
-
-    /// The same, the reply given twice.
-    pub(super) fn track_twice(
+    /// Tracks a key: where references are left and there is room, one is made, with this slot. The reply is given twice.
+    pub(super) fn track(
         &mut self,
         now: u64,
         key: &StickKey,

@@ -1,6 +1,6 @@
 use Rattle.std.proofs.Common.{subst}
 use Rattle.expiry_order.specs.Links.{slots_from, IsLinked}
-use Rattle.expiry_order.specs.declared.TheConstants.{NONE}
+use Rattle.slot_handle.specs.declared.TheConstants.{NONE}
 use Rattle.slot_handle.proofs.DistinctSlots.{cut_at}
 use Rattle.expiry_order.proofs.LinkLemmas.{within}
 use Rattle.expiry_order.proofs.Order.front.Goals as goal

@@ -1,7 +1,7 @@
 use Rattle.std.proofs.Common.{refl, length, sym, arith, subst, eqb}
 use Rattle.std.specs.List.{IsDistinct}
 use Rattle.expiry_order.specs.Links.{IsLinked}
-use Rattle.expiry_order.specs.declared.TheConstants.{NONE}
+use Rattle.slot_handle.specs.declared.TheConstants.{NONE}
 use Rattle.slot_handle.proofs.DistinctSlots.{distinct-none}
 use Rattle.expiry_order.proofs.LinkLemmas.{walk-none}
 use Rattle.expiry_order.proofs.Order.new.Goals as goal

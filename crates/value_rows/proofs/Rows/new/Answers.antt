@@ -2,8 +2,8 @@ use Rattle.std.proofs.Common.{◌≡◌, ◌*◌, rules, replicate, ℕ}
 use Rattle.value_rows.proofs.CutLemmas.{new-rows}
 use Rattle.value_rows.proofs.Rows.new.Goals as goal
 
-pub returns-in-Ok : goal.returns-in-Ok
-returns-in-Ok c =
+pub returns : goal.returns
+returns c =
     let total : c.in-Some.all ≡ c.args.count * c.width-width.result = search rules in
-    let zeros : c.in-Ok.words.items ≡ replicate {A = ℕ} c.in-Some.all 0 = search rules in
-    new-rows c.args.columns c.args.count c.width-width.result c.in-Some.all c.in-Ok.words.items total zeros
+    let zeros : c.in_ok-words.words.items ≡ replicate {A = ℕ} c.in-Some.all 0 = search rules in
+    new-rows c.args.columns c.args.count c.width-width.result c.in-Some.all c.in_ok-words.words.items total zeros
