@@ -1,6 +1,7 @@
 //! Rates against a plain sum over all counts, and worked values.
 use random_numbers::Random;
 use rate_window::Meter;
+use std::alloc::{AllocError, Global};
 use std::test::Fail;
 
 /// The greatest moment that a table counts at, in ms.
@@ -52,72 +53,121 @@ fn plain_rate(counts: &[Counted], period: u64, now: u64) -> u64 {
     current.saturating_add(weighed).min(4_294_967_295)
 }
 
-/// The moments of a meter go on by up to two and a half periods at a time, so that windows are
-/// met again, follow one another, and are left out.
-#[test]
-fn rates_are_plain_sums(rt: HostRuntime) -> Result<(), Fail> {
-    let mut random = Random::new(2026);
-    for round in 0..1000u64 {
+/// A meter of a period in ms, all that was counted in it, and the moment that it has come to.
+#[derive(Drop)]
+struct Trial {
+    random: Random,
+    period: u64,
+    meter: Meter,
+    counts: Vec<Counted>,
+    now: u64,
+}
+
+/// The first moment of a round: in each eighth a late one, and 0.
+fn first_moment(random: &mut Random, round: u64, period: u64) -> u64 {
+    match round % 8 {
+        0 => GREATEST_MOMENT.saturating_sub(period.saturating_mul(12)),
+        1 => 0,
+        _ => next_number(random) % GREATEST_MOMENT,
+    }
+}
+
+impl Trial {
+    fn new(alloc: Global, round: u64, mut random: Random) -> Trial {
         let period = match round {
             0 => 1,
             1 => GREATEST_PERIOD,
             _ => (next_number(&mut random) % GREATEST_PERIOD) + 1,
         };
-        let mut now = match round % 8 {
-            0 => GREATEST_MOMENT.saturating_sub(period.saturating_mul(12)),
-            1 => 0,
-            _ => next_number(&mut random) % GREATEST_MOMENT,
-        };
-        let mut meter = Meter::new((period as u32).max(1).min(2_147_483_647));
-        let mut counts = Vec::new(rt.alloc());
+        let now = first_moment(&mut random, round, period);
+        Trial {
+            random,
+            period,
+            meter: Meter::new((period as u32).max(1).min(2_147_483_647)),
+            counts: Vec::new(alloc),
+            now,
+        }
+    }
+
+    /// Counts an amount at the moment at hand.
+    fn count(&mut self, amount: u64) -> Result<(), AllocError> {
+        self.meter.count(self.now, amount);
+        self.counts.push(Counted {
+            moment: self.now,
+            amount,
+        })?;
+        Ok(())
+    }
+
+    /// A moment by up to two periods later.
+    fn later(&mut self) -> u64 {
+        let ahead = self.period.saturating_mul(u64::from(self.random.below(5))) / 2;
+        self.now.saturating_add(ahead).min(GREATEST_MOMENT)
+    }
+
+    /// Goes on by less than a period, or in one step of four to the moment that was asked for at least.
+    fn go_on(&mut self, asked: u64) {
+        let ahead = next_number(&mut self.random) % self.period.max(1);
+        let now = self.now.saturating_add(ahead).min(GREATEST_MOMENT);
+        let at_least = if self.random.below(4) == 0 { asked } else { 0 };
+        self.now = now.max(at_least);
+    }
+
+    /// Counts once, and asks for a rate; answers whether it is the plain one.
+    fn step(&mut self, shift: u64) -> Result<bool, AllocError> {
+        let amount = next_number(&mut self.random) >> shift.min(63);
+        self.count(amount)?;
+        let asked = self.later();
+        let plain = plain_rate(self.counts.as_slice(), self.period, asked);
+        let rate = u64::from(self.meter.rate(asked));
+        self.go_on(asked);
+        Ok(rate == plain)
+    }
+}
+
+/// The moments of a meter go on by up to two and a half periods at a time, so that windows are
+/// met again, follow one another, and are left out.
+#[test]
+fn rates_are_plain_sums(rt: HostRuntime) -> Result<(), Fail> {
+    for round in 0..1000u64 {
+        let mut trial = Trial::new(rt.alloc(), round, Random::new(round));
         for step in 0..10u64 {
-            let amount = next_number(&mut random) >> (round % 3 * 16);
-            meter.count(now, amount);
-            counts.push(Counted {
-                moment: now,
-                amount,
-            })?;
-            let ahead = period.saturating_mul(u64::from(random.below(5))) / 2;
-            let asked = now.saturating_add(ahead).min(GREATEST_MOMENT);
-            let plain = plain_rate(counts.as_slice(), period, asked);
-            assert_eq!(rt;
-                u64::from(meter.rate(asked)),
-                plain,
-                "round {round}, step {step}: {period} ms, at {asked}"
-            );
-            now = now
-                .saturating_add(next_number(&mut random) % period)
-                .min(GREATEST_MOMENT);
-            if random.below(4) == 0 {
-                now = asked.max(now);
-            }
+            assert!(rt; trial.step(round % 3 * 16)?, "round {round}, step {step}");
         }
     }
     Ok(())
 }
 
-/// Five counts at 1000 and two at 12000, over 10 s.
-#[test]
-fn worked_rates(rt: HostRuntime) {
+/// Over 10 s, five counts at 1000 and two at 12000; over a minute, bytes that pass the greatest value of a rate, which
+/// stay at it, and then fade.
+fn worked_meters() -> (Meter, Meter) {
     let mut meter = Meter::new(10_000);
     for _ in 0..5usize {
         meter.count(1000, 1);
     }
     meter.count(12_000, 1);
     meter.count(12_000, 1);
-    for (now, rate) in [(12_000, 6), (20_000, 2), (30_000, 0)] {
-        assert_eq!(rt; meter.rate(now), rate, "at {now}");
-    }
-
-    // Bytes that pass the greatest value of a rate stay at it, and then fade.
     let mut bytes = Meter::new(60_000);
     bytes.count(59_999, 18_446_744_073_709_551_615);
-    for (now, rate) in [
-        (59_999, 4_294_967_295),
-        (60_000, 4_294_967_295),
-        (90_000, 2_147_483_647),
-        (120_000, 0),
-    ] {
-        assert_eq!(rt; bytes.rate(now), rate, "at {now}");
+    (meter, bytes)
+}
+
+static FEW: [(u64, u32); 3] = [(12_000, 6), (20_000, 2), (30_000, 0)];
+
+static MANY: [(u64, u32); 4] = [
+    (59_999, 4_294_967_295),
+    (60_000, 4_294_967_295),
+    (90_000, 2_147_483_647),
+    (120_000, 0),
+];
+
+#[test]
+fn worked_rates(rt: HostRuntime) {
+    let (meter, bytes) = worked_meters();
+    for (now, rate) in FEW.iter() {
+        assert!(rt; meter.rate(*now) == *rate, "at {now}");
+    }
+    for (now, rate) in MANY.iter() {
+        assert!(rt; bytes.rate(*now) == *rate, "at {now}");
     }
 }
