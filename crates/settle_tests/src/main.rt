@@ -1,0 +1,174 @@
+//! Tests of tables in shards that are settled once their callers have ended. As a program it makes each call of such a table
+//! once, without receipts and with them, and settles it: first with a reference that is out and isn't shown, then with that
+//! given back. Where a growth is refused it asks once more, and says how often that was, and how many answers were those
+//! that are wanted. `tests/refusals calls` refuses each of its allocations in turn.
+#![tactic(auto)]
+
+mod asking;
+#[cfg(test)]
+mod books;
+#[cfg(test)]
+mod faults;
+#[cfg(test)]
+mod records;
+mod tables;
+#[cfg(test)]
+mod threads;
+
+use asking::{Call, make};
+use drawn_calls::Held;
+use settlement::Fault;
+use shard_locks::Shards;
+use shard_seats::Seat;
+use std::alloc::Global;
+use std::io;
+use std::sync::Wait;
+use stick_table::{PlainTable, Refusal, Ticket};
+use tables::{Opened, Outcome, open, show};
+
+/// What is done before the table is shown.
+const CALLS: [Call; 9] = [
+    Call::Spec,
+    Call::Put,
+    Call::Track,
+    Call::Look,
+    Call::Count,
+    Call::Get,
+    Call::List,
+    Call::Roll,
+    Call::Hold,
+];
+
+/// How often a growth was refused, how many answers were those that are wanted, and what was settled.
+#[derive(Drop)]
+struct Tally {
+    refused: u32,
+    wanted: u32,
+    /// Calls of shards before one that refused a listing.
+    listed: u64,
+    calls: u64,
+    references: u64,
+}
+
+impl Tally {
+    /// Counts an answer; says whether it was a refusal.
+    fn is_refused(&mut self, answer: &Result<bool, (u32, Refusal)>) -> bool {
+        match answer {
+            Ok(wanted) => {
+                self.wanted = self.wanted.saturating_add(u32::from(*wanted));
+                false
+            }
+            Err((listed, _)) => {
+                self.refused = self.refused.saturating_add(1);
+                self.listed = self.listed.saturating_add(u64::from(*listed));
+                true
+            }
+        }
+    }
+
+    /// Makes a call, and once more where it is refused.
+    fn make(
+        &mut self,
+        rt: &impl Wait,
+        alloc: Global,
+        table: &Shards<PlainTable>,
+        seat: &mut Seat,
+        held: &mut Held,
+        call: Call,
+    ) {
+        let answer = make(rt, alloc, table, seat, held, call);
+        if self.is_refused(&answer) {
+            let answer = make(rt, alloc, table, seat, held, call);
+            self.is_refused(&answer);
+        }
+    }
+
+    /// A table and its seats, asked for once more where that is refused.
+    fn open(&mut self, alloc: Global, keep: bool) -> Option<Opened> {
+        match open(alloc, keep) {
+            Ok(opened) => Some(opened),
+            Err(_) => {
+                self.refused = self.refused.saturating_add(1);
+                open(alloc, keep).ok()
+            }
+        }
+    }
+
+    /// Shows a table and its seats, and once more where there is no memory for it.
+    fn show(&mut self, alloc: Global, opened: Opened) -> Outcome {
+        let (table, seats) = opened;
+        match show(alloc, table, seats, &[]) {
+            Outcome::Unsettled(Fault::Memory, (table, seats)) => {
+                self.refused = self.refused.saturating_add(1);
+                show(alloc, table, seats, &[])
+            }
+            outcome => outcome,
+        }
+    }
+
+    /// Counts what was settled.
+    fn settle(&mut self, outcome: &Outcome) {
+        if let Outcome::Settled(settled) = outcome {
+            for count in settled.counts.iter() {
+                self.calls = self.calls.saturating_add(*count);
+            }
+            for tickets in settled.tickets.iter() {
+                self.references = self
+                    .references
+                    .saturating_add(tickets.as_slice().len() as u64);
+            }
+        }
+    }
+}
+
+/// Makes each call of a table once, and settles it.
+fn lead(rt: &impl Wait, alloc: Global, keep: bool, tally: &mut Tally) -> bool {
+    let Some((table, mut seats)) = tally.open(alloc, keep) else {
+        return false;
+    };
+    let mut held = Held {
+        shard: 0,
+        ticket: Ticket { number: 0, slot: 0 },
+    };
+    let [seat, ..] = seats.as_mut_slice() else {
+        return false;
+    };
+    for call in CALLS {
+        tally.make(rt, alloc, &table, seat, &mut held, call);
+    }
+    let Outcome::Unsettled(fault, (table, mut seats)) = tally.show(alloc, (table, seats)) else {
+        return false;
+    };
+    let [seat, ..] = seats.as_mut_slice() else {
+        return false;
+    };
+    tally.make(rt, alloc, &table, seat, &mut held, Call::Release);
+    let outcome = tally.show(alloc, (table, seats));
+    tally.settle(&outcome);
+    fault == Fault::MissingRefs(0)
+}
+
+fn main(rt: HostRuntime) -> io::Result<()> {
+    for keep in [false, true] {
+        let mut tally = Tally {
+            refused: 0,
+            wanted: 0,
+            listed: 0,
+            calls: 0,
+            references: 0,
+        };
+        let missed = lead(&rt, rt.alloc(), keep, &mut tally);
+        let Tally {
+            refused,
+            wanted,
+            listed,
+            calls,
+            references,
+        } = tally;
+        let calls = calls.saturating_sub(listed);
+        println!(rt;
+            "{refused} refused, {wanted} of 10 as wanted, missing {missed}, settled {calls} calls, {references} references"
+        )?;
+    }
+    Ok(())
+}
