@@ -6,7 +6,8 @@ use Rattle.std.proofs.lemmas.Bool.Decides.{nat_tests}
 use Rattle.rule_model.specs.declared.faults.Fault.{Fault}
 use Rattle.rule_model.specs.declared.faults.Fault.TheVariants.{BadNumber, UnknownType}
 use Rattle.stored_data.specs.Stored.{IsPeriod}
-use Rattle.config_words.specs.Numbers.{within, time_of, inside, rounded_up, times, digits_of, suffix_of, time_unit}
+use Rattle.line_text.specs.Parentheses.{inside}
+use Rattle.config_words.specs.Numbers.{within, time_of, rounded_up, times, digits_of, suffix_of, time_unit}
 use Rattle.rule_model.specs.Reading.{◌>>=◌, demand}
 use Rattle.config_words.specs.Table.{found, period_of}
 use Rattle.line_text.specs.Words.{is_some_text}

@@ -1,4 +1,4 @@
--- Numbers, sizes and times, and what stands in parentheses.
+-- Numbers, sizes and times.
 use Rattle.std.specs.Prelude.{ℕ, ◌+◌, ◌-◌, ◌*◌, ◌/◌, ◌^◌, ◌&&◌, ◌||◌, ◌==◌, List, [], take, drop, length, codes, nat_le, slice_index, slice_range, Option, Some, None, Result, Ok, Err, if◌then◌else◌}
 use Rattle.std.specs.Option.{option_map}
 use Rattle.std.specs.List.{prefix_len}
@@ -63,18 +63,3 @@ rounded_up microseconds = (microseconds + 999) / 1000
 -- a time in ms: decimal, with an optional unit, from 1 to 2^31 - 1
 unfoldable pub time_of : List ℕ → Result ℕ Fault
 time_of text = within 1 (2 ^ 31 - 1) BadNumber (option_map rounded_up (times (number_of (digits_of text)) (time_unit (suffix_of text))))
-
--- what stands before a parenthesis
-abbrev pub before_parenthesis : List ℕ → List ℕ
-before_parenthesis text = first_part (is_byte 40) text
-
--- from that parenthesis on
-abbrev pub from_parenthesis : List ℕ → List ℕ
-from_parenthesis text = drop (length (before_parenthesis text)) text
-
--- what stands between parentheses round a whole text
-abbrev pub inside : List ℕ → Option (List ℕ)
-inside text =
-    if nat_le 2 (length text) && (slice_index text 0 == 40) && (slice_index text (length text - 1) == 41)
-    then Some (slice_range text 1 (length text - 1))
-    else None

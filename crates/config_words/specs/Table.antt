@@ -13,7 +13,8 @@ use Rattle.rule_model.specs.declared.faults.Fault.{Fault}
 use Rattle.rule_model.specs.declared.faults.Fault.TheVariants.{UnknownKeyword, BadSize, UnknownType}
 use Rattle.rule_model.specs.declared.sections.TableSpec.{TableSpec}
 use Rattle.rule_model.specs.Reading.{◌>>=◌, demand}
-use Rattle.config_words.specs.Numbers.{bounded_number, size_of, time_of, before_parenthesis, from_parenthesis, inside}
+use Rattle.line_text.specs.Parentheses.{before_parenthesis, from_parenthesis, inside}
+use Rattle.config_words.specs.Numbers.{bounded_number, size_of, time_of}
 use Rattle.config_words.specs.declared.table.Settings.{Settings}
 
 -- what has to be there, or a fault

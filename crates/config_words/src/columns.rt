@@ -6,8 +6,8 @@ ghost use Rattle.rule_model.specs.Reading.{Leaves};
 ghost use Rattle.stored_data.specs.Data.{is_rate};
 ghost use Rattle.config_words.specs.Table.{period_of, with_item, with_items};
 
-use crate::numbers::{before_parenthesis, inside, read_time};
-use line_text::Parts;
+use crate::numbers::read_time;
+use line_text::{Parts, before_parenthesis, inside};
 use rule_model::{Fault, ReadError};
 use stored_data::{Column, Datum, StoredSet, read_datum};
 

@@ -1,12 +1,11 @@
-//! Numbers, sizes, times, and what stands in parentheses.
+//! Numbers, sizes and times.
 
-ghost use Rattle.std.specs.Prelude.{◌≡◌, ◌≤◌, length, MatchOption, None, Some};
+ghost use Rattle.std.specs.Prelude.{◌≡◌, ◌≤◌, length};
 ghost use Rattle.std.specs.Char.{is_ascii_digit};
 ghost use Rattle.std.specs.List.{prefix_len};
 ghost use Rattle.config_words.specs.Numbers as spec;
 ghost use Rattle.config_words.specs.Numbers.{bounded_number, digits_of, size_of, suffix_of, time_of};
 
-use crate::lines::before;
 use line_text::read_number;
 use rule_model::Fault;
 
@@ -109,25 +108,4 @@ pub(crate) fn read_time(text: &[u8]) -> Result<u32, Fault>
         return Err(Fault::BadNumber);
     }
     Ok(time as u32)
-}
-
-/// What stands before the first parenthesis, and the rest.
-pub fn before_parenthesis(text: &[u8]) -> (&[u8], &[u8])
-    ensures prefix { result.0.now ≡ spec.before_parenthesis text.now }
-    ensures rest { result.1.now ≡ spec.from_parenthesis text.now }
-{
-    let prefix = before(text, b'(');
-    let (_, rest) = text.split_at(prefix.len());
-    (prefix, rest)
-}
-
-/// What stands between the parentheses round a text, where it begins and ends with them.
-pub fn inside(text: &[u8]) -> Option<&[u8]>
-    ensures { MatchOption result (spec.inside text.now ≡ None) (λ inner. spec.inside text.now ≡ Some inner.now) }
-{
-    if text.len() >= 2 && text[0] == b'(' && text[text.len() - 1] == b')' {
-        Some(&text[1..text.len() - 1])
-    } else {
-        None
-    }
 }

@@ -1,5 +1,7 @@
 //! What a connection asks of a shard.
 
+ghost use Rattle.std.specs.Prelude.{◌≡◌};
+
 use stick_table::Event;
 
 /// What a connection asks: an event of one shard of one table.
@@ -9,4 +11,19 @@ pub struct Call {
     pub table: u32,
     pub shard: u32,
     pub event: Event,
+}
+
+impl Call {
+    /// An event of a shard of a table.
+    pub(crate) fn of_shard(table: u32, shard: u32, event: Event) -> Self
+        ensures table { result.table ≡ table }
+        ensures shard { result.shard ≡ shard }
+        ensures event { result.event ≡ event }
+    {
+        Self {
+            table,
+            shard,
+            event,
+        }
+    }
 }

@@ -35,44 +35,31 @@ fn call_of(conn: &Conn<'_, Reference>, need: Need, shards: u32, moment: u64) -> 
     match need {
         Need::Get { table, key } => {
             let shard = shard_of(&key, shards);
-            let event = Event::Get(moment, key);
-            Some(Call {
-                table,
-                shard,
-                event,
-            })
+            Some(Call::of_shard(table, shard, Event::Get(moment, key)))
         }
         Need::Track { table, key, .. } => {
             let shard = shard_of(&key, shards);
-            let event = Event::Track(moment, key);
-            Some(Call {
-                table,
-                shard,
-                event,
-            })
+            Some(Call::of_shard(table, shard, Event::Track(moment, key)))
         }
         Need::Look { slot } => match conn.held(slot) {
-            Some((table, reference)) => Some(Call {
-                table,
-                shard: reference.shard,
-                event: Event::Look(moment, reference.ticket),
-            }),
+            Some((table, held)) => {
+                let event = Event::Look(moment, held.ticket);
+                Some(Call::of_shard(table, held.shard, event))
+            }
             None => None,
         },
         Need::Count { slot, act } => match conn.held(slot) {
-            Some((table, reference)) => Some(Call {
-                table,
-                shard: reference.shard,
-                event: Event::Count(moment, reference.ticket, act),
-            }),
+            Some((table, held)) => {
+                let event = Event::Count(moment, held.ticket, act);
+                Some(Call::of_shard(table, held.shard, event))
+            }
             None => None,
         },
         Need::Release { slot } => match conn.held(slot) {
-            Some((table, reference)) => Some(Call {
-                table,
-                shard: reference.shard,
-                event: Event::Release(moment, reference.ticket),
-            }),
+            Some((table, held)) => {
+                let event = Event::Release(moment, held.ticket);
+                Some(Call::of_shard(table, held.shard, event))
+            }
             None => None,
         },
         Need::Rest | Need::Turn | Need::Finished => None,

@@ -16,7 +16,8 @@ use Rattle.rule_model.specs.declared.rules.Rule.{Rule as ARule}
 use Rattle.rule_model.specs.declared.sections.SectionKind.{SectionKind}
 use Rattle.config_words.specs.Lines.{first_word, is_plain, other_words, words_of}
 use Rattle.config_words.specs.Names.{is_name}
-use Rattle.config_words.specs.Numbers.{before_parenthesis, bounded_number}
+use Rattle.line_text.specs.Parentheses.{before_parenthesis}
+use Rattle.config_words.specs.Numbers.{bounded_number}
 use Rattle.config_words.specs.Table.{found, once, table_of}
 use Rattle.config_words.proofs.TableLemmas.{ok_bind, ok_if}
 use Rattle.rule_terms.specs.Conditions.{condition_of, criterion_of}

@@ -1,8 +1,8 @@
 //! Lines, words and decimal numbers of bytes, for every reader of text; and work that is done one item at a time.
 //!
 //! Contracts cite the definitions in `specs`: `Parts` (the parts of bytes round those that part them), `Words`,
-//! `Line` (a line that is not too long), `Number`, and `Chain` (items done one after another, their texts joined;
-//! how far such work is done; where it stops within an item).
+//! `Parentheses`, `Line` (a line that is not too long), `Number`, and `Chain` (items done one after another, their texts
+//! joined; how far such work is done; where it stops within an item).
 //!
 //! A crate above cites the lemmas on them by their files in `proofs`: `PartLemmas` (parts of a text that grows),
 //! `WordLemmas`, `LineLemmas`, `NumberLemmas` and `ChainLemmas`, as in
@@ -12,10 +12,12 @@
 pub mod laws;
 mod line;
 mod number;
+mod parentheses;
 mod parts;
 mod words;
 
 pub use line::{LINE_LIMIT, LineSoFar, without_cr};
 pub use number::{push_decimal, read_number};
+pub use parentheses::{before_parenthesis, has_closing, inside};
 pub use parts::Parts;
 pub use words::{Blanks, Words};

@@ -1,9 +1,8 @@
 -- What a rule does, and when: the words behind `tcp-request connection`.
 use Rattle.std.specs.Prelude.{◌≡◌, ℕ, ◌-◌, ◌^◌, ◌==◌, ◌&&◌, not, Bool, true, false, Option, Some, None, Result, Ok, Err, List, [], ◌∷◌, codes, if◌then◌else◌}
-use Rattle.std.specs.List.{list_any}
 use Rattle.std.specs.Borrow.{Bor}
 use Rattle.std.specs.Str.{bytes_eq}
-use Rattle.line_text.specs.Parts.{is_byte}
+use Rattle.line_text.specs.Parentheses.{before_parenthesis, from_parenthesis, has_closing, inside}
 use Rattle.line_text.specs.Words.{is_some_text}
 use Rattle.stored_data.specs.declared.act.Act.TheVariants.{IncGpc0, IncGpc1, SetGpt0}
 use Rattle.rule_model.specs.Reading.{◌>>=◌, demand, Fails}
@@ -19,7 +18,7 @@ use Rattle.rule_model.specs.declared.faults.Fault.{Fault}
 use Rattle.rule_model.specs.declared.faults.Fault.TheVariants.{UnknownKeyword}
 use Rattle.rule_model.specs.declared.faults.ReadError.{ReadError}
 use Rattle.config_words.specs.Lines.{first_word, other_words}
-use Rattle.config_words.specs.Numbers.{bounded_number, before_parenthesis, from_parenthesis, inside}
+use Rattle.config_words.specs.Numbers.{bounded_number}
 use Rattle.config_words.specs.Table.{found}
 use Rattle.rule_terms.specs.Conditions.{condition_of}
 
@@ -31,7 +30,7 @@ argument word = found (inside (from_parenthesis word)) UnknownKeyword
 
 -- some text without a closing parenthesis
 abbrev pub is_key_text : List ℕ → Bool
-is_key_text text = is_some_text text && not (list_any (is_byte 41) text)
+is_key_text text = is_some_text text && not (has_closing text)
 
 -- src, src_port, dst_port, int(V) or str(TEXT)
 unfoldable pub key_of : List ℕ → Result KeyExpression Fault

@@ -1,26 +1,18 @@
 //! What a rule does, and when.
 
 ghost use Rattle.std.specs.Prelude.{◌≡◌, ◌∷◌};
-ghost use Rattle.std.specs.List.{list_any};
-ghost use Rattle.line_text.specs.Parts.{is_byte};
 ghost use Rattle.line_text.specs.Words.{words_left};
 ghost use Rattle.rule_model.specs.Reading.{Gives};
 ghost use Rattle.rule_config.specs.Actions as spec;
 ghost use Rattle.rule_config.specs.Actions.{GivesBefore, action_of, count_of, key_of, rule_of, rule_with, slot_of, table_named, track_of, with_next};
 
-use config_words::{before_parenthesis, inside, next_or_empty, read_bounded};
-use line_text::Words;
+use config_words::{next_or_empty, read_bounded};
+use line_text::{Words, before_parenthesis, has_closing, inside};
 use rule_model::{Acl, Action, Fault, KeyExpression, Name, ReadError, Rule, Slot};
 use rule_terms::read_condition;
 use sequence::Sequence;
 use std::alloc::Global;
 use stored_data::Act;
-
-fn has_closing(text: &[u8]) -> bool
-    ensures { result ≡ list_any (is_byte 41) text.now }
-{
-    text.iter().any(|byte| *byte == b')')
-}
 
 /// Whether a text can stand in `str(..)`.
 fn is_key_text(text: &[u8]) -> bool

@@ -1,10 +1,9 @@
 -- What the first word of a criterion asks.
 use Rattle.std.specs.Prelude.{ℕ, ◌-◌, ◌&&◌, not, true, false, Option, Some, None, option_map, option_and_then, List, [], ◌∷◌, length, take, drop, codes, if◌then◌else◌}
 use Rattle.std.specs.Option.{option_or}
-use Rattle.std.specs.List.{list_any}
 use Rattle.std.specs.Str.{bytes_eq}
-use Rattle.line_text.specs.Parts.{first_part, is_byte}
-use Rattle.line_text.specs.Words.{from_blank, is_some_text}
+use Rattle.line_text.specs.Parentheses.{before_parenthesis, from_parenthesis, has_closing}
+use Rattle.line_text.specs.Words.{is_some_text}
 use Rattle.stored_data.specs.declared.act.Act.TheVariants.{IncGpc0, IncGpc1, ClrGpc0, ClrGpc1}
 use Rattle.stored_data.specs.declared.datum.Datum.TheVariants.{Gpt0, Gpc0, Gpc0Rate, ConnCnt, ConnRate, ConnCur, SessCnt, SessRate, BytesInCnt, BytesInRate, BytesOutCnt, BytesOutRate, Gpc1, Gpc1Rate}
 use Rattle.rule_model.specs.declared.actions.Slot.{Slot}
@@ -90,7 +89,7 @@ of_slot slot text = option_and_then (slot_subject slot) (on_slot slot text)
 -- T of (T): some text without a closing parenthesis
 unfoldable pub table_in : List ℕ → Option (List ℕ)
 table_in text =
-    option_and_then (λ table. if is_some_text table && not (list_any (is_byte 41) table) then Some table else None)
+    option_and_then (λ table. if is_some_text table && not (has_closing table) then Some table else None)
     (option_and_then (before (codes ")")) (behind (codes "(") text))
 
 -- the own section's table, or that of (T)
@@ -101,8 +100,8 @@ table_of own (b ∷ bs) = table_in (b ∷ bs)
 -- X, or X(T)
 unfoldable pub source_subject : List ℕ → List ℕ → Option Subject
 source_subject own text =
-    option_and_then (λ fetch. option_map (λ table. Integer (measures.Source table fetch)) (table_of own (from_blank (is_byte 40) text)))
-    (fetch_of (first_part (is_byte 40) text))
+    option_and_then (λ fetch. option_map (λ table. Integer (measures.Source table fetch)) (table_of own (from_parenthesis text)))
+    (fetch_of (before_parenthesis text))
 
 abbrev pub of_source : List ℕ → List ℕ → Option Subject
 of_source own text = option_and_then (source_subject own) (behind (codes "src_") text)

@@ -1,14 +1,12 @@
 //! What the first word of a criterion asks.
 
 ghost use Rattle.std.specs.Prelude.{◌≡◌, map, ok_or, option_map};
-ghost use Rattle.std.specs.List.{list_any};
-ghost use Rattle.line_text.specs.Parts.{first_part, is_byte};
-ghost use Rattle.line_text.specs.Words.{from_blank};
 ghost use Rattle.rule_model.specs.Reading.{Gives};
 ghost use Rattle.rule_model.specs.declared.faults.Fault.TheVariants.{BadCondition};
 ghost use Rattle.rule_terms.specs.Names as spec;
 ghost use Rattle.rule_terms.specs.Names.{fetch_of, named};
 
+use line_text::{before_parenthesis, has_closing};
 use rule_model::{Fault, Fetch, Measure, ReadError, Slot};
 use sequence::Sequence;
 use std::alloc::Global;
@@ -176,12 +174,6 @@ fn table_in(text: &[u8]) -> Option<&[u8]>
     Some(table)
 }
 
-fn has_closing(text: &[u8]) -> bool
-    ensures { result ≡ list_any (is_byte 41) text.now }
-{
-    text.iter().any(|byte| *byte == b')')
-}
-
 /// The own section's table, or that of `(T)`.
 fn table_of<'a>(own: &'a [u8], text: &'a [u8]) -> Option<&'a [u8]>
     ensures { option_map (λ table. table.now) result ≡ spec.table_of own.now text.now }
@@ -192,25 +184,12 @@ fn table_of<'a>(own: &'a [u8], text: &'a [u8]) -> Option<&'a [u8]>
     table_in(text)
 }
 
-/// What stands before the first opening parenthesis, and from there on.
-fn at_opening(text: &[u8]) -> (&[u8], &[u8])
-    ensures name { result.0.now ≡ first_part (is_byte 40) text.now }
-    ensures rest { result.1.now ≡ from_blank (is_byte 40) text.now }
-{
-    for (place, byte) in text.iter().enumerate() {
-        if *byte == b'(' {
-            return text.split_at(place);
-        }
-    }
-    text.split_at(text.len())
-}
-
 /// What X and X(T) of `src_X` and `src_X(T)` ask, in the section of this name.
 #[tactic(auto, unfolding(crate::specs::Names::source_subject))]
 fn read_source(alloc: Global, own: &[u8], text: &[u8]) -> Result<Subject, ReadError>
     ensures { Gives result (ok_or (spec.source_subject own.now text.now) BadCondition) }
 {
-    let (name, rest) = at_opening(text);
+    let (name, rest) = before_parenthesis(text);
     let Some(fetch) = read_fetch(name) else {
         return Err(ReadError::Wrong(Fault::BadCondition));
     };

@@ -44,9 +44,9 @@ use Rattle.connection_drive.specs.declared.call.Call.{Call}
 use Rattle.connection_drive.specs.declared.reference.Reference.{Reference}
 use Rattle.connection_drive.proofs.SumLemmas.{some_same}
 use Rattle.connection_drive.proofs.TablesLemmas.{move_tables}
-use Rattle.world.proofs.HomeLemmas.{asks_home}
-use Rattle.world.proofs.PlainConnectionLemmas.{call_asked}
-use Rattle.world.proofs.PlainLemmas.{is_asked}
+use Rattle.move_laws.proofs.HomeLemmas.{asks_home}
+use Rattle.move_laws.proofs.PlainConnectionLemmas.{call_asked}
+use Rattle.move_laws.proofs.PlainLemmas.{is_asked}
 use Rattle.line_text.specs.Line.{held}
 use Rattle.line_text.specs.Parts.{is_line_end, parts}
 use Rattle.line_service.specs.Service.{Serves as ServesLine}

@@ -16,9 +16,9 @@ use Rattle.connection_drive.specs.Tables.{TableState, shard_of}
 use Rattle.connection_drive.specs.declared.call.Call.{Call}
 use Rattle.connection_drive.specs.declared.reference.Reference.{Reference}
 use Rattle.connection_drive.proofs.SumLemmas.{some_same}
-use Rattle.world.proofs.OneWorldLemmas.{SameView, view}
-use Rattle.world.proofs.PlainLemmas.{plain}
-use Rattle.world.specs.Alike.{GoesUnrefused}
+use Rattle.move_laws.proofs.OneMoveLemmas.{SameView, view}
+use Rattle.move_laws.proofs.PlainLemmas.{plain}
+use Rattle.move_laws.specs.Unrefused.{GoesUnrefused}
 use Rattle.script.proofs.TurnLemmas.{plain_book, plains}
 
 -- what a connection leaves of a table

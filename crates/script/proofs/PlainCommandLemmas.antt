@@ -17,7 +17,7 @@ use Rattle.table_model.specs.declared.replies.Reply.TheVariants as replies
 use Rattle.table_model.specs.declared.rows.Cell.{Cell}
 use Rattle.table_model.specs.declared.rows.Record.{Record}
 use Rattle.table_model.specs.declared.rows.Ticket.{Ticket}
-use Rattle.world.proofs.PlainLemmas.{begun_plain, plain, plain_tickets, refs_plain, stored_plain}
+use Rattle.move_laws.proofs.PlainLemmas.{begun_plain, plain, plain_tickets, refs_plain, stored_plain}
 
 -- the reply, and the state without slots
 abbrev pub seen : Outcome → Outcome

@@ -11,7 +11,7 @@ use Rattle.shard_book.specs.BooksState.{BooksState, ExtendsAt}
 use Rattle.table_cli.specs.Shards.{AsksInTurn}
 use Rattle.joined_replies.specs.Total.{IsShown}
 use Rattle.connection_drive.proofs.SumLemmas.{some_same}
-use Rattle.world.proofs.PlainLemmas.{plain}
+use Rattle.move_laws.proofs.PlainLemmas.{plain}
 use Rattle.script.specs.Script.{answering, refusing}
 use Rattle.script.proofs.ApartLemmas.{Strict}
 use Rattle.script.proofs.OrderLemmas.{one_order}

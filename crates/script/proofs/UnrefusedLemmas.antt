@@ -19,10 +19,10 @@ use Rattle.admit_core.specs.declared.conn.Conn.{Conn}
 use Rattle.admit_core.specs.declared.need.Phase.{Phase}
 use Rattle.admit_core.specs.declared.need.Phase.TheVariants.{New, Judging, Admitted, Rejected, Ended}
 use Rattle.connection_drive.specs.declared.reference.Reference.{Reference}
-use Rattle.world.proofs.BehindLemmas.{as_told, need_told}
-use Rattle.world.proofs.OneWorldLemmas.{IsOne, SameView, view}
-use Rattle.world.proofs.PlainConnectionLemmas.{plain_connection, plain_progress}
-use Rattle.world.proofs.RestOnceLemmas.{Course, course_once, course_told, goes_plain, rests_so, still_plain}
+use Rattle.move_laws.proofs.BehindLemmas.{as_told, need_told}
+use Rattle.move_laws.proofs.OneMoveLemmas.{IsOne, SameView, view}
+use Rattle.move_laws.proofs.PlainConnectionLemmas.{plain_connection, plain_progress}
+use Rattle.move_laws.proofs.RestOnceLemmas.{Course, course_once, course_told, goes_plain, rests_so, still_plain}
 use Rattle.script.specs.Guests.{Guest, IsOpen, IsServed, ScriptState, guest_of, progress_in, without}
 use Rattle.script.specs.Script.{Commanded, Line, Empty, Bad, Commands, Open, Close, Closes, ClosesAt, LineSays, OpensAt, OpensFrom, admitted, bad_line, line_of, open_text, samples_of}
 use Rattle.script.specs.Start.{start}

@@ -25,7 +25,7 @@ use Rattle.rule_eval.specs.declared.wants.Samples.{Samples}
 use Rattle.admit_core.specs.Conn.{Stands}
 use Rattle.admit_core.specs.Connection.{Connection, arrived, closed}
 use Rattle.admit_core.specs.declared.conn.Conn.{Conn}
-use Rattle.world.specs.Alike.{ComesToRestUnrefused}
+use Rattle.move_laws.specs.Unrefused.{ComesToRestUnrefused}
 use Rattle.connection_drive.specs.Tables.{CanOpen, TableState}
 use Rattle.connection_drive.specs.declared.reference.Reference.{Reference}
 use Rattle.script.specs.Guests.{MayBe, ScriptState, guest_of, without}

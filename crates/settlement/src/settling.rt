@@ -1,6 +1,6 @@
 //! Settling takes the books out of their locks.
 
-ghost use Rattle.std.specs.Prelude.{◌≡◌, IfOk, IfErr};
+ghost use Rattle.std.specs.Prelude.{◌≡◌, length, IfOk, IfErr};
 ghost use Rattle.shard_locks.specs.ShardsState.{parts_of};
 ghost use Rattle.settlement.specs.Settled.{AreSettled, counts_in, tickets_in};
 ghost use Rattle.settlement.specs.Faults.{IsFault};
@@ -8,7 +8,7 @@ ghost use Rattle.settlement.specs.Faults.{IsFault};
 use crate::{Fault, Found, check};
 use sequence::Sequence;
 use shard_book::Book;
-use shard_locks::Shards;
+use shard_locks::{Shards, Unlocked};
 use shard_seats::{Seat, TrackRef};
 use std::alloc::Global;
 use std::snapshot::Snapshot;
@@ -65,15 +65,17 @@ pub fn settle<T: Table>(
             });
         }
     };
-    let checked = check(
+    let specs = unlocked.specs();
+    let books = unlocked.books().as_slice();
+    let keeps = unlocked.keeps();
+    match check(
         alloc,
-        unlocked.specs(),
-        unlocked.keeps(),
-        unlocked.books().as_slice(),
+        specs,
+        keeps,
+        books,
         seats.as_slice(),
         refs.as_slice(),
-    );
-    match checked {
+    ) {
         Ok(Found { counts, tickets }) => {
             give_up(refs);
             Ok(Settled {
@@ -82,16 +84,30 @@ pub fn settle<T: Table>(
                 tickets,
             })
         }
-        Err(fault) => {
-            let found = Snapshot::of(unlocked.books());
-            Err(Unsettled {
-                fault,
-                found,
-                shards: Shards::from_books(unlocked),
-                seats,
-                refs,
-            })
-        }
+        Err(fault) => Err(handed_back(unlocked, fault, seats, refs)),
+    }
+}
+
+/// All that was shown, with the books under their locks again, and what is wrong with them.
+fn handed_back<T: Table>(
+    unlocked: Unlocked<T>,
+    fault: Fault,
+    seats: Vec<Seat>,
+    refs: Vec<TrackRef>,
+) -> Unsettled<T>
+    ensures fault { result.fault ≡ fault }
+    ensures found { result.found.value.items ≡ unlocked.books }
+    ensures shards { result.shards ≡ record { spec = unlocked.spec; shards = length unlocked.books; keep = unlocked.keep } }
+    ensures seats { result.seats.items ≡ seats.items }
+    ensures refs { result.refs.items ≡ refs.items }
+{
+    let found = Snapshot::of(unlocked.books());
+    Unsettled {
+        fault,
+        found,
+        shards: Shards::from_books(unlocked),
+        seats,
+        refs,
     }
 }
 

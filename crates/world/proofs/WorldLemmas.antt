@@ -8,13 +8,12 @@ use Rattle.admit_core.specs.declared.need.Need.{Need}
 use Rattle.admit_core.specs.declared.need.Need.TheVariants as needs
 use Rattle.connection_drive.specs.Balance.{IsCovered, times_by, times_out}
 use Rattle.world.specs.Balance.{times_held}
-use Rattle.world.specs.Limit.{ReferencesLaw}
 use Rattle.connection_drive.specs.Lived.{IsLived}
 use Rattle.connection_drive.specs.Tables.{AreTablesOf, CanOpen}
 use Rattle.world.specs.World.{Element, Elements, IsSchedule, WorldState, begun, unless_resting, woken}
 use Rattle.connection_drive.specs.declared.reference.Reference.{Reference}
 use Rattle.world.specs.declared.visit.Visit.{Visit}
-use Rattle.connection_drive.proofs.StartLemmas.{from_map, nothing_out, once_out, opened_tables}
+use Rattle.connection_drive.proofs.StartLemmas.{from_map, nothing_out, opened_tables}
 use Rattle.connection_drive.proofs.SumLemmas.{sum_at, sum_set}
 use Rattle.connection_drive.proofs.TablesLemmas.{get_after_set}
 use Rattle.connection_drive.proofs.KeepingLemmas.{IsKept, move_kept}
@@ -112,10 +111,3 @@ begun_world setup visits opens = record {
       let from = from_map (λ (visit : Visit). arrived {R = Reference} setup visit.samples) visits i connection at in
       (subst IsLived (sym from.2) (arrived_lived setup from.0.samples), ap (λ (c : Connection Reference). c.setup) from.2);
 }
-
--- ---- the law
-
-pub references_law : ReferencesLaw
-references_law setup visits schedule world count opens is goes =
-    let stands = elements_world setup visits (begun setup visits) schedule world count is goes (begun_world setup visits opens) in
-    record { balance = stands.balance; once = λ reference. once_out setup world.tables reference stands.tables }

@@ -1,7 +1,7 @@
-//! Connections that share the tables of a setup, and go on in any order; and the laws of whatever comes of them.
+//! Connections that share the tables of a setup, and go on in any order. What holds of all that comes of it, `world_laws`
+//! says.
 #![tactic(auto)]
 
-pub mod laws;
 mod visit;
 mod visitor;
 mod world;

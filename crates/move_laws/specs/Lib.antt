@@ -1,0 +1,2 @@
+pub mod Unrefused
+pub mod Laws

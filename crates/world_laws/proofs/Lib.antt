@@ -1,0 +1,17 @@
+pub mod RecordLemmas
+pub mod ReferenceLemmas
+pub mod PassedLemmas
+pub mod LimitLemmas
+pub mod AdmittedLemmas
+pub mod StayLemmas
+pub mod ShardLemmas
+pub mod StartLemmas
+pub mod GrownLemmas
+pub mod HeardLemmas
+pub mod GoneLemmas
+pub mod LimitedLemmas
+pub mod JoinLemmas
+pub mod WorldHomeLemmas
+pub mod ShownLemmas
+pub mod RowLemmas
+pub mod OneWorldLemmas

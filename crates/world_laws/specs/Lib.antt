@@ -1,0 +1,4 @@
+pub mod Limit
+pub mod Shown
+pub mod Schedules
+pub mod Alike
