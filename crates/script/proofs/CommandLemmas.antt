@@ -26,6 +26,7 @@ use Rattle.connection_drive.specs.Tables.{TableState, shard_of}
 use Rattle.connection_drive.specs.declared.reference.Reference.{Reference}
 use Rattle.connection_drive.proofs.TicketLemmas.{times}
 use Rattle.script.specs.Script.{answering, refusing, standing}
+use Rattle.script.proofs.RollLemmas.{map_rolled, part_rolled}
 use Rattle.script.proofs.EventLemmas.{LeavesReferences, asks_leaves, step_keeps}
 
 -- ---- what stays
@@ -39,6 +40,9 @@ kept_of state = (state.spec, map tickets_in state.books)
 
 abbrev pub kept_in : TableState → Spec × List (List (Ticket × Key))
 kept_in table = kept_of table.state
+
+pub roll_keeps : (count : ℕ) (table : TableState) → kept_in (part_rolled count table) ≡ kept_in table
+roll_keeps count table = ap (λ tickets. (table.state.spec, tickets)) (map_rolled tickets_in (λ book. refl) count table.state.books)
 
 -- ---- one event of one shard, and of several in turn
 

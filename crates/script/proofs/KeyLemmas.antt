@@ -20,7 +20,7 @@ use Rattle.table_model.specs.declared.rows.Ticket.{Ticket}
 use Rattle.table_model.proofs.EntryLemmas.{lookup-filter-cases}
 use Rattle.table_model.proofs.FateLemmas.{Fate, gone as lost, made as changed, same as unchanged, step_fate}
 use Rattle.table_model.proofs.LegalLemmas.{IsOrderly, orderly-from_legal}
-use Rattle.shard_book.specs.BookState.{BookState, opened}
+use Rattle.shard_book.specs.BookState.{BookState, opened, rolled}
 use Rattle.shard_book.specs.BooksState.{AreBooks, BooksState, ExtendsAt}
 use Rattle.table_cli.specs.Shards.{AsksInTurn, shards_of}
 use Rattle.command_text.specs.declared.message.Message.{Message}
@@ -58,8 +58,10 @@ use Rattle.shard_book.specs.Keeping.{part_of}
 use Rattle.script.specs.Guests.{IsServed, ScriptState, guest_of}
 use Rattle.script.specs.Laws.{KeysLaw}
 use Rattle.script.specs.Start.{start}
-use Rattle.script.proofs.ServedLemmas.{line_served, start_served}
-use Rattle.script.proofs.TimeLemmas.{line_in_time}
+use Rattle.script.proofs.ServedLemmas.{says_served, start_served}
+use Rattle.script.proofs.RollLemmas.{all_kept, part_rolled}
+use Rattle.script.specs.Rolling.{RecordsRoll}
+use Rattle.shard_book.proofs.RollLemmas.{Was, rolled_first-at}
 use Rattle.script.proofs.AskLemmas.{asks_commanded}
 use Rattle.script.proofs.PlainCommandLemmas.{is_commanded}
 use Rattle.script.specs.Script.{Bad, Close, ClosesAt, Commands, Empty, Line, LineSays, Open, OpensAt, OpensFrom, Says, answering, at_moment, line_of, refusing, samples_of, standing}
@@ -329,11 +331,29 @@ line_lies shards (Commands moment commands) old text new says are all =
 line_lies shards (Open moment id address port) old text new says are all = opens_lie shards (address_of address) (guest_of id old.guests) moment id port old text new refl says are all
 line_lies shards (Close moment id bytes_in bytes_out) old text new says are all = closes_lie shards (guest_of id old.guests) moment id bytes_in bytes_out old text new says are all
 
+roll_lies : (shards count : ℕ) (table : TableState) → TableLies shards table → TableLies shards (part_rolled count table)
+roll_lies shards count table lies = (lies.0, λ part book at. here part book (rolled_first-at count table.state.books part book at))
+  where
+    here : (part : ℕ) (book : BookState) → Was table.state.books part book → Lies shards part book.live
+    here part book was = by was.is
+      where
+        before : Lies shards part was.before.live
+        before = lies.1 part was.before was.at
+
+        by : (book ≡ rolled was.before) ⊎ (book ≡ was.before) → Lies shards part book.live
+        by (inl is) = subst (λ (b : BookState). Lies shards part b.live) (sym is) before
+        by (inr is) = subst (λ (b : BookState). Lies shards part b.live) (sym is) before
+
+pub rolls_lie : (shards : ℕ) (said new : ScriptState) → RecordsRoll said new → AllLie shards said → AllLie shards new
+rolls_lie shards said new rolls all = (ap (λ (s : ScriptState). s.setup.shards) rolls.others ∙ all.0, all_kept (roll_lies shards) said.tables new.tables rolls.tables all.1)
+
+pub says_lies : (shards : ℕ) (line : Option (List ℕ)) (old : ScriptState) (text : List ℕ) (new : ScriptState) → Says old line text new → IsServed old → AllLie shards old → AllLie shards new
+says_lies shards line old text new says are all = rolls_lie shards says.0 new says.2 (line_lies shards (line_of line) old text says.0 says.1 are all)
+
 lines_lie : (shards : ℕ) (old : ScriptState) (lines : List (List ℕ)) (text : List ℕ) (new : ScriptState) → IsServed old → AllLie shards old → Chain (ServesLine Says) old lines text new → AllLie shards new
 lines_lie shards old [] text new are all chain = as_before shards old new chain.1 all
 lines_lie shards old (line ∷ lines) text new are all chain =
-    lines_lie shards chain.1 lines chain.2 new (line_served (line_of (held line)) old chain.0 chain.1 (line_in_time (held line)) chain.3 are)
-    (line_lies shards (line_of (held line)) old chain.0 chain.1 chain.3 are all) chain.4
+    lines_lie shards chain.1 lines chain.2 new (says_served (held line) old chain.0 chain.1 chain.3 are) (says_lies shards (held line) old chain.0 chain.1 chain.3 are all) chain.4
 
 -- ---- the start
 

@@ -1,5 +1,6 @@
 pub mod TextLemmas
 pub mod EventLemmas
+pub mod RollLemmas
 pub mod CommandLemmas
 pub mod CommandBooks
 pub mod ClockLemmas

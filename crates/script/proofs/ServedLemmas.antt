@@ -34,7 +34,9 @@ use Rattle.script.specs.Laws.{ReferencesLaw}
 use Rattle.script.specs.Script.{Line, Empty, Bad, Commands, Open, Close, ClosesAt, IsJudged, LineSays, OpensAt, OpensFrom, Says, admitted, at_moment, line_of, samples_of}
 use Rattle.script.specs.Start.{start}
 use Rattle.script.proofs.CommandBooks.{HasBooks, commands_leave_books}
-use Rattle.script.proofs.CommandLemmas.{commands_keep, kept_in, out_kept}
+use Rattle.script.proofs.CommandLemmas.{commands_keep, kept_in, out_kept, roll_keeps}
+use Rattle.script.proofs.RollLemmas.{all_kept, books_kept, map_kept}
+use Rattle.script.specs.Rolling.{RecordsRoll}
 use Rattle.script.proofs.GuestLemmas.{all_at, all_with, all_without, distinct_with, distinct_without, sum_with, sum_without}
 use Rattle.script.proofs.EndedLemmas.{EndsEmpty, ended_holds, goes_empty}
 use Rattle.script.proofs.ProgressLemmas.{IsAtRest, goes_bytes, still_rests}
@@ -245,10 +247,28 @@ line_served (Commands moment commands) old text new timely says are = commands_s
 line_served (Open moment id address port) old text new timely says are = opens_from-served (address_of address) moment id port old text new timely says are
 line_served (Close moment id bytes_in bytes_out) old text new timely says are = closes_served (guest_of id old.guests) moment id bytes_in bytes_out old text new timely refl says are
 
+-- what stands behind what a line says, stands behind the rolls too
+pub rolls_served : (said new : ScriptState) → RecordsRoll said new → IsServed said → IsServed new
+rolls_served said new rolls are =
+    let same : map kept_in new.tables ≡ map kept_in said.tables = map_kept kept_in roll_keeps said.tables new.tables rolls.tables in
+    let books : AllByRecursion HasBooks new.tables = all_kept books_kept said.tables new.tables rolls.tables (tables_books said.setup said.tables are.tables) in
+    let now : ScriptState = record said { tables = new.tables } in
+    let served : IsServed now = record {
+      tables = tables_kept said.setup said.tables new.tables same books are.tables;
+      balance = λ reference. are.balance reference ∙ sym (out_kept reference said.tables new.tables same);
+      ids_differ = are.ids_differ;
+      open_all = are.open_all;
+      judged = are.judged;
+    } in
+    subst IsServed (sym rolls.others) served
+
+pub says_served : (line : Option (List ℕ)) (old : ScriptState) (text : List ℕ) (new : ScriptState) → Says old line text new → IsServed old → IsServed new
+says_served line old text new says are = rolls_served says.0 new says.2 (line_served (line_of line) old text says.0 (line_in_time line) says.1 are)
+
 lines_served : (old : ScriptState) (lines : List (List ℕ)) (text : List ℕ) (new : ScriptState) → IsServed old → Chain (ServesLine Says) old lines text new → IsServed new
 lines_served old [] text new are chain = same_served old new chain.1 are
 lines_served old (line ∷ lines) text new are chain =
-    lines_served chain.1 lines chain.2 new (line_served (line_of (held line)) old chain.0 chain.1 (line_in_time (held line)) chain.3 are) chain.4
+    lines_served chain.1 lines chain.2 new (says_served (held line) old chain.0 chain.1 chain.3 are) chain.4
 
 pub start_served : (setup : Setup) → CanOpen setup → IsServed (start setup)
 unfolding IsDistinct

@@ -31,11 +31,15 @@ use Rattle.stick_key.specs.KeyText.{ReadsOneKey}
 use Rattle.table_cli.specs.Answers.{commands_of}
 use Rattle.script.proofs.CommandsOnceLemmas.{commands_once}
 use Rattle.script.proofs.CommandsSoLemmas.{commands_so}
-use Rattle.script.proofs.KeyLemmas.{AllLie, empty_lie, line_lies, with_books}
+use Rattle.script.proofs.KeyLemmas.{AllLie, empty_lie, says_lies, with_books}
 use Rattle.script.proofs.LabelLemmas.{gone_labels, label, labels_by, tables_by, view_by}
 use Rattle.script.proofs.GuestLemmas.{all_at}
-use Rattle.script.proofs.ServedLemmas.{line_served, start_served}
-use Rattle.script.proofs.TimeLemmas.{line_in_time}
+use Rattle.script.proofs.RollLemmas.{map_kept, part_rolled, shards_kept}
+use Rattle.script.proofs.ServedLemmas.{says_served, start_served}
+use Rattle.script.specs.Rolling.{RecordsRoll}
+use Rattle.shard_book.proofs.RollLemmas.{length-rolled_first}
+use Rattle.connection_drive.specs.Tables.{TableState}
+use Rattle.world.proofs.PlainLemmas.{plain}
 
 -- ---- what is said so is what a line says
 
@@ -60,7 +64,7 @@ line_so (Open moment id address port) old text new says = opens_so (address_of a
 line_so (Close moment id bytes_in bytes_out) old text new says = closes_so (guest_of id old.guests) moment id bytes_in bytes_out old text new refl says
 
 pub unrefused_law : UnrefusedLaw
-unrefused_law old line text new says = line_so (line_of line) old text new says
+unrefused_law old line text new says = (says.0, line_so (line_of line) old text says.0 says.1, says.2)
 
 -- ---- two states of a script, without slots
 
@@ -225,14 +229,32 @@ line_once one_key shards (Close moment id bytes_in bytes_out) old again one othe
 -- ---- all lines
 
 served_so : (line : Option (List ℕ)) (old : ScriptState) (text : List ℕ) (new : ScriptState) → SaysUnrefused old line text new → IsServed old → IsServed new
-served_so line old text new says are = line_served (line_of line) old text new (line_in_time line) (line_so (line_of line) old text new says) are
+served_so line old text new says are = says_served line old text new (unrefused_law old line text new says) are
+
+roll_label : (count : ℕ) (table : TableState) → label (part_rolled count table) ≡ label table
+roll_label count table = ap (λ n. record { name = table.name; spec = table.spec; shards = table.shards; books = n }) (length-rolled_first count table.state.books)
+
+-- whether or not tables roll
+rolled_one : (said new : ScriptState) (again : ScriptState) → RecordsRoll said new → AreOne said again → AreOne new again
+rolled_one said new again rolls are = record {
+  setup = ap (λ (s : ScriptState). s.setup) rolls.others ∙ are.setup;
+  labels = map_kept label roll_label said.tables new.tables rolls.tables ∙ are.labels;
+  shards = λ table part. ap (option_map plain) (shards_kept said.tables new.tables rolls.tables table part) ∙ are.shards table part;
+  guests = ap (λ (s : ScriptState). map seen s.guests) rolls.others ∙ are.guests;
+}
+
+turned : (one other : ScriptState) → AreOne one other → AreOne other one
+turned one other are = record { setup = sym are.setup; labels = sym are.labels; shards = λ table part. sym (are.shards table part); guests = sym are.guests }
+
+rolled_both : (said new again later : ScriptState) → RecordsRoll said new → RecordsRoll again later → AreOne said again → AreOne new later
+rolled_both said new again later rolls also are = rolled_one said new later rolls (turned later said (rolled_one again later said also (turned said again are)))
 
 lines_once : ReadsOneKey → (shards : ℕ) (lines : List (List ℕ)) (old again : ScriptState) (one other : List ℕ) (new later : ScriptState) → AreOne old again → IsServed old → AllLie shards old → IsServed again → Chain (ServesLine SaysUnrefused) old lines one new → Chain (ServesLine SaysUnrefused) again lines other later → one ≡ other
 lines_once one_key shards [] old again one other new later are served lie too a b = a.0 ∙ sym b.0
 lines_once one_key shards (line ∷ lines) old again one other new later are served lie too a b =
-    let said = line_once one_key shards (line_of (held line)) old again a.0 b.0 a.1 b.1 are served lie too a.3 b.3 in
-    let rest : a.2 ≡ b.2 = lines_once one_key shards lines a.1 b.1 a.2 b.2 new later said.states (served_so (held line) old a.0 a.1 a.3 served)
-    (line_lies shards (line_of (held line)) old a.0 a.1 (line_so (line_of (held line)) old a.0 a.1 a.3) served lie) (served_so (held line) again b.0 b.1 b.3 too) a.4 b.4 in
+    let said = line_once one_key shards (line_of (held line)) old again a.0 b.0 a.3.0 b.3.0 are served lie too a.3.1 b.3.1 in
+    let rest : a.2 ≡ b.2 = lines_once one_key shards lines a.1 b.1 a.2 b.2 new later (rolled_both a.3.0 a.1 b.3.0 b.1 a.3.2 b.3.2 said.states) (served_so (held line) old a.0 a.1 a.3 served)
+    (says_lies shards (held line) old a.0 a.1 (unrefused_law old (held line) a.0 a.1 a.3) served lie) (served_so (held line) again b.0 b.1 b.3 too) a.4 b.4 in
     a.5 ∙ (λ k. said.text k ++ rest k) ∙ sym b.5
 
 pub one_output_law : ReadsOneKey → OneOutputLaw

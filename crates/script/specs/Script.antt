@@ -27,6 +27,7 @@ use Rattle.connection_drive.specs.Moves.{ComesToRest}
 use Rattle.connection_drive.specs.Tables.{TableState}
 use Rattle.connection_drive.specs.declared.reference.Reference.{Reference}
 use Rattle.script.specs.Guests.{Guest, MayBe, ScriptState, guest_of, without}
+use Rattle.script.specs.Rolling.{RecordsRoll}
 
 -- commands at a moment; a connection of an ID opens from an address's text and a port; it closes after so many bytes in and out
 pub data Line : Type 0 where
@@ -194,9 +195,9 @@ LineStops (Commands moment commands) old text new =
 LineStops (Open moment id address port) old text new = (whole : List ℕ) × Opens moment id address port old whole new × IsPrefix text whole
 LineStops (Close moment id bytes_in bytes_out) old text new = (whole : List ℕ) × Closes moment id bytes_in bytes_out old whole new × IsPrefix text whole
 
--- from `old`, a line may write this text and leave `new`
+-- from `old`, a line may write this text and leave `new`: what it says, and behind it the tables may roll
 abbrev pub Says : ScriptState → Option (List ℕ) → List ℕ → ScriptState → Type 0
-Says old line text new = LineSays (line_of line) old text new
+Says old line text new = (said : ScriptState) × LineSays (line_of line) old text said × RecordsRoll said new
 
 -- from `old`, what a line writes may stop behind this text and leave `new`
 abbrev pub Stops : ScriptState → Option (List ℕ) → List ℕ → ScriptState → Type 0

@@ -30,6 +30,7 @@ use Rattle.connection_drive.specs.Tables.{CanOpen, TableState}
 use Rattle.connection_drive.specs.declared.reference.Reference.{Reference}
 use Rattle.script.specs.Guests.{MayBe, ScriptState, guest_of, without}
 use Rattle.script.specs.Script.{Bad, Close, Commanded, Commands, Empty, Line, Open, Says, admitted, answering, bad_line, close_text, line_of, open_text, refusing, samples_of}
+use Rattle.script.specs.Rolling.{RecordsRoll}
 use Rattle.script.specs.Start.{start}
 
 -- the rules judge a connection, and nothing that it asks is refused
@@ -99,7 +100,7 @@ LineUnrefused (Open moment id address port) old text new = OpensUnrefused (addre
 LineUnrefused (Close moment id bytes_in bytes_out) old text new = ClosesUnrefused (guest_of id old.guests) moment id bytes_in bytes_out old text new
 
 abbrev pub SaysUnrefused : ScriptState → Option (List ℕ) → List ℕ → ScriptState → Type 0
-SaysUnrefused old line text new = LineUnrefused (line_of line) old text new
+SaysUnrefused old line text new = (said : ScriptState) × LineUnrefused (line_of line) old text said × RecordsRoll said new
 
 -- what is said so is what the lines of a script say
 abbrev pub UnrefusedLaw : Type 0

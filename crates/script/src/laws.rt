@@ -2,6 +2,7 @@
 //! on.
 
 ghost use Rattle.script.specs.Laws.{KeysLaw, ReferencesLaw};
+ghost use Rattle.script.specs.Rolling.{RecordsLaw};
 ghost use Rattle.script.specs.Unrefused.{OneOutputLaw, UnrefusedLaw};
 
 use stick_key::laws::reads_one_key;
@@ -23,7 +24,13 @@ pub fn unrefused()
     ensures { UnrefusedLaw }
 {}
 
-/// A script in which nothing is refused has one output, whatever slots the tables give to references.
+/// The rolls behind a line change the tables' records alone: every shard stays what it is.
+pub fn records()
+    ensures { RecordsLaw }
+{}
+
+/// A script in which nothing is refused has one output, whatever slots the tables give to references, and whether or not
+/// they roll behind its lines.
 pub fn one_output()
     ensures { OneOutputLaw }
 {

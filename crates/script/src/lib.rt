@@ -6,6 +6,7 @@ mod guests;
 pub mod laws;
 mod line;
 mod replay;
+mod rolling;
 mod server;
 mod short_text;
 

@@ -74,6 +74,7 @@ pub fn replay_script<R: Source, W: Sink>(
         setup,
         tables,
         guests: Guests::new(alloc),
+        wait: 0,
     };
     match serve_lines(&mut server, reader, writer) {
         Ok(()) => Ok(()),

@@ -1,13 +1,16 @@
 //! Serving the lines of a script.
 
-ghost use Rattle.std.specs.Prelude.{◌≡◌, ◌<◌, ◌^◌, ℕ, List, OnErr, OnOk};
+ghost use Rattle.std.specs.Prelude.{◌≡◌, ◌⊎◌, ◌<◌, ◌≤◌, ◌+◌, ◌^◌, ℕ, List, OnErr, OnOk, false, true, map, option_map};
 ghost use Rattle.byte_ports.specs.Bytes.{Grows, GrowsInPart, IsOneMore};
 ghost use Rattle.script.specs.Guests.{IsServed, ScriptState, guest_of};
-ghost use Rattle.script.specs.Script.{Closes, Commands, LineSays, LineStops, Opens, OpensAt, Says, Stops, close_text, open_text, samples_of as specified_samples};
+ghost use Rattle.script.specs.Script.{Closes, Commands, LineSays, LineStops, Opens, OpensAt, Says, Stops, close_text, line_of, open_text, samples_of as specified_samples};
+ghost use Rattle.connection_drive.specs.Tables.{table_states};
+ghost use Rattle.script.specs.Rolling.{TablesRoll, lines_between as specified_lines, rolled_named};
 ghost use Rattle.script.specs.Seen.{script_state};
 
 use crate::guests::{Guests, hold_place, is_open, keep_guest, take_guest};
 use crate::line::{Line, read_line};
+use crate::rolling::{lines_between, roll_tables};
 use crate::short_text::ShortText;
 use address_text::{Address, read_address};
 use admit_core::{Conn, Phase};
@@ -29,6 +32,8 @@ pub struct ScriptServer<'a, T: Table> {
     pub setup: &'a Setup,
     pub tables: Vec<Named<Books<T>>>,
     pub guests: Guests<'a>,
+    /// How many lines are served before the tables' records are looked at again.
+    pub wait: u32,
 }
 
 impl<'a, T: Table> ScriptServer<'a, T> {
@@ -118,6 +123,72 @@ impl<'a, T: Table> ScriptServer<'a, T> {
             Err(_) => Err(Failed),
         }
     }
+    /// Serves a line, all but the rolls behind it.
+    fn serve_line<W: Sink>(&mut self, line: Option<&[u8]>, writer: &mut W) -> Result<(), Failed>
+        requires { IsServed (script_state self.old.setup.now self.old.tables.items self.old.guests.entries) }
+        ensures answer { OnOk result ((text : List ℕ) × LineSays (line_of (option_map (λ bytes. bytes.now) line.entry)) (script_state self.old.setup.now self.old.tables.items self.old.guests.entries) text
+            (script_state self.new.setup.now self.new.tables.items self.new.guests.entries) × Grows W.tells (W.written writer.old) (W.written writer.new) text) }
+        ensures holds { OnOk result (IsServed (script_state self.new.setup.now self.new.tables.items self.new.guests.entries)) }
+        ensures part { OnErr result ((text : List ℕ) × LineStops (line_of (option_map (λ bytes. bytes.now) line.entry)) (script_state self.old.setup.now self.old.tables.items self.old.guests.entries) text
+            (script_state self.new.setup.now self.new.tables.items self.new.guests.entries) × Grows W.tells (W.written writer.old) (W.written writer.new) text) }
+        ensures ok { OnOk result (W.failures writer.new ≡ W.failures writer.old) }
+        ensures err { OnErr result (IsOneMore (W.failures writer.old) (W.failures writer.new)) }
+    {
+        match read_line(line) {
+            Line::Empty => Ok(()),
+            Line::Bad => match write_text(writer, b"bad line\n") {
+                Ok(()) => Ok(()),
+                Err(error) => Err(error),
+            },
+            Line::Commands(moment, commands) => match self.command(moment, commands, writer) {
+                Ok(()) => Ok(()),
+                Err(error) => Err(error),
+            },
+            Line::Open {
+                moment,
+                id,
+                address,
+                port,
+            } => {
+                let text = self.open(moment, id, address, port);
+                match write_text(writer, text.as_slice()) {
+                    Ok(()) => Ok(()),
+                    Err(error) => Err(error),
+                }
+            }
+            Line::Close {
+                moment,
+                id,
+                bytes_in,
+                bytes_out,
+            } => {
+                let text = self.close(moment, id, bytes_in, bytes_out);
+                match write_text(writer, text.as_slice()) {
+                    Ok(()) => Ok(()),
+                    Err(error) => Err(error),
+                }
+            }
+        }
+    }
+
+    /// Rolls the tables that are due, where the time to look at their records has come. A roll that is refused for want of
+    /// memory is no fault of a line: what isn't rolled is recorded on, and rolls at a later look.
+    fn roll_when_due(&mut self)
+        ensures setup { self.new.setup ≡ self.old.setup }
+        ensures guests { self.new.guests ≡ self.old.guests }
+        ensures rolls { TablesRoll (table_states self.old.tables.items) (table_states self.new.tables.items) }
+        ensures waits { 1 ≤ self.old.wait → (self.new.tables ≡ self.old.tables) × (self.new.wait + 1 ≡ self.old.wait) }
+        ensures looks { self.old.wait ≡ 0 → ((self.new.tables.items ≡ map rolled_named self.old.tables.items) × (self.new.wait ≡ specified_lines false)) ⊎ (self.new.wait ≡ specified_lines true) }
+    {
+        if self.wait > 0 {
+            self.wait -= 1;
+            return;
+        }
+        match roll_tables(&mut self.tables) {
+            Ok(()) => self.wait = lines_between(false),
+            Err(_) => self.wait = lines_between(true),
+        }
+    }
 }
 
 /// What is known of a connection from an address and a port.
@@ -184,40 +255,12 @@ impl<'a, T: Table> LineServer for ScriptServer<'a, T> {
     ghost stops = { Stops };
 
     fn serve<W: Sink>(&mut self, line: Option<&[u8]>, writer: &mut W) -> Result<(), Failed> {
-        match read_line(line) {
-            Line::Empty => Ok(()),
-            Line::Bad => match write_text(writer, b"bad line\n") {
-                Ok(()) => Ok(()),
-                Err(error) => Err(error),
-            },
-            Line::Commands(moment, commands) => match self.command(moment, commands, writer) {
-                Ok(()) => Ok(()),
-                Err(error) => Err(error),
-            },
-            Line::Open {
-                moment,
-                id,
-                address,
-                port,
-            } => {
-                let text = self.open(moment, id, address, port);
-                match write_text(writer, text.as_slice()) {
-                    Ok(()) => Ok(()),
-                    Err(error) => Err(error),
-                }
+        match self.serve_line(line, writer) {
+            Ok(()) => {
+                self.roll_when_due();
+                Ok(())
             }
-            Line::Close {
-                moment,
-                id,
-                bytes_in,
-                bytes_out,
-            } => {
-                let text = self.close(moment, id, bytes_in, bytes_out);
-                match write_text(writer, text.as_slice()) {
-                    Ok(()) => Ok(()),
-                    Err(error) => Err(error),
-                }
-            }
+            Err(error) => Err(error),
         }
     }
 }

@@ -1,3 +1,4 @@
 pub mod BookLemmas
 pub mod BooksLemmas
 pub mod RecordLemmas
+pub mod RollLemmas

@@ -17,7 +17,7 @@ use Rattle.shard_book.proofs.BookLemmas.{length-stored_of, stored_of-push, store
 pub one-record-law : OneRecordLaw
 one-record-law book is replies new run = run_determined book.base (stored_of book.calls) replies is.replies new book.live run (stored_run book is)
 
-stored_of-append : (calls later : List Recorded) → stored_of (calls ++ later) ≡ stored_of calls ++ stored_of later
+pub stored_of-append : (calls later : List Recorded) → stored_of (calls ++ later) ≡ stored_of calls ++ stored_of later
 stored_of-append [] later = refl
 stored_of-append (first ∷ rest) later = ap (λ xs. first.stored ∷ xs) (stored_of-append rest later)
 

@@ -1,10 +1,12 @@
 //! The books of a table's shards, for callers on one thread.
 
-ghost use Rattle.std.specs.Prelude.{◌≡◌, ◌≤◌, ◌<◌, Some, length, slice_get, IfOk, IfErr, OnOk, OnErr, IsOk};
+ghost use Rattle.std.specs.Prelude.{◌≡◌, ◌≤◌, ◌<◌, ◌^◌, ◌-◌, ℕ, min, map, sum_by, Some, length, slice_get, IfOk, IfErr, OnOk, OnErr, IsOk};
 ghost use Rattle.table_model.specs.Limits.{IsTableSpec, IsTableEvent};
 ghost use Rattle.table_model.specs.declared.events.Event.TheVariants.{Release};
 ghost use Rattle.shard_book.specs.BooksState.{AreBooks, ExtendsAt, IsOutAt, IsRefusedAt, LivesAt, live_states, opened_books};
 ghost use Rattle.shard_book.specs.Keeping.{part_of};
+ghost use Rattle.shard_book.specs.Rolling.{RollsInPart, calls_counted, rolled_books, rolled_first};
+ghost use Rattle.shard_book.specs.BookState.{BookState, rolled};
 
 use crate::{Book, Keeper};
 use sequence::NoMemory;
@@ -43,6 +45,31 @@ fn spec_of_shard(spec: &Spec, shards: u32, shard: u32) -> Result<Spec, NoMemory>
     Ok(part)
 }
 
+/// How many calls the records of books have together.
+fn count_calls<T: Table>(books: &Vec<Book<T>>) -> u64
+    ensures { result ≡ min (sum_by (λ (book : BookState). length book.calls) books.now.items) (2 ^ 64 - 1) }
+{
+    let mut count = 0u64;
+    for book in books.as_slice() {
+        count = count.saturating_add(book.calls().len() as u64);
+    }
+    count
+}
+
+/// Rolls books in turn, up to the first whose copy is refused.
+fn roll_each<T: Table>(books: &mut Vec<Book<T>>) -> Result<(), NoMemory>
+    ensures ok { OnOk result (books.new.items ≡ map rolled books.old.items) }
+    ensures err { OnErr result ((count : ℕ) × (count < length books.old.items) × (books.new.items ≡ rolled_first count books.old.items)) }
+{
+    for shard in 0..books.as_slice().len() {
+        match books[shard].roll() {
+            Ok(()) => {}
+            Err(error) => return Err(error),
+        }
+    }
+    Ok(())
+}
+
 impl<T: Table> Books<T> {
     /// The books of a table's empty shards. The first shards have one place more, where the size is no multiple.
     pub fn new(alloc: Global, spec: Spec, shards: u32) -> Result<Books<T>, NoMemory>
@@ -76,6 +103,23 @@ impl<T: Table> Books<T> {
     {
         let book = &mut self.books[shard as usize];
         book.call(seat, event)
+    }
+
+    /// How many calls the records of all shards have together; the count ends at 2^64 - 1.
+    pub fn recorded(&self) -> u64
+        ensures { result ≡ calls_counted self.now }
+    {
+        count_calls(&self.books)
+    }
+
+    /// Rolls the book of each shard in turn, as `Book::roll` does, so that no record has calls left. Where the copy of one
+    /// is refused, those before it are rolled, and it and those behind it stay as they were.
+    pub fn roll(&mut self) -> Result<(), NoMemory>
+        ensures books { AreBooks self.new }
+        ensures ok { OnOk result (self.new ≡ rolled_books self.old) }
+        ensures err { OnErr result (RollsInPart self.old self.new) }
+    {
+        roll_each(&mut self.books)
     }
 
     /// The book of a shard.

@@ -2,6 +2,7 @@
 
 ghost use Rattle.shard_book.specs.BooksState.{SizesLaw};
 ghost use Rattle.shard_book.specs.Laws.{OneRecordLaw, ReplayLaw, ToldLaw};
+ghost use Rattle.shard_book.specs.Rolling.{RollingLaw};
 
 /// A book's record has one run from its base: what was answered, and the table as it is now, follow from it.
 pub fn one_record()
@@ -17,6 +18,12 @@ pub fn replay()
 /// What a seat was told grows by its own calls alone, each with its reply behind those before it.
 pub fn told()
     ensures { ToldLaw }
+{}
+
+/// No answer changes by a roll: a record and the one behind its roll are, joined, one run from the first base, with the
+/// replies of both, and lead to the same table.
+pub fn rolling()
+    ensures { RollingLaw }
 {}
 
 /// The sizes of a table's shards come to its size.

@@ -105,7 +105,7 @@ fn perform<K: Keeper>(alloc: Global, tables: &mut [Named<K>], moment: u64, comma
     }
 }
 
-/// AnswersEvent one command, at the moment that the clock shows as it starts. All that it changes is changed before the
+/// Serves one command, at the moment that the clock shows as it starts. All that it changes is changed before the
 /// first byte of its answer.
 fn answer_command<K: Keeper, C: Clock, W: Sink>(
     alloc: Global,
@@ -136,7 +136,7 @@ fn has_words(command: &[u8]) -> bool
     Words::new(command, Blanks::SpacesAndTabs).next().is_some()
 }
 
-/// AnswersEvent the commands of a line, each at the moment that the clock shows as it starts, and writes their answers. How
+/// Serves the commands of a line, each at the moment that the clock shows as it starts, and writes their answers. How
 /// many there were; one without words isn't counted. Where the writer fails, the events of the command in hand stand,
 /// and what was written is the answers of those done and a prefix of what the next could have been answered.
 pub fn answer<K: Keeper, C: Clock, W: Sink>(

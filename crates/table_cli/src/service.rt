@@ -88,7 +88,7 @@ impl<K: Keeper, C: Clock> CommandService<K, C> {
         }
     }
 
-    /// AnswersEvent each line of a reader until it ends, and answers how many commands there were; the count stops at
+    /// Serves each line of a reader until it ends, and answers how many commands there were; the count stops at
     /// 2^64 - 1. A line of more than 16,384 bytes is one command, which has no form. The last line needs no line end.
     pub fn run<R: Source, W: Sink>(
         &mut self,
