@@ -1,0 +1,3 @@
+pub mod HearLemmas
+pub mod AskLemmas
+pub mod RestLemmas

@@ -1,0 +1,4 @@
+pub mod Tables
+pub mod Calls
+pub mod Moves
+pub mod DriveCode
