@@ -65,14 +65,11 @@ pub fn settle<T: Table>(
             });
         }
     };
-    let specs = unlocked.specs();
-    let books = unlocked.books().as_slice();
-    let keeps = unlocked.keeps();
     match check(
         alloc,
-        specs,
-        keeps,
-        books,
+        unlocked.specs(),
+        unlocked.keeps(),
+        unlocked.books().as_slice(),
         seats.as_slice(),
         refs.as_slice(),
     ) {
