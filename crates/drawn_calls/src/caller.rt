@@ -1,13 +1,13 @@
 //! A caller of a table in shards, who asks events drawn at random.
 
-ghost use Rattle.std.specs.Prelude.{◌≤◌, ◌<◌, IfOk};
+ghost use Rattle.std.specs.Prelude.{◌≤◌, ◌<◌, ◌^◌, IfOk};
 ghost use Rattle.table_model.specs.Limits.{IsTableEvent};
 
 use crate::asking::ask;
-use crate::draws::event;
+use crate::draws::{event, filter};
 use random_numbers::Random;
 use sequence::NoMemory;
-use shard_locks::Shards;
+use shard_locks::{Listing, Shards};
 use shard_seats::{Receipt, Seat};
 use std::alloc::Global;
 use std::sync::Wait;
@@ -27,7 +27,11 @@ const NONE: Held = Held {
     ticket: Ticket { number: 0, slot: 0 },
 };
 
-/// What is drawn: by this seed, of keys below this number and of moments in ms below this one.
+/// The last moment that an event can have.
+const LAST_MOMENT: u64 = (1 << 62) - 1;
+
+/// What is drawn: by this seed, of keys below this number and of moments in ms below this one, or as much later as the
+/// caller has waited.
 #[derive(Clone, Copy)]
 pub struct Drawing {
     pub seed: u64,
@@ -43,18 +47,19 @@ pub struct Caller<'a, T: Table> {
     seat: Seat,
     random: Random,
     drawing: Drawing,
+    /// The ms that it has waited.
+    waited: u64,
     held: Vec<Held>,
 }
 
-/// The shard of an event: that of its key, of the ticket that it names, or else this one.
-fn shard_for(event: &Event, shards: u32, held: u32, other: u32) -> u32
+/// The shard of an event: that of its key, or else this one.
+fn shard_for(event: &Event, shards: u32, other: u32) -> u32
     requires { 1 ≤ shards }
     ensures { result < shards }
 {
     match event {
         Event::Get(_, key) | Event::Track(_, key) | Event::Put(_, key, _) | Event::Clear(_, key) =>
             shard_of(key, shards),
-        Event::Look(_, _) | Event::Count(_, _, _) | Event::Release(_, _) => held % shards,
         _ => other % shards,
     }
 }
@@ -68,8 +73,24 @@ impl<'a, T: Table> Caller<'a, T> {
             seat,
             random: Random::new(drawing.seed),
             drawing,
+            waited: 0,
             held: Vec::new(alloc),
         }
+    }
+
+    /// Waits so many ms: what it draws from now on is of moments so much later.
+    pub fn wait(&mut self, ms: u32) {
+        self.waited = self.waited.saturating_add(u64::from(ms));
+    }
+
+    /// A moment.
+    fn moment(&mut self) -> u64
+        ensures { result < 2 ^ 62 }
+    {
+        let drawn = self.random.below(self.drawing.moments.max(1));
+        self.waited
+            .saturating_add(u64::from(drawn))
+            .min(LAST_MOMENT)
     }
 
     /// A reference that it holds.
@@ -83,7 +104,7 @@ impl<'a, T: Table> Caller<'a, T> {
     fn next(&mut self, held: Held) -> Result<Event, NoMemory>
         ensures { IfOk result IsTableEvent }
     {
-        let now = u64::from(self.random.below(self.drawing.moments.max(1)));
+        let now = self.moment();
         let drawn = event(
             self.alloc,
             &mut self.random,
@@ -112,13 +133,24 @@ impl<'a, T: Table> Caller<'a, T> {
         Ok(())
     }
 
-    /// One event, asked of the table; answers what was asked of which shard, and what was told of it.
+    /// An event drawn at random, asked of the table; answers what was asked of which shard, and what was told of it.
     pub fn call(&mut self, rt: &impl Wait) -> Result<Receipt, Refusal> {
         let held = self.any();
         let event = self.next(held)?;
-        let shards = self.table.shards();
-        let other = self.random.below(shards);
-        let shard = shard_for(&event, shards, held.shard, other);
+        let other = self.random.below(self.table.shards());
+        let shard = match &event {
+            Event::Look(_, _) | Event::Count(_, _, _) | Event::Release(_, _) => held.shard,
+            _ => other,
+        };
+        self.ask(rt, shard, event)
+    }
+
+    /// This event, asked of the shard of its key, or else of this one; answers what was asked of which shard, and what was
+    /// told of it.
+    pub fn ask(&mut self, rt: &impl Wait, shard: u32, event: Event) -> Result<Receipt, Refusal>
+        requires { IsTableEvent event }
+    {
+        let shard = shard_for(&event, self.table.shards(), shard);
         let asked = event.copy()?;
         let reply = ask(rt, self.table, &mut self.seat, shard, event)?;
         self.note(shard, &asked, &reply)?;
@@ -127,6 +159,20 @@ impl<'a, T: Table> Caller<'a, T> {
             event: asked,
             reply,
         })
+    }
+
+    /// Lists all shards by a filter drawn at random; answers how many rows were shown.
+    pub fn list(&mut self, rt: &impl Wait) -> Result<usize, Refusal> {
+        let now = self.moment();
+        let filter = filter(self.alloc, &mut self.random, self.drawing.keys)?;
+        match self
+            .table
+            .list(rt, self.alloc, &mut self.seat, now, &filter)
+        {
+            Ok(Listing::Rows { rows, .. }) => Ok(rows.as_slice().len()),
+            Ok(Listing::NotStored(_)) => Ok(0),
+            Err((_, refusal)) => Err(refusal),
+        }
     }
 
     /// Gives back the references that it holds; answers how many.
@@ -145,5 +191,10 @@ impl<'a, T: Table> Caller<'a, T> {
     /// Its seat, with its calls.
     pub fn into_seat(self) -> Seat {
         self.seat
+    }
+
+    /// Its seat, with its calls, and the references that it holds.
+    pub fn into_parts(self) -> (Seat, Vec<Held>) {
+        (self.seat, self.held)
     }
 }

@@ -83,7 +83,7 @@ fn pairs(alloc: Global, random: &mut Random) -> Result<Cells, NoMemory>
 }
 
 /// A filter of any kind.
-fn filter(alloc: Global, random: &mut Random, keys: u32) -> Result<Filter, NoMemory> {
+pub fn filter(alloc: Global, random: &mut Random, keys: u32) -> Result<Filter, NoMemory> {
     match random.below(5) {
         0 => Ok(Filter::Everything),
         1 => Ok(Filter::Nothing),

@@ -5,8 +5,10 @@ mod asking;
 mod books;
 mod caller;
 mod draws;
+mod showing;
 
 pub use asking::ask;
 pub use books::books_of;
 pub use caller::{Caller, Drawing, Held};
 pub use draws::{event, key, spec};
+pub use showing::{abandon_all, references_of};
