@@ -39,7 +39,7 @@ use Rattle.script.proofs.ServedLemmas.{says_served, start_served}
 use Rattle.script.specs.Rolling.{RecordsRoll}
 use Rattle.shard_book.proofs.RollLemmas.{length-rolled_first}
 use Rattle.connection_drive.specs.Tables.{TableState}
-use Rattle.world.proofs.PlainLemmas.{plain}
+use Rattle.move_laws.proofs.PlainLemmas.{plain}
 
 -- ---- what is said so is what a line says
 
