@@ -1,0 +1,119 @@
+//! A stress test of tables in shards that threads share: each thread has a caller, which asks events of every kind, of random
+//! keys at random moments, and lists all shards at times. Then the references come back but for a few, and the table is
+//! settled: with receipts, or, without, while another thread rolls the records. Without arguments it makes a few calls.
+#![tactic(auto)]
+
+ghost use Rattle.std.specs.Prelude.{◌≤◌};
+
+mod calling;
+mod closing;
+mod command_line;
+mod plan;
+mod progress;
+mod rolling;
+mod rounds;
+
+use command_line::{HELP, Request, read_request};
+use plan::Plan;
+use rounds::run_round;
+use std::process::ExitCode;
+use std::rt::Clock;
+use std::sync::Wait;
+use std::thread::Threads;
+use std::{env, io};
+
+/// The status of a bad command line.
+const BAD_COMMAND_LINE: u8 = 2;
+
+/// Runs a round, and says how it ended; answers whether the table was settled.
+fn print_round<R: Threads + Wait + Clock + Sync + Print + Eprint + AllocGlobal>(
+    rt: &R,
+    plan: Plan,
+    seed: u32,
+) -> io::Result<bool>
+    requires threads { (1 ≤ plan.threads) × (plan.threads ≤ 1024) }
+    requires shards { (1 ≤ plan.shards) × (plan.shards ≤ 64) }
+{
+    match run_round(rt, rt.alloc(), plan, seed) {
+        Ok(ended) => {
+            println!(rt; "{ended}")?;
+            Ok(true)
+        }
+        Err(trouble) => {
+            eprintln!(rt; "lock_stress: {trouble}")?;
+            Ok(false)
+        }
+    }
+}
+
+/// Runs a round of a few calls.
+fn print_small<R: Threads + Wait + Clock + Sync + Print + Eprint + AllocGlobal>(
+    rt: &R,
+    rolls: Option<u32>,
+) -> io::Result<bool> {
+    let plan = Plan {
+        threads: 4,
+        shards: 2,
+        calls: 250,
+        rolls,
+    };
+    print_round(rt, plan, 0)
+}
+
+/// Runs rounds of many calls, until one fails.
+fn print_rounds<R: Threads + Wait + Clock + Sync + Print + Eprint + AllocGlobal>(
+    rt: &R,
+    calls: u32,
+    rounds: u32,
+    rolls: Option<u32>,
+) -> io::Result<bool> {
+    let plan = Plan {
+        threads: 64,
+        shards: 8,
+        calls,
+        rolls,
+    };
+    for seed in 0..rounds {
+        if !print_round(rt, plan, seed)? {
+            return Ok(false);
+        }
+    }
+    Ok(true)
+}
+
+/// Does what is asked; answers whether it was done.
+fn run<R: Threads + Wait + Clock + Sync + Print + Eprint + AllocGlobal>(
+    rt: &R,
+    request: Request,
+) -> io::Result<bool> {
+    match request {
+        Request::Help => {
+            println!(rt; "{HELP}")?;
+            Ok(true)
+        }
+        Request::Small => Ok(print_small(rt, None)? && print_small(rt, Some(20))?),
+        Request::Rounds {
+            calls,
+            rounds,
+            rolls,
+        } => print_rounds(rt, calls, rounds, rolls),
+    }
+}
+
+/// What the command line asks.
+fn request_of(rt: &HostRuntime) -> io::Result<Option<Request>> {
+    let words: Vec<String> = env::args(rt)?.collect(rt.alloc())?;
+    Ok(read_request(words.as_slice()))
+}
+
+fn main(rt: HostRuntime) -> io::Result<ExitCode> {
+    let Some(request) = request_of(&rt)? else {
+        eprintln!(rt; "lock_stress: bad arguments; see lock_stress --help")?;
+        return Ok(ExitCode::from(BAD_COMMAND_LINE));
+    };
+    if run(&rt, request)? {
+        Ok(ExitCode::SUCCESS)
+    } else {
+        Ok(ExitCode::FAILURE)
+    }
+}

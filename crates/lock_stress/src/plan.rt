@@ -1,0 +1,11 @@
+//! What a round of the test does.
+
+/// So many threads call a table in so many shards, so often each. With `rolls`, no receipts are kept, and the records are
+/// rolled so often meanwhile.
+#[derive(Clone, Copy)]
+pub struct Plan {
+    pub threads: u32,
+    pub shards: u32,
+    pub calls: u32,
+    pub rolls: Option<u32>,
+}
