@@ -16,7 +16,7 @@ use stick_table::Table;
 
 /// Why tables can't be opened.
 #[derive(Debug, Drop, thiserror::Error)]
-pub enum OpenFault {
+pub(crate) enum OpenFault {
     #[error("out of memory")]
     NoMemory,
     #[error("no random numbers can be had: {0}")]
@@ -41,7 +41,7 @@ struct OpenTable<T: Table> {
 /// The tables of a setup, and of each the seats by which it is asked: one for each worker, one for commands, and one for
 /// housekeeping.
 #[derive(Drop)]
-pub struct OpenTables<T: Table> {
+pub(crate) struct OpenTables<T: Table> {
     pub tables: Vec<Shards<T>>,
     pub workers: Vec<Vec<Seat>>,
     pub commands: Vec<Seat>,
@@ -110,7 +110,7 @@ fn open_table<T: Table>(
 
 /// Opens the tables of a setup, in order of declaration, each in the setup's number of shards and by a seed of its own.
 /// With `keep` their seats keep receipts. There are so many workers, 1 to 64.
-pub fn open_tables<T: Table>(
+pub(crate) fn open_tables<T: Table>(
     alloc: Global,
     rt: &impl RandomSource,
     setup: &Setup,
