@@ -1,9 +1,9 @@
 -- The addresses of the standard library, as rules know them.
-use Rattle.std.specs.Prelude.{ℕ, Option, Some, None}
+use Rattle.std.specs.Prelude.{◌≡◌, ℕ, Option, Some, None}
 use Rattle.std.specs.declared.net.ip_addr.IpAddr.{IpAddr}
 use Rattle.std.specs.declared.net.ip_addr.IpAddr.TheVariants as ips
 use Rattle.std.specs.declared.net.socket_addr.SocketAddr.{SocketAddr}
-use Rattle.std.specs.Net.Addr.{ipv4_octets, ipv6_octets}
+use Rattle.std.specs.Net.Addr.{ipv4_octets, ipv6_octets, ipv6_segments, segments_of}
 use Rattle.std.specs.Net.Socket.{socket_ip, socket_port}
 use Rattle.address_text.specs.declared.address.Address.{Address}
 use Rattle.address_text.specs.declared.address.Address.TheVariants.{V4, V6}
@@ -15,6 +15,12 @@ use Rattle.rule_eval.specs.declared.wants.Samples.{Samples}
 abbrev pub address_of : IpAddr → Address
 address_of (ips.V4 ip) = V4 (ipv4_octets ip)
 address_of (ips.V6 ip) = V6 (ipv6_octets ip)
+
+-- it has those octets; an IPv6 address has them in pairs
+abbrev pub IsAddress : IpAddr → Address → Type 0
+IsAddress (ips.V4 ip) (V4 bytes) = ipv4_octets ip ≡ bytes
+IsAddress (ips.V6 ip) (V6 bytes) = ipv6_segments ip ≡ segments_of bytes
+IsAddress ip address = ⊥
 
 -- the port of an endpoint, 0 without one
 abbrev pub port_of : Option Endpoint → ℕ

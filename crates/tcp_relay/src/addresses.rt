@@ -2,7 +2,7 @@
 
 ghost use Rattle.std.specs.Prelude.{◌≡◌};
 ghost use Rattle.std.specs.Net.Socket.{socket_ip, socket_port, IsPlainSocket};
-ghost use Rattle.tcp_relay.specs.Addresses.{address_of, port_of, samples_of};
+ghost use Rattle.tcp_relay.specs.Addresses.{IsAddress, address_of, port_of, samples_of};
 
 use address_text::{Address, Endpoint};
 use rule_eval::Samples;
@@ -21,7 +21,7 @@ fn read_ip(ip: IpAddr) -> Address
 
 /// An address as the standard library knows it.
 fn make_ip(address: Address) -> IpAddr
-    ensures { address_of result ≡ address }
+    ensures { IsAddress result address }
 {
     match address {
         Address::V4(bytes) => IpAddr::V4(Ipv4Addr::from_octets(bytes)),
@@ -31,7 +31,7 @@ fn make_ip(address: Address) -> IpAddr
 
 /// Where an endpoint is, to connect to it.
 pub(crate) fn socket_address(endpoint: Endpoint) -> SocketAddr
-    ensures ip { address_of (socket_ip result) ≡ endpoint.address }
+    ensures ip { IsAddress (socket_ip result) endpoint.address }
     ensures port { IsPlainSocket result endpoint.port }
 {
     SocketAddr::new(make_ip(endpoint.address), endpoint.port)

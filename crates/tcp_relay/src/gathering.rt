@@ -54,7 +54,7 @@ pub(crate) fn gather<W: Width>(
         let tally = worker.end(&mut seats, &mut refs);
         admitted = admitted.saturating_add(tally.admitted);
         rejected = rejected.saturating_add(tally.rejected);
-        has_failed = has_failed || tally.has_failed;
+        has_failed |= tally.has_failed;
     }
     workers.destroy_empty();
     let served = Served {

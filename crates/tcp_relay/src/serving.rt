@@ -1,6 +1,6 @@
 //! A listener's workers, each on a thread of its own.
 
-ghost use Rattle.std.specs.Prelude.{◌≡◌, ◌≤◌, IfErr, IfOk, is_some, length, true, false};
+ghost use Rattle.std.specs.Prelude.{◌≡◌, ◌≤◌, IfErr, IfOk, is_some, length, true, false, vec_len};
 ghost use Rattle.tcp_relay.specs.Serving.{AreSeats, AreTablesOf, IsCause, IsFault, IsServed, IsUnserved};
 ghost use Rattle.tcp_relay.specs.declared.served.FaultKind.TheVariants.{NoMemory as MemoryFault};
 
@@ -45,7 +45,7 @@ fn serve_each<'s, E, T: Table, R: ServeRuntime, G: Gate, W: Width>(
             worker.fail();
             return;
         };
-        let seats = worker.seats();
+        let seats = worker.seats.as_mut_slice();
         let ended = visit(house, scope, desk, &mut clock, seats, number, client, peer);
         worker.note(ended);
     }
@@ -66,7 +66,7 @@ fn serve_all<T: Table, R: ServeRuntime, G: Gate, W: Width>(
 
 /// Starts a thread for each worker, and waits until all have ended. Answers whether all could be started; behind the first
 /// that can't, none is started.
-fn run_all<T: Table + Send, R: ServeRuntime, G: Gate + Sync, W: Width + Send + Sync>(
+fn run_each<T: Table + Send, R: ServeRuntime, G: Gate + Sync, W: Width + Send + Sync>(
     house: &House<'_, T, R, G, W>,
     workers: &mut [Worker<W>],
 ) -> bool {
@@ -81,6 +81,16 @@ fn run_all<T: Table + Send, R: ServeRuntime, G: Gate + Sync, W: Width + Send + S
         }
         all
     })
+}
+
+/// The same. There are as many workers afterwards.
+fn run_all<T: Table + Send, R: ServeRuntime, G: Gate + Sync, W: Width + Send + Sync>(
+    house: &House<'_, T, R, G, W>,
+    workers: &mut Vec<Worker<W>>,
+) -> bool
+    ensures workers { vec_len workers.new ≡ vec_len workers.old }
+{
+    run_each(house, workers.as_mut_slice())
 }
 
 /// What serving comes to: a fault where a thread couldn't be started, which is told first, or a connection couldn't be
@@ -151,7 +161,7 @@ fn serve_wide<W: Width + Send + Sync, T: Table + Send, R: ServeRuntime, G: Gate 
         start,
         of: PhantomData,
     };
-    let all_started = run_all(&house, workers.as_mut_slice());
+    let all_started = run_all(&house, &mut workers);
     let (served, has_failed) = gather(workers, seats, refs);
     told(served, all_started, has_failed)
 }

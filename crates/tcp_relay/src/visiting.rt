@@ -85,9 +85,7 @@ fn leave<T: Table, R: ServeRuntime, G, W: Width>(
     ensures held { AreOf W.tables result.held }
 {
     // A reference whose release is refused is still held.
-    let _rested = finish(
-        house.alloc, house.rt, house.tables, seats, &mut conn, clock,
-    );
+    let _rested = finish(house.alloc, house.rt, house.tables, seats, &mut conn, clock);
     Ended {
         is_admitted,
         held: conn.end(),

@@ -35,7 +35,8 @@ pub(crate) struct Worker<W: Width> {
     rejected: u64,
     /// Whether it couldn't accept a connection.
     has_failed: bool,
-    seats: Vec<Seat>,
+    /// Its seat of each table.
+    pub(crate) seats: Vec<Seat>,
     left: Vec<Entry>,
     of: PhantomData<W>,
     ghost seated: { vec_len seats ≡ W.tables },
@@ -59,13 +60,6 @@ impl<W: Width> Worker<W> {
             left,
             of: PhantomData,
         }
-    }
-
-    /// Its seat of each table.
-    pub(crate) fn seats(&mut self) -> &mut [Seat]
-        ensures { length result.now ≡ W.tables }
-    {
-        self.seats.as_mut_slice()
     }
 
     /// Whether it has references that it couldn't give back. Then it takes no connection more.

@@ -13,8 +13,8 @@ loop-table-preserved c =
       named = (All-pop (λ entry. entry.0 < length c.args.refs.now.items) loop.left.items c.pop.new.self.items c.pop.result c.pop.ensures.items loop.invariant.named).0;
       room = c.put_aside.ensures.room (vec_len c.pop.new.self) (subst (λ n. HaveRoom n loop.refs.items) (sym less) loop.invariant.room);
       more = λ most places each k d within.
-        let has = c.put_aside.ensures.more (most + (3 - vec_len loop.left)) places (loop.invariant.more most places each) k d within in
-        (omega (arith, less, loop.invariant.few, has.0), has.1);
+          let has = c.put_aside.ensures.more (most + (3 - vec_len loop.left)) places (loop.invariant.more most places each) k d within in
+          (omega (arith, less, loop.invariant.few, has.0), has.1);
     }
 
 pub returns-clause-more : goal.returns-clause-more
