@@ -39,7 +39,7 @@ struct Counted {
 }
 
 /// What was counted of connections.
-fn counted(alloc: Global, stage: Stage, round: Round) -> Option<Counted> {
+fn settle_counts(alloc: Global, stage: Stage, round: Round) -> Option<Counted> {
     let Round {
         admitted,
         rejected,
@@ -66,7 +66,7 @@ fn two_without_server<R: ServeRuntime>(rt: &R, alloc: Global) -> Option<Counted>
     let _first = quiet_client(rt, proxy)?;
     let _second = quiet_client(rt, proxy)?;
     let round = serve_some(rt, alloc, &listener, &stage, crew, &OpenGate, 2)?;
-    counted(alloc, stage, round)
+    settle_counts(alloc, stage, round)
 }
 
 #[test]
@@ -87,7 +87,7 @@ fn none_at_all<R: ServeRuntime>(rt: &R, alloc: Global) -> Option<Counted> {
     let (stage, crew) = open(alloc, TRACKS, silent_port(rt)?, 3)?;
     let _waits = quiet_client(rt, proxy)?;
     let round = serve_some(rt, alloc, &listener, &stage, crew, &OpenGate, 0)?;
-    counted(alloc, stage, round)
+    settle_counts(alloc, stage, round)
 }
 
 #[test]
@@ -109,7 +109,7 @@ fn one_that_vanishes<R: ServeRuntime>(rt: &R, alloc: Global) -> Option<Counted> 
     let (stage, crew) = open(alloc, TRACKS, at.port(), 1)?;
     drop(quiet_client(rt, proxy)?);
     let round = serve_beside(rt, alloc, &listener, &server, at, &stage, crew, &OpenGate, 1)?;
-    counted(alloc, stage, round)
+    settle_counts(alloc, stage, round)
 }
 
 #[test]
