@@ -15,6 +15,7 @@ use command_socket::bind_socket;
 use log::{Log, info};
 use rule_model::{Name, Setup};
 use sequence::NoMemory;
+use shard_locks::Shards;
 use shard_seats::Seat;
 use std::alloc::Global;
 use std::net::TcpListener;
@@ -32,6 +33,8 @@ use tcp_relay::{FaultKind, ServeFault, Served, socket_address};
 struct Doors {
     listener: TcpListener,
     socket: UnixListener,
+    /// The moment 0.
+    start: Instant,
 }
 
 /// Binds the listener and the command socket. None where one can't be bound, which is said on standard error.
@@ -55,8 +58,13 @@ fn bind_doors<R: ProxyRuntime + Files + Eprint>(
             return Ok(None);
         }
     };
+    let start = Instant::now(rt)?;
     info!(rt; "listening on {address}, for commands on {path}");
-    Ok(Some(Doors { listener, socket }))
+    Ok(Some(Doors {
+        listener,
+        socket,
+        start,
+    }))
 }
 
 /// The names of a setup's tables.
@@ -131,6 +139,56 @@ pub fn run_proxy<T: Table + Send, R: ProxyRuntime + Files + RandomSource + Print
     serve_and_settle(alloc, rt, setup, plan, &doors, opened)
 }
 
+/// How serving ended: the fault, if any; how many connections were admitted and rejected; and what the threads that served
+/// them have left.
+struct Ended {
+    fault: Option<FaultKind>,
+    admitted: u64,
+    rejected: u64,
+    left: Left,
+}
+
+/// How serving ended.
+fn end_of(served: Result<Served, ServeFault>) -> Ended {
+    let (fault, served) = match served {
+        Ok(served) => (None, served),
+        Err(ServeFault { kind, served }) => (Some(kind), served),
+    };
+    let Served {
+        admitted,
+        rejected,
+        seats,
+        refs,
+    } = served;
+    Ended {
+        fault,
+        admitted,
+        rejected,
+        left: Left { seats, refs },
+    }
+}
+
+/// The threads beside the listener.
+fn make_attendants(
+    alloc: Global,
+    names: Vec<Name>,
+    commands: Vec<Seat>,
+    keepers: Vec<Seat>,
+) -> [Attendant; 2] {
+    [
+        Attendant {
+            duty: Duty::Commands,
+            names,
+            seats: commands,
+        },
+        Attendant {
+            duty: Duty::Housekeeping,
+            names: Vec::new(alloc),
+            seats: keepers,
+        },
+    ]
+}
+
 /// Serves, and then settles the tables where receipts were kept.
 fn serve_and_settle<T: Table + Send, R: ProxyRuntime + Files + Print + Eprint>(
     alloc: Global,
@@ -149,7 +207,6 @@ fn serve_and_settle<T: Table + Send, R: ProxyRuntime + Files + Print + Eprint>(
         report(rt, FaultKind::NoMemory)?;
         return Ok(false);
     };
-    let start = Instant::now(rt)?;
     let OpenTables {
         tables,
         workers,
@@ -157,18 +214,7 @@ fn serve_and_settle<T: Table + Send, R: ProxyRuntime + Files + Print + Eprint>(
         keepers,
     } = opened;
     let stop = AtomicBool::new(false);
-    let mut attendants = [
-        Attendant {
-            duty: Duty::Commands,
-            names,
-            seats: commands,
-        },
-        Attendant {
-            duty: Duty::Housekeeping,
-            names: Vec::new(alloc),
-            seats: keepers,
-        },
-    ];
+    let mut attendants = make_attendants(alloc, names, commands, keepers);
     let floor = Floor {
         alloc,
         rt,
@@ -180,20 +226,37 @@ fn serve_and_settle<T: Table + Send, R: ProxyRuntime + Files + Print + Eprint>(
         threads: plan.threads,
         stop_after: plan.stop_after,
         roll_at: plan.roll_at,
-        start,
+        start: doors.start,
         stop: &stop,
     };
-    let served = serve_all(&floor, workers, &mut attendants);
+    let ended = end_of(serve_all(&floor, workers, &mut attendants));
     // The file is done with; where it is gone already, that is as well.
     let _ = fs::remove_file(rt, plan.socket);
-    let Served { seats, refs, .. } = match served {
-        Ok(served) => served,
-        Err(ServeFault { kind, served }) => {
-            give_up_all(served.refs);
-            report(rt, kind)?;
-            return Ok(false);
-        }
-    };
+    settle_where(alloc, rt, setup, plan, tables, ended, attendants)
+}
+
+/// Says how serving ended, and settles the tables where it ended well and receipts were kept.
+fn settle_where<T: Table, R: ProxyRuntime + Print + Eprint>(
+    alloc: Global,
+    rt: &R,
+    setup: &Setup,
+    plan: Plan<'_>,
+    tables: Vec<Shards<T>>,
+    ended: Ended,
+    attendants: [Attendant; 2],
+) -> io::Result<bool> {
+    let Ended {
+        fault,
+        admitted,
+        rejected,
+        left: Left { seats, refs },
+    } = ended;
+    info!(rt; "connections: {admitted} admitted, {rejected} rejected");
+    if let Some(kind) = fault {
+        give_up_all(refs);
+        report(rt, kind)?;
+        return Ok(false);
+    }
     if plan.stop_after.is_none() {
         give_up_all(refs);
         return Ok(true);

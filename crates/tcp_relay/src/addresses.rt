@@ -30,7 +30,7 @@ fn make_ip(address: Address) -> IpAddr
 }
 
 /// Where an endpoint is, to connect to it.
-pub(crate) fn socket_address(endpoint: Endpoint) -> SocketAddr
+pub fn socket_address(endpoint: Endpoint) -> SocketAddr
     ensures ip { IsAddress (socket_ip result) endpoint.address }
     ensures port { IsPlainSocket result endpoint.port }
 {

@@ -19,6 +19,7 @@ mod serving;
 mod visiting;
 mod worker;
 
+pub use addresses::socket_address;
 pub use gate::Gate;
 pub use runtime::ServeRuntime;
 pub use served::{FaultKind, ServeFault, Served};
