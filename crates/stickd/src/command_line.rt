@@ -137,7 +137,7 @@ pub fn read_shards(arguments: &ArgMatches<'_>) -> u32
 }
 
 /// What `stickd run` is asked. That its numbers are in their ranges was seen as the command line was read.
-pub fn read_plan<'a>(arguments: &'a ArgMatches<'a>) -> Plan<'a>
+pub fn read_plan<'a>(arguments: &ArgMatches<'a>) -> Plan<'a>
     ensures { (1 ≤ result.threads) × (result.threads ≤ 64) }
 {
     Plan {

@@ -10,19 +10,25 @@ use byte_ports::{StreamSink, StreamSource};
 use clap::ArgMatches;
 use command_line::{read_command_line, read_plan, read_shards};
 use configuration::{open_setup, read_file};
+use log::Log;
 use pooled_table::StickTable;
 use proxy::{ProxyRuntime, run_proxy};
 use script::{FaultKind, ReplayFault, replay_script};
+use std::net::{Net, TcpListener, TcpStream};
 use std::process::ExitCode;
 use std::random::RandomSource;
 use std::rt::Files;
+use std::sync::Wait;
+use std::thread::Threads;
+use std::time::Clock;
 use std::{env, io};
 
 /// The status of a bad command line.
 const BAD_COMMAND_LINE: u8 = 2;
 
 fn main(rt: HostRuntime) -> ExitCode {
-    match run(&rt) {
+    let words = collect_words(&rt);
+    match run(&rt, words) {
         Ok(status) => status,
         Err(reason) => {
             // Where standard error can't be written either, the status alone tells.
@@ -51,9 +57,26 @@ fn collect_words(rt: &HostRuntime) -> Result<Vec<String>, WordsFault> {
     }
 }
 
-/// Does what the command line asks, and answers the status. An error is one of writing.
-fn run(rt: &HostRuntime) -> io::Result<ExitCode> {
-    let words = match collect_words(rt) {
+/// Does what the command line asks, and answers the status. An error is one of writing. The bounds are a `ProxyRuntime`'s,
+/// one by one: no proof covers that trait at the runtime itself.
+fn run<
+    R: Net<Listener = TcpListener, Stream = TcpStream>
+        + Threads
+        + Wait
+        + Clock
+        + Log
+        + Sync
+        + RandomSource
+        + Files
+        + Input
+        + Print
+        + Eprint
+        + AllocGlobal,
+>(
+    rt: &R,
+    words: Result<Vec<String>, WordsFault>,
+) -> io::Result<ExitCode> {
+    let words = match words {
         Ok(words) => words,
         Err(WordsFault::NotUtf8) => {
             eprintln!(rt; "stickd: a word of the command line isn't UTF-8")?;
