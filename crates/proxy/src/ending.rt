@@ -10,7 +10,7 @@ use std::{fmt, io, mem, str};
 use stick_table::Table;
 
 /// What callers of the tables of a setup leave: of each table its seats, and the references that are out.
-pub struct Left {
+pub(crate) struct Left {
     pub seats: Vec<Vec<Seat>>,
     pub refs: Vec<Vec<TrackRef>>,
 }
@@ -56,7 +56,7 @@ fn code_of(fault: Fault) -> &'static str {
 }
 
 /// The references are given up: their tickets stay out.
-pub fn give_up(mut refs: Vec<TrackRef>) {
+pub(crate) fn give_up(mut refs: Vec<TrackRef>) {
     while let Some(reference) = refs.pop() {
         reference.abandon();
     }
@@ -64,7 +64,7 @@ pub fn give_up(mut refs: Vec<TrackRef>) {
 }
 
 /// All references of all tables are given up.
-pub fn give_up_all(mut refs: Vec<Vec<TrackRef>>) {
+pub(crate) fn give_up_all(mut refs: Vec<Vec<TrackRef>>) {
     while let Some(of_table) = refs.pop() {
         give_up(of_table);
     }
@@ -113,7 +113,7 @@ fn take_list<T>(alloc: Global, lists: &mut Vec<Vec<T>>, place: usize) -> Vec<T> 
 /// Settles each table of a setup by the seats and the references that its callers left, and prints, in order of declaration,
 /// `settled NAME: C calls, R references`, or `unsettled NAME: S1` and its kin on standard error. Answers whether all were
 /// settled.
-pub fn settle_all<T: Table, R: Print + Eprint>(
+pub(crate) fn settle_all<T: Table, R: Print + Eprint>(
     alloc: Global,
     rt: &R,
     setup: &Setup,

@@ -1,8 +1,14 @@
 //! The proxy: the tables of a setup, shared by the workers of its listener, by its command socket and by its housekeeping.
 #![tactic(auto)]
 
+mod attending;
 mod ending;
+mod floor;
 mod opening;
+mod plan;
+mod running;
+mod serving;
 
-pub use ending::{Left, give_up, give_up_all, settle_all};
-pub use opening::{OpenFault, OpenTables, open_tables};
+pub use floor::ProxyRuntime;
+pub use plan::Plan;
+pub use running::run_proxy;

@@ -1,8 +1,9 @@
 //! The tables of a setup are opened, for threads to share.
 
-ghost use Rattle.std.specs.Prelude.{◌≡◌, ◌≤◌, ◌+◌, ◌++◌, ◌∷◌, [], All, length, vec_len, IfOk, OnOk};
+ghost use Rattle.std.specs.Prelude.{◌≡◌, ◌≤◌, ◌+◌, ◌++◌, ◌∷◌, [], length, vec_len, IfOk, OnOk};
 ghost use Rattle.table_model.specs.Limits.{IsTableSpec};
 ghost use Rattle.connection_drive.specs.Tables.{CanOpen};
+ghost use Rattle.tcp_relay.specs.Serving.{AreSeats, AreTablesOf};
 ghost use Rattle.proxy.specs.Opened.{AreDeclared, but_for_seed, declared_table};
 
 use rule_model::{NamedSpec, Setup};
@@ -16,7 +17,7 @@ use stick_table::Table;
 
 /// Why tables can't be opened.
 #[derive(Debug, Drop, thiserror::Error)]
-pub enum OpenFault {
+pub(crate) enum OpenFault {
     #[error("out of memory")]
     NoMemory,
     #[error("no random numbers can be had: {0}")]
@@ -41,7 +42,7 @@ struct OpenTable<T: Table> {
 /// The tables of a setup, and of each the seats by which it is asked: one for each worker, one for commands, and one for
 /// housekeeping.
 #[derive(Drop)]
-pub struct OpenTables<T: Table> {
+pub(crate) struct OpenTables<T: Table> {
     pub tables: Vec<Shards<T>>,
     pub workers: Vec<Vec<Seat>>,
     pub commands: Vec<Seat>,
@@ -110,7 +111,7 @@ fn open_table<T: Table>(
 
 /// Opens the tables of a setup, in order of declaration, each in the setup's number of shards and by a seed of its own.
 /// With `keep` their seats keep receipts. There are so many workers, 1 to 64.
-pub fn open_tables<T: Table>(
+pub(crate) fn open_tables<T: Table>(
     alloc: Global,
     rt: &impl RandomSource,
     setup: &Setup,
@@ -120,8 +121,8 @@ pub fn open_tables<T: Table>(
     requires can_open { CanOpen setup.now }
     requires workers { (1 ≤ workers) × (workers ≤ 64) }
     ensures tables { IfOk result (λ opened. AreDeclared setup.now.shards keep setup.now.tables opened.tables.items) }
-    ensures workers { IfOk result (λ opened. length opened.workers.items ≡ length setup.now.tables) }
-    ensures seats { IfOk result (λ opened. All (λ seats. vec_len seats ≡ workers) opened.workers.items) }
+    ensures served { IfOk result (λ opened. AreTablesOf setup.now opened.tables.items) }
+    ensures workers { IfOk result (λ opened. AreSeats (length opened.tables.items) workers opened.workers) }
     ensures commands { IfOk result (λ opened. length opened.commands.items ≡ length setup.now.tables) }
     ensures keepers { IfOk result (λ opened. length opened.keepers.items ≡ length setup.now.tables) }
 {

@@ -3,6 +3,7 @@
 ghost use Rattle.std.specs.Prelude.{◌≤◌};
 
 use clap::{Arg, ArgMatches, Command, Error, value_parser};
+use proxy::Plan;
 use std::alloc::{AllocError, Global};
 
 /// What `stickd check --help` says last.

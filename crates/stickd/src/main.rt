@@ -8,10 +8,13 @@ mod configuration;
 
 use byte_ports::{StreamSink, StreamSource};
 use clap::ArgMatches;
-use command_line::{read_command_line, read_shards};
+use command_line::{read_command_line, read_plan, read_shards};
 use configuration::{open_setup, read_file};
+use pooled_table::StickTable;
+use proxy::{ProxyRuntime, run_proxy};
 use script::{FaultKind, ReplayFault, replay_script};
 use std::process::ExitCode;
+use std::random::RandomSource;
 use std::rt::Files;
 use std::{env, io};
 
@@ -71,12 +74,15 @@ fn run(rt: &HostRuntime) -> io::Result<ExitCode> {
 }
 
 /// Does what a command asks. The status is 1 where that fails, which is then said on standard error.
-fn run_command<R: Files + Input + Print + Eprint + AllocGlobal>(
+fn run_command<
+    R: ProxyRuntime + RandomSource + Files + Input + Print + Eprint + AllocGlobal,
+>(
     rt: &R,
     matches: &ArgMatches<'_>,
 ) -> io::Result<ExitCode> {
     let done = match matches.subcommand() {
         Some(("check", arguments)) => check(rt, arguments.get_str("FILE").unwrap_or(""))?,
+        Some(("run", arguments)) => serve(rt, arguments)?,
         Some((_, arguments)) => replay(rt, arguments.get_str("FILE"), read_shards(arguments))?,
         None => false,
     };
@@ -119,6 +125,18 @@ fn replay<R: Files + Input + Print + Eprint + AllocGlobal>(
             Ok(false)
         }
     }
+}
+
+/// Runs the proxy of a configuration, each of its tables in so many shards.
+fn serve<R: ProxyRuntime + RandomSource + Files + Print + Eprint + AllocGlobal>(
+    rt: &R,
+    arguments: &ArgMatches<'_>,
+) -> io::Result<bool> {
+    let path = arguments.get_str("FILE");
+    let Some(setup) = open_setup(rt, path, read_shards(arguments))? else {
+        return Ok(false);
+    };
+    run_proxy::<StickTable, R>(rt.alloc(), rt, &setup, read_plan(arguments))
 }
 
 /// Says on standard error why the replay stopped.

@@ -1,0 +1,67 @@
+//! Serving the clients of a socket.
+
+ghost use Rattle.command_socket.specs.Clients.{ServesClients, Visit, state_of};
+
+use crate::Served;
+use byte_ports::{Sink, Source, StreamSink, StreamSource};
+use moments::Clock;
+use shard_book::Keeper;
+use std::os::unix::net::UnixListener;
+use std::sync::Wait;
+use std::sync::atomic::{AtomicBool, Ordering};
+use std::time::Duration;
+use std::{thread, time};
+use table_cli::CommandService;
+
+/// Answers the lines of a client until it ends, or fails. How many commands were answered whole.
+fn serve_client<K: Keeper, C: Clock, R: Source, W: Sink>(
+    service: &mut CommandService<K, C>,
+    reader: &mut R,
+    writer: &mut W,
+) -> u64
+    ensures { Visit K.answers K.refuses C.shows (state_of K.table K.parts K.state C.state service.old.tables.items service.old.clock) result
+        (state_of K.table K.parts K.state C.state service.new.tables.items service.new.clock) }
+{
+    match service.run(reader, writer) {
+        Ok(count) => count,
+        Err(fault) => fault.done,
+    }
+}
+
+/// Serves the clients of a socket, one after the other, until `stop` is set; it is looked at when a client has connected,
+/// who then isn't served, and behind each client: set it, and then `wake` the socket. Of each client all lines are
+/// answered until it ends, where HAProxy closes behind the first. One that fails ends its own turn alone. Where no client
+/// can be accepted, as for want of file descriptors, that is counted, and the next try comes 10 ms later.
+pub fn serve_clients<K: Keeper, C: Clock, R: Wait + time::Clock>(
+    rt: &R,
+    listener: &UnixListener,
+    service: &mut CommandService<K, C>,
+    stop: &AtomicBool,
+) -> Served
+    ensures { ServesClients K.answers K.refuses C.shows (state_of K.table K.parts K.state C.state service.old.tables.items service.old.clock) result
+        (state_of K.table K.parts K.state C.state service.new.tables.items service.new.clock) }
+{
+    let mut served = Served {
+        clients: 0,
+        commands: 0,
+        unaccepted: 0,
+    };
+    for _ in rt.forever() {
+        let accepted = listener.accept();
+        if stop.load(Ordering::SeqCst) {
+            return served;
+        }
+        let Ok((stream, _address)) = accepted else {
+            served.note_unaccepted();
+            thread::sleep(rt, Duration::from_millis(10));
+            continue;
+        };
+        let mut reader = StreamSource::new(&stream);
+        let mut writer = StreamSink::new(&stream);
+        served.note_client(serve_client(service, &mut reader, &mut writer));
+        if stop.load(Ordering::SeqCst) {
+            return served;
+        }
+    }
+    served
+}

@@ -1,0 +1,21 @@
+//! Why a socket can't be bound.
+
+use std::io;
+use thiserror::Error;
+
+/// Why a socket can't be bound to a path. It is printed behind the path and `can't be bound: `.
+#[derive(Debug, Drop, Error)]
+pub enum SocketFault {
+    /// The path is empty, or longer than the system's address of a socket.
+    #[error("a socket's path has 1 to 107 bytes")]
+    PathLength,
+    /// Someone answers there.
+    #[error("in use by a running program")]
+    InUse,
+    /// Replacing the file there would lose it.
+    #[error("exists and is no socket")]
+    NoSocket,
+    /// What the system says.
+    #[error("{0}")]
+    System(io::Error),
+}

@@ -1,0 +1,118 @@
+//! What is done beside the listener, each by a thread of its own: commands are answered, and house is kept.
+
+use crate::floor::{Floor, ProxyRuntime};
+use command_socket::serve_clients;
+use housekeeping::{Kept, Pace, housekeep};
+use log::{Log, info};
+use rule_model::Name;
+use running_clock::RunningClock;
+use shard_book::Named;
+use shard_locks::Seated;
+use shard_seats::Seat;
+use std::sync::atomic::{AtomicBool, Ordering};
+use std::time::{Clock, Duration};
+use std::{mem, thread};
+use stick_table::Table;
+use table_cli::CommandService;
+
+/// How many naps are taken between two rounds of housekeeping, each of so many ms: the stop is looked for after each.
+const NAPS: u32 = 20;
+const NAP: u64 = 50;
+
+/// What a thread beside the listener does.
+#[derive(Clone, Copy, Debug, PartialEq, Eq)]
+pub(crate) enum Duty {
+    Commands,
+    Housekeeping,
+}
+
+/// A thread beside the listener: its seat of each table, and the tables' names where it answers commands.
+#[derive(Drop)]
+pub(crate) struct Attendant {
+    pub duty: Duty,
+    pub names: Vec<Name>,
+    pub seats: Vec<Seat>,
+}
+
+impl Attendant {
+    /// Does its duty until the proxy stops. Its seats come back with their calls.
+    pub fn attend<T: Table, R: ProxyRuntime>(&mut self, floor: &Floor<'_, T, R>) {
+        let seats = mem::replace(&mut self.seats, Vec::new(floor.alloc));
+        let names = mem::replace(&mut self.names, Vec::new(floor.alloc));
+        self.seats = match self.duty {
+            Duty::Commands => answer_commands(floor, names, seats),
+            Duty::Housekeeping => keep_house(floor, seats),
+        };
+    }
+}
+
+/// Answers the commands of the socket's clients.
+fn answer_commands<T: Table, R: ProxyRuntime>(
+    floor: &Floor<'_, T, R>,
+    names: Vec<Name>,
+    seats: Vec<Seat>,
+) -> Vec<Seat> {
+    let count = seats.as_slice().len();
+    let (Ok(mut tables), Ok(mut back)) = (
+        Vec::with_capacity(floor.alloc, count),
+        Vec::with_capacity(floor.alloc, count),
+    ) else {
+        return seats;
+    };
+    for (place, (name, seat)) in names.into_iter().zip(seats).enumerate() {
+        let Some(table) = floor.tables.get(place) else {
+            break;
+        };
+        let keeper = Seated::new(table, floor.rt, seat);
+        // The place is there.
+        let _ = tables.push(Named { name, keeper });
+    }
+    let clock = RunningClock::new(floor.rt, floor.start);
+    let mut service = CommandService::new(floor.alloc, tables, clock);
+    let served = serve_clients(floor.rt, floor.socket, &mut service, floor.stop);
+    let (clients, commands) = (served.clients, served.commands);
+    info!(floor.rt; "commands: {clients} clients, {commands} commands");
+    for named in service.tables {
+        let _ = back.push(named.keeper.into_seat());
+    }
+    back
+}
+
+/// When rounds of housekeeping come: each second, until the proxy stops.
+#[derive(Drop)]
+struct EachSecond<'a, R> {
+    rt: &'a R,
+    stop: &'a AtomicBool,
+}
+
+impl<'a, R: Clock> Pace for EachSecond<'a, R> {
+    fn next(&self) -> bool {
+        for _ in 0..NAPS {
+            if self.stop.load(Ordering::SeqCst) {
+                return false;
+            }
+            thread::sleep(self.rt, Duration::from_millis(NAP));
+        }
+        !self.stop.load(Ordering::SeqCst)
+    }
+}
+
+/// Has shards expire what is over, and begin long records again, each second.
+fn keep_house<T: Table, R: ProxyRuntime>(floor: &Floor<'_, T, R>, seats: Vec<Seat>) -> Vec<Seat> {
+    if seats.as_slice().len() != floor.tables.len() {
+        return seats;
+    }
+    let mut clock = RunningClock::new(floor.rt, floor.start);
+    let pace = EachSecond {
+        rt: floor.rt,
+        stop: floor.stop,
+    };
+    let Kept {
+        rounds,
+        rolled,
+        refused,
+        seats,
+    } = housekeep(floor.rt, floor.tables, seats, &mut clock, &pace, floor.roll_at);
+    info!(floor.rt; "housekeeping: {rounds} rounds, {rolled} records began again, {refused} refusals");
+    seats
+}

@@ -1,0 +1,30 @@
+-- What serving is told as.
+use Rattle.std.proofs.Common.{◌≡◌, ℕ, Bool, true, false, sym, subst, Result, Ok, Err}
+use Rattle.std.specs.Prelude.{IfOk, IfErr}
+use Rattle.std.specs.declared.vec.Vec.{Vec}
+use Rattle.std.specs.declared.alloc.Global.{Global}
+use Rattle.shard_seats.specs.SeatState.{SeatState}
+use Rattle.tcp_relay.specs.Serving.{AreLeft, AreSeats, IsCause, IsFault, IsFaultOf, IsServed}
+use Rattle.tcp_relay.specs.declared.served.FaultKind.{FaultKind}
+use Rattle.tcp_relay.specs.declared.served.FaultKind.TheVariants.{Accept, Thread, NoMemory}
+use Rattle.tcp_relay.specs.declared.served.ServeFault.{ServeFault}
+use Rattle.tcp_relay.specs.declared.served.Served.{Served}
+
+module _ (tables threads : ℕ) (served : Served) (is : IsServed tables threads served) (all failed : Bool) where
+  pub told_ok : (result : Result Served ServeFault) → IfOk result (λ kept. (kept ≡ served) × (all ≡ true) × (failed ≡ false)) → IfOk result (IsServed tables threads)
+  told_ok (Ok kept) same = subst (IsServed tables threads) (sym same.0) is
+  told_ok (Err fault) same = tt
+
+  caused : (seats : Vec (Vec SeatState Global) Global) (kind : FaultKind) (kept : Served) → kept ≡ served → IsCause all failed kind → IsFaultOf tables threads seats kind kept
+  caused seats Accept kept same cause = subst (IsServed tables threads) (sym same) is
+  caused seats Thread kept same cause = subst (IsServed tables threads) (sym same) is
+  caused seats NoMemory kept same cause = absurd cause
+
+  pub told_err : (seats : Vec (Vec SeatState Global) Global) (result : Result Served ServeFault) → IfErr result (λ fault. (fault.served ≡ served) × IsCause all failed fault.kind) → IfErr result (IsFault tables threads seats)
+  told_err seats (Ok kept) told = tt
+  told_err seats (Err fault) told = caused seats fault.kind fault.served told.0 told.1
+
+-- the workers are as many as the threads, of as many tables as there are
+pub all_served : (width tables workers threads : ℕ) (served : Served) → AreSeats width workers served.seats → AreLeft width workers served.refs → width ≡ tables → workers ≡ threads → IsServed tables threads served
+all_served width tables workers threads served seats refs same all =
+    subst (λ w. IsServed w threads served) same (subst (λ n. IsServed width n served) all (seats, refs))

@@ -1,0 +1,18 @@
+use Rattle.std.proofs.Common.{◌≡◌, ◌≤◌, ◌+◌, length, vec_capacity, vec_len}
+use Rattle.tcp_relay.specs.Seating.{HaveEach}
+use Rattle.tcp_relay.proofs.gathering.seat_workers.Given as goal
+
+-- each table has a seat for each worker that is still to be seated
+abbrev pub invariant-loop-places : goal.invariant-loop-places
+invariant-loop-places g l = record {
+  rows : vec_len l.rows ≡ vec_len l.left;
+  seated : vec_len l.workers + vec_len l.left ≡ length l.fn.rows.items;
+  room : length l.fn.rows.items ≤ vec_capacity l.workers;
+  tables : length l.seats.items ≡ g.W.Width.tables;
+  seats : HaveEach (vec_len l.left) (length l.fn.rows.items) l.seats.items;
+  empty_rows : HaveEach 0 g.W.Width.tables l.rows.items;
+  empty_left : HaveEach 0 3 l.left.items;
+}
+
+abbrev pub decreases-loop-places : goal.decreases-loop-places
+decreases-loop-places g l = vec_len l.left

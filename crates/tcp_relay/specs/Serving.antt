@@ -1,0 +1,48 @@
+-- What serving is given, and what comes back.
+use Rattle.std.specs.Prelude.{◌≡◌, ◌≤◌, ◌*◌, ℕ, Bool, true, false, All, List, Some, length, slice_get, vec_len}
+use Rattle.std.specs.declared.vec.Vec.{Vec}
+use Rattle.std.specs.declared.alloc.Global.{Global}
+use Rattle.rule_model.specs.declared.sections.Setup.{Setup}
+use Rattle.shard_seats.specs.SeatState.{SeatState}
+use Rattle.shard_locks.specs.ShardsState.{ShardsState}
+use Rattle.tcp_relay.specs.declared.served.FaultKind.{FaultKind}
+use Rattle.tcp_relay.specs.declared.served.FaultKind.TheVariants.{Accept, Thread, NoMemory}
+use Rattle.tcp_relay.specs.declared.served.ServeFault.{ServeFault}
+use Rattle.tcp_relay.specs.declared.served.Served.{Served}
+
+-- one for each table of a setup, in as many shards as the setup has
+pub record AreTablesOf (setup : Setup) (tables : List ShardsState) : Type 0 where
+  pub count : length tables ≡ length setup.tables
+  pub shards : (i : ℕ) (table : ShardsState) → slice_get tables i ≡ Some table → table.shards ≡ setup.shards
+
+-- for each of so many tables as many seats as there are threads
+abbrev pub AreSeats : {X Z Z' : Type 0} → ℕ → ℕ → Vec (Vec X Z) Z' → Type 0
+AreSeats tables threads seats = (length seats.items ≡ tables) × All (λ list. vec_len list ≡ threads) seats.items
+
+-- for each of so many tables at most three references of each thread
+abbrev pub AreLeft : {X Z Z' : Type 0} → ℕ → ℕ → Vec (Vec X Z) Z' → Type 0
+AreLeft tables threads refs = (length refs.items ≡ tables) × All (λ list. vec_len list ≤ threads * 3) refs.items
+
+-- all seats of so many tables and threads, and what those have left
+abbrev pub IsServed : ℕ → ℕ → Served → Type 0
+IsServed tables threads served = AreSeats tables threads served.seats × AreLeft tables threads served.refs
+
+-- ---- faults
+
+-- a thread that can't be started is told before a connection that can't be accepted
+abbrev pub IsCause : Bool → Bool → FaultKind → Type 0
+IsCause all_started has_failed Thread = all_started ≡ false
+IsCause all_started has_failed Accept = (all_started ≡ true) × (has_failed ≡ true)
+IsCause all_started has_failed NoMemory = ⊥
+
+-- nothing was served, and the seats are those that were given
+abbrev pub IsUnserved : Vec (Vec SeatState Global) Global → Served → Type 0
+IsUnserved seats served = (served.admitted ≡ 0) × (served.rejected ≡ 0) × (served.seats ≡ seats)
+
+-- without memory nothing was served; else all seats come back, and what the threads have left
+abbrev pub IsFaultOf : ℕ → ℕ → Vec (Vec SeatState Global) Global → FaultKind → Served → Type 0
+IsFaultOf tables threads seats NoMemory served = IsUnserved seats served
+IsFaultOf tables threads seats other served = IsServed tables threads served
+
+abbrev pub IsFault : ℕ → ℕ → Vec (Vec SeatState Global) Global → ServeFault → Type 0
+IsFault tables threads seats fault = IsFaultOf tables threads seats fault.kind fault.served

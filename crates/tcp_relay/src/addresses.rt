@@ -1,0 +1,59 @@
+//! The addresses of the standard library, and those of rules.
+
+ghost use Rattle.std.specs.Prelude.{◌≡◌};
+ghost use Rattle.std.specs.Net.Socket.{socket_ip, socket_port, IsPlainSocket};
+ghost use Rattle.tcp_relay.specs.Addresses.{IsAddress, address_of, port_of, samples_of};
+
+use address_text::{Address, Endpoint};
+use rule_eval::Samples;
+use rule_model::Setup;
+use std::net::{IpAddr, Ipv4Addr, Ipv6Addr, SocketAddr};
+
+/// An address as rules know it.
+fn read_ip(ip: IpAddr) -> Address
+    ensures { result ≡ address_of ip }
+{
+    match ip {
+        IpAddr::V4(ip) => Address::V4(ip.octets()),
+        IpAddr::V6(ip) => Address::V6(ip.octets()),
+    }
+}
+
+/// An address as the standard library knows it.
+fn make_ip(address: Address) -> IpAddr
+    ensures { IsAddress result address }
+{
+    match address {
+        Address::V4(bytes) => IpAddr::V4(Ipv4Addr::from_octets(bytes)),
+        Address::V6(bytes) => IpAddr::V6(Ipv6Addr::from_octets(bytes)),
+    }
+}
+
+/// Where an endpoint is, to connect to it.
+pub fn socket_address(endpoint: Endpoint) -> SocketAddr
+    ensures ip { IsAddress (socket_ip result) endpoint.address }
+    ensures port { IsPlainSocket result endpoint.port }
+{
+    SocketAddr::new(make_ip(endpoint.address), endpoint.port)
+}
+
+/// The port that connections come to, 0 without a `bind`.
+fn bound_port(bind: Option<Endpoint>) -> u16
+    ensures { result ≡ port_of bind }
+{
+    match bind {
+        Some(endpoint) => endpoint.port,
+        None => 0,
+    }
+}
+
+/// What the rules of a setup are told of a connection that comes from there.
+pub(crate) fn samples(setup: &Setup, peer: SocketAddr) -> Samples
+    ensures { result ≡ samples_of setup.now peer }
+{
+    Samples {
+        src: read_ip(peer.ip()),
+        src_port: peer.port(),
+        dst_port: bound_port(setup.bind),
+    }
+}

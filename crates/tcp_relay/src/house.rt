@@ -1,0 +1,33 @@
+//! What all workers share.
+
+ghost use Rattle.std.specs.Prelude.{◌≡◌, length};
+ghost use Rattle.tcp_relay.specs.Serving.{AreTablesOf};
+
+use crate::door::Door;
+use crate::worker::Width;
+use rule_model::Setup;
+use shard_locks::Shards;
+use std::alloc::Global;
+use std::marker::PhantomData;
+use std::net::{SocketAddr, TcpListener};
+use std::time::Instant;
+use stick_table::Table;
+
+/// What all workers share, each by reference.
+#[derive(Drop)]
+pub(crate) struct House<'a, T: Table, R, G, W: Width> {
+    pub(crate) alloc: Global,
+    pub(crate) rt: &'a R,
+    pub(crate) listener: &'a TcpListener,
+    pub(crate) door: &'a Door,
+    pub(crate) setup: &'a Setup,
+    pub(crate) tables: &'a [Shards<T>],
+    /// Where the server is.
+    pub(crate) server: SocketAddr,
+    pub(crate) gate: &'a G,
+    /// The moment 0.
+    pub(crate) start: Instant,
+    pub(crate) of: PhantomData<W>,
+    ghost are_tables: { AreTablesOf setup.now tables.now },
+    ghost width: { W.tables ≡ length tables.now },
+}

@@ -1,0 +1,84 @@
+//! Lists for each table: its seats, of which each worker takes one, and the references that come back.
+
+ghost use Rattle.std.specs.Prelude.{◌≡◌, ◌+◌, ◌≤◌, ◌<◌, ℕ, All, IfOk, length, slice_index, vec_capacity, vec_len};
+ghost use Rattle.tcp_relay.specs.Seating.{HaveEach, HaveFew, HaveRoom};
+
+use sequence::NoMemory;
+use shard_seats::{Seat, TrackRef};
+use std::alloc::Global;
+
+/// So many empty lists, each with so many places.
+pub(crate) fn reserve_lists<T>(
+    alloc: Global,
+    count: usize,
+    places: usize,
+) -> Result<Vec<Vec<T>>, NoMemory>
+    ensures count { IfOk result (λ lists. length lists.items ≡ count) }
+    ensures places { IfOk result (λ lists. HaveEach 0 places lists.items) }
+{
+    let mut lists = Vec::with_capacity(alloc, count)?;
+    for _list in 0..count {
+        match Vec::with_capacity(alloc, places) {
+            Ok(list) => lists.push_reserved(list),
+            Err(_) => {
+                discard_lists(lists);
+                return Err(NoMemory);
+            }
+        }
+    }
+    Ok(lists)
+}
+
+/// Frees empty lists, also of what can't be dropped.
+pub(crate) fn discard_lists<T>(mut lists: Vec<Vec<T>>)
+    requires { All (λ list. vec_len list ≡ 0) lists.items }
+{
+    while let Some(list) = lists.pop() {
+        list.destroy_empty();
+    }
+    lists.destroy_empty();
+}
+
+/// One seat of each table, in a row of their own.
+pub(crate) fn take_row(seats: &mut Vec<Vec<Seat>>, mut row: Vec<Seat>) -> Vec<Seat>
+    requires some { All (λ list. 1 ≤ vec_len list) seats.old.items }
+    requires empty { vec_len row ≡ 0 }
+    requires room { length seats.old.items ≤ vec_capacity row }
+    ensures row { vec_len result ≡ length seats.old.items }
+    ensures tables { length seats.new.items ≡ length seats.old.items }
+    ensures fewer { (count places : ℕ) → HaveEach (count + 1) places seats.old.items → HaveEach count places seats.new.items }
+{
+    for place in 0..seats.as_slice().len() {
+        let list = &mut seats[place];
+        let Some(seat) = list.pop() else {
+            unreachable!();
+        };
+        row.push_reserved(seat);
+    }
+    row
+}
+
+/// Puts the seats of a row back, each to its table.
+pub(crate) fn put_row(seats: &mut Vec<Vec<Seat>>, mut row: Vec<Seat>)
+    requires room { HaveRoom 1 seats.old.items }
+    requires row { vec_len row ≡ length seats.old.items }
+    ensures tables { length seats.new.items ≡ length seats.old.items }
+    ensures more { (count places : ℕ) → HaveEach count places seats.old.items → HaveEach (count + 1) places seats.new.items }
+{
+    while let Some(seat) = row.pop() {
+        let list = &mut seats[row.as_slice().len()];
+        list.push_reserved(seat);
+    }
+}
+
+/// Puts a reference to the others of its table.
+pub(crate) fn put_aside(refs: &mut Vec<Vec<TrackRef>>, table: u32, reference: TrackRef)
+    requires table { table < length refs.old.items }
+    requires room { HaveRoom 1 refs.old.items }
+    ensures tables { length refs.new.items ≡ length refs.old.items }
+    ensures more { (most places : ℕ) → HaveFew most places refs.old.items → HaveFew (most + 1) places refs.new.items }
+    ensures room { (spare : ℕ) → HaveRoom (spare + 1) refs.old.items → HaveRoom spare refs.new.items }
+{
+    let list = &mut refs[table as usize];
+    list.push_reserved(reference);
+}

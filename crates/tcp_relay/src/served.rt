@@ -1,0 +1,30 @@
+//! What serving comes to.
+
+use shard_seats::{Seat, TrackRef};
+
+/// What was served: how many connections were admitted and rejected, each count stopping at 2^64 - 1; the seats of each
+/// table, with their calls; and the references of each table that couldn't be given back. It can't be dropped, as references
+/// can't.
+pub struct Served {
+    pub admitted: u64,
+    pub rejected: u64,
+    pub seats: Vec<Vec<Seat>>,
+    pub refs: Vec<Vec<TrackRef>>,
+}
+
+/// Why serving ended with a fault.
+#[derive(Clone, Copy, Debug, PartialEq, Eq)]
+pub enum FaultKind {
+    /// A connection couldn't be accepted.
+    Accept,
+    /// A worker's thread couldn't be started.
+    Thread,
+    /// There was no memory for what serving needs. No worker was started.
+    NoMemory,
+}
+
+/// A fault, and what was served all the same. It is told once all workers that were started have ended.
+pub struct ServeFault {
+    pub kind: FaultKind,
+    pub served: Served,
+}
