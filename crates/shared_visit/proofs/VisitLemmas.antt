@@ -1,5 +1,5 @@
 -- A connection goes on, one move after another, each at a moment of its own.
-use Rattle.std.proofs.Common.{◌≡◌, ◌≢◌, ◌<◌, ◌^◌, ℕ, zero, suc, refl, sym, ap, subst, ◌∙◌, true, false, List, length, Option, Some, None, is_some, is_none, slice_get, arith}
+use Rattle.std.proofs.Common.{◌≡◌, ◌≢◌, ◌<◌, ◌^◌, ℕ, zero, suc, refl, sym, ap, subst, ◌∙◌, true, false, List, Option, Some, None, is_some, is_none, slice_get, arith}
 use Rattle.stored_data.specs.declared.act.Act.{Act}
 use Rattle.shard_seats.specs.SeatState.{RefState, SeatState}
 use Rattle.shard_locks.specs.ShardsState.{ShardsState}
@@ -8,16 +8,13 @@ use Rattle.rule_eval.specs.declared.wants.Want.TheVariants as wants
 use Rattle.rule_eval.specs.declared.wants.Verdict.TheVariants.{Accept, Reject}
 use Rattle.rule_model.specs.declared.actions.Slot.{Slot}
 use Rattle.rule_model.specs.declared.sections.Setup.{Setup}
-use Rattle.admit_core.specs.Conn.{judged_by, needed, progress_of, wanted, Stands}
-use Rattle.admit_core.specs.Connection.{Connection, Progress, counting, is_judged, judging, need, need_given, need_in, need_of, released_of, sessions}
+use Rattle.admit_core.specs.Conn.{needed, progress_of, wanted, Stands}
+use Rattle.admit_core.specs.Connection.{Connection, Progress, counting, is_judged, judging, need, released_of, sessions}
 use Rattle.admit_core.specs.Held.{holding}
 use Rattle.admit_core.specs.Left.{is_still}
 use Rattle.admit_core.proofs.ConnLemmas.{judged_need}
 use Rattle.admit_core.specs.declared.conn.Conn.{Conn}
-use Rattle.admit_core.specs.declared.need.Need.{Need}
 use Rattle.admit_core.specs.declared.need.Need.TheVariants.{Turn}
-use Rattle.admit_core.specs.declared.need.Phase.{Phase}
-use Rattle.admit_core.specs.declared.need.Phase.TheVariants.{New, Judging, Admitted, Rejected, Ended}
 use Rattle.connection_drive.proofs.MakeLemmas.{need_same}
 use Rattle.shared_drive.specs.DriveCode.{HasMoved, IsReady}
 use Rattle.shared_drive.specs.Moves.{Moves}
@@ -25,7 +22,7 @@ use Rattle.shared_drive.specs.Tables.{AreShared}
 use Rattle.shared_drive.specs.declared.moved.Moved.{Moved}
 use Rattle.shared_drive.specs.declared.moved.Moved.TheVariants.{Kept}
 use Rattle.shared_drive.specs.declared.moved.Rested.TheVariants as rests
-use Rattle.shared_visit.specs.Visit.{Goes, HasGone, HasRested}
+use Rattle.shared_visit.specs.Visit.{Goes, GoesJudged, HasGone, HasGoneJudged, HasRested}
 
 -- one move more
 goes_more : (now : ℕ) → now < 2 ^ 62 → (tables : List ShardsState) (count : ℕ) (old middle new : List SeatState) (connection next after : Connection RefState) (moved : Moved) → Goes tables count old connection middle next → Moves now tables middle next new after moved
@@ -114,6 +111,41 @@ never_kept now tables old new conn later ready judged moves =
     let wants_same : need connection ≡ judging (wanted conn) (progress_of conn) = sym (need_same conn connection stands) ∙ needs_judging conn ready.given judged in
     let none : released_of (need connection) connection.progress ≡ None = (λ k. released_of (wants_same k) (sym stands.progress k)) ∙ judging_keeps (wanted conn) (progress_of conn) in
     some_none one.2.0 (sym none ∙ one.2.1)
+
+-- so it goes on while it is judged, one move more
+goes_judged_more : (now : ℕ) → now < 2 ^ 62 → (tables : List ShardsState) (count : ℕ) (old middle new : List SeatState) (connection next after : Connection RefState) (moved : Moved) → is_judged next.progress.phase ≡ true → moved ≢ Kept
+    → GoesJudged tables count old connection middle next → Moves now tables middle next new after moved → GoesJudged tables (suc count) old connection new after
+goes_judged_more now moment tables zero old middle new connection next after moved judged goes_on goes moves = (
+  subst (λ (c : Connection RefState). is_judged c.progress.phase ≡ true) goes.1 judged,
+  now,
+  moment,
+  new,
+  after,
+  moved,
+  goes_on,
+  subst (λ (seats : List SeatState). Moves now tables seats connection new after moved) goes.0 (subst (λ (c : Connection RefState). Moves now tables middle c new after moved) goes.1 moves),
+  (refl, refl),
+)
+goes_judged_more now moment tables (suc count) old middle new connection next after moved judged goes_on goes moves = (
+  goes.0,
+  goes.1,
+  goes.2,
+  goes.3,
+  goes.4,
+  goes.5,
+  goes.6,
+  goes.7,
+  goes_judged_more now moment tables count goes.3 middle new goes.4 next after moved judged goes_on goes.8 moves,
+)
+
+pub judged_more : (now : ℕ) → now < 2 ^ 62 → (tables : List ShardsState) (old middle new : List SeatState) (conn next later : Conn RefState) (moved : Moved) → IsReady tables middle next → is_judged (progress_of next).phase ≡ true
+    → HasGoneJudged tables old conn middle next → HasMoved now tables middle next new later moved → HasGoneJudged tables old conn new later
+judged_more now moment tables old middle new conn next later moved ready judged gone moves connection stands =
+    let so_far = gone connection stands in
+    let one = moves so_far.1 so_far.2 in
+    let still_judged : is_judged so_far.1.progress.phase ≡ true = subst (λ (p : Progress RefState). is_judged p.phase ≡ true) so_far.2.progress judged in
+    let goes_on : moved ≢ Kept = λ kept. never_kept now tables middle new next later ready judged (subst (λ (m : Moved). HasMoved now tables middle next new later m) kept moves) in
+    (suc so_far.0, one.0, one.1, goes_judged_more now moment tables so_far.0 old middle new connection so_far.1 one.0 moved still_judged goes_on so_far.3 one.2)
 
 -- ---- the tables and their seats
 

@@ -8,7 +8,7 @@ ghost use Rattle.admit_core.specs.Left.{is_rest};
 ghost use Rattle.admit_core.specs.declared.need.Need.TheVariants.{Rest};
 ghost use Rattle.shared_drive.specs.DriveCode.{IsReady};
 ghost use Rattle.shared_drive.specs.Tables.{AreShared};
-ghost use Rattle.shared_visit.specs.Visit.{HasGone, HasRested};
+ghost use Rattle.shared_visit.specs.Visit.{HasGoneJudged, HasRested};
 
 use admit_core::{Conn, Phase};
 use moments::Clock;
@@ -57,7 +57,7 @@ pub fn judge<T: Table, C: Clock>(
 ) -> bool
     requires ready { IsReady tables.now seats.old conn.old }
     ensures ready { IsReady tables.now seats.new conn.new }
-    ensures gone { HasGone tables.now seats.old conn.old seats.new conn.new }
+    ensures gone { HasGoneJudged tables.now seats.old conn.old seats.new conn.new }
     ensures judged { is_being_judged (progress_of conn.new).phase ≡ false }
     ensures admitted { result ≡ is_rest (needed conn.new) }
     ensures rests { result ≡ true → needed conn.new ≡ Rest }

@@ -1,10 +1,10 @@
-use Rattle.std.proofs.Common.{◌≡◌, ℕ, sym, subst, List, length, None, Some}
+use Rattle.std.proofs.Common.{◌≡◌, ℕ, sym, subst, length, None, Some}
 use Rattle.rule_model.specs.declared.sections.Setup.{Setup}
 use Rattle.rule_model.specs.declared.actions.Slot.TheVariants.{Sc0, Sc1, Sc2}
 use Rattle.admit_core.specs.Connection.{arrived, Progress}
 use Rattle.connection_drive.proofs.MakeLemmas.{setup_same}
 use Rattle.shard_seats.specs.SeatState.{RefState}
-use Rattle.admit_core.specs.Held.{held_at, nothing_held}
+use Rattle.admit_core.specs.Held.{nothing_held}
 use Rattle.shared_drive.specs.Tables.{AreShared, HoldsOf}
 use Rattle.shared_visit.proofs.visit.arrive.Goals as goal
 

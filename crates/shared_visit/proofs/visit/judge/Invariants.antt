@@ -1,12 +1,12 @@
 use Rattle.shared_drive.specs.DriveCode.{IsReady, moves_left}
-use Rattle.shared_visit.specs.Visit.{HasGone}
+use Rattle.shared_visit.specs.Visit.{HasGoneJudged}
 use Rattle.shared_visit.proofs.visit.judge.Given as goal
 
 -- it has gone on so far, and is ready to go on
 abbrev pub invariant-loop-alloc : goal.invariant-loop-alloc
 invariant-loop-alloc g l = record {
   ready : IsReady l.tables l.seats l.conn;
-  gone : HasGone l.tables l.fn.seats l.fn.conn l.seats l.conn;
+  gone : HasGoneJudged l.tables l.fn.seats l.fn.conn l.seats l.conn;
 }
 
 abbrev pub decreases-loop-alloc : goal.decreases-loop-alloc

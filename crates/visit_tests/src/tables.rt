@@ -1,0 +1,120 @@
+//! A table in two shards, and what it shows of one address.
+
+ghost use Rattle.std.specs.Prelude.{◌≡◌, IfOk};
+ghost use Rattle.table_model.specs.Limits.{IsTableSpec};
+
+use sequence::NoMemory;
+use shard_locks::Shards;
+use shard_seats::Seat;
+use std::alloc::Global;
+use std::sync::Wait;
+use stick_key::{KeyType, Sample, StickKey, convert, shard_of};
+use stick_table::{Event, PlainTable, Reply, Row};
+use stored_data::{Column, Datum, StoredSet};
+use table_model::Spec;
+
+/// The address that connections come from.
+pub const HOST: [u8; 4] = [10, 0, 0, 1];
+
+/// The data that the table stores.
+const DATA: [Datum; 4] = [
+    Datum::ConnCur,
+    Datum::SessCnt,
+    Datum::BytesInCnt,
+    Datum::BytesOutCnt,
+];
+
+/// What a table of 10 addresses is made with, whose entries expire 1,000 ms after they were refreshed.
+pub fn spec(alloc: Global) -> Result<Spec, NoMemory>
+    ensures limits { IfOk result IsTableSpec }
+    ensures size { IfOk result (λ spec. spec.size ≡ 10) }
+{
+    let mut columns = StoredSet::new(alloc);
+    for datum in DATA {
+        if !columns.holds(datum) {
+            columns.add(Column { datum, period: 0 })?;
+        }
+    }
+    Ok(Spec {
+        kind: KeyType::Ip,
+        size: 10,
+        expire: Some(1_000),
+        nopurge: false,
+        columns,
+        max_refs: 10,
+        life: 1_000,
+        seed: 0,
+    })
+}
+
+/// An empty table in two shards, and its only seat.
+pub fn open(alloc: Global) -> Result<(Shards<PlainTable>, Seat), NoMemory>
+    ensures { IfOk result (λ opened. opened.0.shards ≡ 2) }
+{
+    let (table, mut seats) = Shards::new(alloc, spec(alloc)?, 2, 1, false)?;
+    match seats.pop() {
+        Some(seat) => Ok((table, seat)),
+        None => Err(NoMemory),
+    }
+}
+
+/// How many calls of a seat were answered.
+pub fn calls(seat: &Seat) -> u64 {
+    seat.calls(0).saturating_add(seat.calls(1))
+}
+
+fn key(alloc: Global) -> Result<StickKey, NoMemory> {
+    match convert(alloc, &Sample::V4(HOST), KeyType::Ip) {
+        Ok(Some(key)) => Ok(key),
+        _ => Err(NoMemory),
+    }
+}
+
+/// Whether a row shows a value of a datum.
+fn has(row: &Row, datum: Datum, value: u64) -> bool {
+    row.cells
+        .as_slice()
+        .iter()
+        .any(|cell| cell.datum == datum && cell.value == value)
+}
+
+/// What a row is to show.
+#[derive(Clone, Copy)]
+pub struct Wanted {
+    /// How many references there are, and connections now.
+    pub current: u32,
+    /// How many ms it has left.
+    pub left: u64,
+    pub sessions: u64,
+    pub bytes_in: u64,
+    pub bytes_out: u64,
+}
+
+impl Wanted {
+    fn is_shown_by(self, row: &Row) -> bool {
+        row.refs == self.current
+            && row.left == self.left
+            && has(row, Datum::ConnCur, u64::from(self.current))
+            && has(row, Datum::SessCnt, self.sessions)
+            && has(row, Datum::BytesInCnt, self.bytes_in)
+            && has(row, Datum::BytesOutCnt, self.bytes_out)
+    }
+}
+
+/// Whether the table shows that of the address at 500 ms.
+pub fn shows(
+    rt: &impl Wait,
+    alloc: Global,
+    table: &Shards<PlainTable>,
+    seat: &mut Seat,
+    wanted: Wanted,
+) -> bool {
+    let Ok(key) = key(alloc) else {
+        return false;
+    };
+    let shard = shard_of(&key, table.shards());
+    match table.call(rt, seat, shard, Event::Get(500, key)) {
+        Ok(Reply::Row(row)) => wanted.is_shown_by(&row),
+        _ => false,
+    }
+}
