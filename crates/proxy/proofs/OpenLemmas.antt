@@ -48,7 +48,7 @@ pub declared_served : (setup : Setup) (keep : Bool) (tables : List ShardsState) 
 declared_served setup keep tables declared = record {
   count = sym (length-map tables but_for_seed) ∙ ap length declared ∙ length-map setup.tables (declared_table setup.shards keep);
   shards = λ i table at. in_shards setup.shards keep (slice_get setup.tables i) table
-    (sym (slice_get-map (declared_table setup.shards keep) setup.tables i) ∙ sym (ap (λ items. slice_get items i) declared) ∙ slice_get-map but_for_seed tables i ∙ ap (option_map but_for_seed) at);
+      (sym (slice_get-map (declared_table setup.shards keep) setup.tables i) ∙ sym (ap (λ items. slice_get items i) declared) ∙ slice_get-map but_for_seed tables i ∙ ap (option_map but_for_seed) at);
 }
 
 -- and so many seats of each go to the threads that serve

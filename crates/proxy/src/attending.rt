@@ -17,6 +17,7 @@ use table_cli::CommandService;
 
 /// How many naps are taken between two rounds of housekeeping, each of so many ms: the stop is looked for after each.
 const NAPS: u32 = 20;
+
 const NAP: u64 = 50;
 
 /// What a thread beside the listener does.
@@ -112,7 +113,14 @@ fn keep_house<T: Table, R: ProxyRuntime>(floor: &Floor<'_, T, R>, seats: Vec<Sea
         rolled,
         refused,
         seats,
-    } = housekeep(floor.rt, floor.tables, seats, &mut clock, &pace, floor.roll_at);
+    } = housekeep(
+        floor.rt,
+        floor.tables,
+        seats,
+        &mut clock,
+        &pace,
+        floor.roll_at,
+    );
     info!(floor.rt; "housekeeping: {rounds} rounds, {rolled} records began again, {refused} refusals");
     seats
 }

@@ -16,15 +16,16 @@ use std::time::{Clock, Instant};
 use stick_table::Table;
 
 /// What the proxy asks of the system: sockets, threads, locks, a clock and a log.
-pub trait ProxyRuntime:
-    Net<Listener = TcpListener, Stream = TcpStream> + Threads + Wait + Clock + Log + Sync
-{
-}
+pub trait ProxyRuntime: Net<Listener = TcpListener, Stream = TcpStream>
+    + Threads
+    + Wait
+    + Clock
+    + Log
+    + Sync {}
 
-impl<R: Net<Listener = TcpListener, Stream = TcpStream> + Threads + Wait + Clock + Log + Sync>
-    ProxyRuntime for R
-{
-}
+impl<
+    R: Net<Listener = TcpListener, Stream = TcpStream> + Threads + Wait + Clock + Log + Sync,
+> ProxyRuntime for R {}
 
 /// What the threads of the proxy share, each by reference: the tables of its setup, its sockets, and whether it stops.
 #[derive(Drop)]

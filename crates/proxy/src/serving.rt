@@ -67,14 +67,18 @@ pub(crate) fn serve_all<T: Table + Send, R: ProxyRuntime>(
 ) -> Result<Served, ServeFault>
     requires seats { AreSeats (length floor.now.tables.now) floor.now.threads seats }
 {
-    thread::scope(thread::scope_env(), floor.rt, |scope| -> Result<Served, ServeFault>
-        requires seats { AreSeats (length floor.now.tables.now) floor.now.threads seats }
-    {
-        let all_started = start_all(scope, floor, attendants);
-        let served = serve_where(floor, seats, all_started);
-        stop_all(floor);
-        served
-    })
+    thread::scope(
+        thread::scope_env(),
+        floor.rt,
+        |scope| -> Result<Served, ServeFault>
+            requires seats { AreSeats (length floor.now.tables.now) floor.now.threads seats }
+        {
+            let all_started = start_all(scope, floor, attendants);
+            let served = serve_where(floor, seats, all_started);
+            stop_all(floor);
+            served
+        },
+    )
 }
 
 /// Serves connections, where all threads beside the listener could be started.

@@ -142,7 +142,10 @@ pub fn read_plan<'a>(arguments: &ArgMatches<'a>) -> Plan<'a>
 {
     Plan {
         socket: arguments.get_str("socket").unwrap_or(""),
-        threads: arguments.get_one::<u32>("threads").unwrap_or(1).clamp(1, 64),
+        threads: arguments
+            .get_one::<u32>("threads")
+            .unwrap_or(1)
+            .clamp(1, 64),
         stop_after: arguments.get_one::<u64>("stop-after"),
         roll_at: u64::from(arguments.get_one::<u32>("roll-at").unwrap_or(65_536)),
     }

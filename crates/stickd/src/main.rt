@@ -72,10 +72,7 @@ fn run<
         + Print
         + Eprint
         + AllocGlobal,
->(
-    rt: &R,
-    words: Result<Vec<String>, WordsFault>,
-) -> io::Result<ExitCode> {
+>(rt: &R, words: Result<Vec<String>, WordsFault>) -> io::Result<ExitCode> {
     let words = match words {
         Ok(words) => words,
         Err(WordsFault::NotUtf8) => {
@@ -97,9 +94,7 @@ fn run<
 }
 
 /// Does what a command asks. The status is 1 where that fails, which is then said on standard error.
-fn run_command<
-    R: ProxyRuntime + RandomSource + Files + Input + Print + Eprint + AllocGlobal,
->(
+fn run_command<R: ProxyRuntime + RandomSource + Files + Input + Print + Eprint + AllocGlobal>(
     rt: &R,
     matches: &ArgMatches<'_>,
 ) -> io::Result<ExitCode> {

@@ -7,13 +7,13 @@ use Rattle.proxy.proofs.opening.open_tables.Goals as goal
 
 pub loop-named-preserved : goal.loop-named-preserved
 loop-named-preserved g c =
-    let were = c.loop-named.invariant in
-    ( declared_more c.args.setup.now.shards c.args.keep c.as_slice-named-items.result.now c.loop-named.named-index c.named-item.result c.loop-named.opened.tables.items c.add.new.self.tables.items c.in_ok-one.one.table
-        were.0 c.loop-named-test.true c.named-item.is c.in_ok-one.ensures.table c.in_ok-add.ensures.tables
-    , one_more c.loop-named.opened.workers.items c.add.new.self.workers.items c.in_ok-one.one.workers c.loop-named.named-index were.1 c.in_ok-add.ensures.workers
-    , seats_more c.loop-named.opened.workers.items c.add.new.self.workers.items c.in_ok-one.one.workers c.args.workers were.2 c.in_ok-one.ensures.workers c.in_ok-add.ensures.workers
-    , one_more c.loop-named.opened.commands.items c.add.new.self.commands.items c.in_ok-one.one.commands c.loop-named.named-index were.3 c.in_ok-add.ensures.commands
-    , one_more c.loop-named.opened.keepers.items c.add.new.self.keepers.items c.in_ok-one.one.keeper c.loop-named.named-index were.4 c.in_ok-add.ensures.keepers
+    let were = c.loop-named.invariant in (
+      declared_more c.args.setup.now.shards c.args.keep c.as_slice-named-items.result.now c.loop-named.named-index c.named-item.result c.loop-named.opened.tables.items c.add.new.self.tables.items c.in_ok-one.one.table
+          were.0 c.loop-named-test.true c.named-item.is c.in_ok-one.ensures.table c.in_ok-add.ensures.tables,
+      one_more c.loop-named.opened.workers.items c.add.new.self.workers.items c.in_ok-one.one.workers c.loop-named.named-index were.1 c.in_ok-add.ensures.workers,
+      seats_more c.loop-named.opened.workers.items c.add.new.self.workers.items c.in_ok-one.one.workers c.args.workers were.2 c.in_ok-one.ensures.workers c.in_ok-add.ensures.workers,
+      one_more c.loop-named.opened.commands.items c.add.new.self.commands.items c.in_ok-one.one.commands c.loop-named.named-index were.3 c.in_ok-add.ensures.commands,
+      one_more c.loop-named.opened.keepers.items c.add.new.self.keepers.items c.in_ok-one.one.keeper c.loop-named.named-index were.4 c.in_ok-add.ensures.keepers,
     )
 
 pub returns-clause-served : goal.returns-clause-served
