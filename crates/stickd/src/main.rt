@@ -11,8 +11,7 @@ use clap::ArgMatches;
 use command_line::{read_command_line, read_plan, read_shards};
 use configuration::{open_setup, read_file};
 use log::Log;
-use pooled_table::StickTable;
-use proxy::{ProxyRuntime, run_proxy};
+use proxy::{ProxyRuntime, run_pooled};
 use script::{FaultKind, ReplayFault, replay_script};
 use std::net::{Net, TcpListener, TcpStream};
 use std::process::ExitCode;
@@ -154,7 +153,7 @@ fn serve<R: ProxyRuntime + RandomSource + Files + Print + Eprint + AllocGlobal>(
     let Some(setup) = open_setup(rt, path, read_shards(arguments))? else {
         return Ok(false);
     };
-    run_proxy::<StickTable, R>(rt.alloc(), rt, &setup, read_plan(arguments))
+    run_pooled(rt.alloc(), rt, &setup, read_plan(arguments))
 }
 
 /// Says on standard error why the replay stopped.
