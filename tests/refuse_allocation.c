@@ -3,6 +3,8 @@
 #include <stddef.h>
 #include <stdio.h>
 #include <stdlib.h>
+#include <sys/syscall.h>
+#include <unistd.h>
 
 extern void *__libc_malloc(size_t size);
 extern void *__libc_realloc(void *block, size_t size);
@@ -35,4 +37,12 @@ __attribute__((destructor)) static void tell(void)
         fprintf(file, "%ld\n", counted);
         fclose(file);
     }
+}
+
+/* A program that has threads ends by this call, with no destructor. */
+void _exit(int status)
+{
+    tell();
+    syscall(SYS_exit_group, status);
+    __builtin_unreachable();
 }

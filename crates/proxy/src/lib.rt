@@ -11,4 +11,4 @@ mod serving;
 
 pub use floor::ProxyRuntime;
 pub use plan::Plan;
-pub use running::run_proxy;
+pub use running::{run_pooled, run_proxy};

@@ -13,6 +13,7 @@ use crate::serving::serve_all;
 use address_text::Endpoint;
 use command_socket::bind_socket;
 use log::{Log, info};
+use pooled_table::StickTable;
 use rule_model::{Name, Setup};
 use sequence::NoMemory;
 use shard_locks::Shards;
@@ -187,6 +188,19 @@ fn make_attendants(
             seats: keepers,
         },
     ]
+}
+
+/// The same on pooled tables, of which an event costs the same whatever their size.
+pub fn run_pooled<R: ProxyRuntime + Files + RandomSource + Print + Eprint>(
+    alloc: Global,
+    rt: &R,
+    setup: &Setup,
+    plan: Plan<'_>,
+) -> io::Result<bool>
+    requires can_open { CanOpen setup.now }
+    requires threads { (1 ≤ plan.threads) × (plan.threads ≤ 64) }
+{
+    run_proxy::<StickTable, R>(alloc, rt, setup, plan)
 }
 
 /// Serves, and then settles the tables where receipts were kept.

@@ -3,6 +3,7 @@
 ghost use Rattle.std.specs.Prelude.{◌≤◌};
 
 use clap::{Arg, ArgMatches, Command, Error, value_parser};
+use proxy::Plan;
 use std::alloc::{AllocError, Global};
 
 /// What `stickd check --help` says last.
@@ -32,6 +33,17 @@ rejected by the rules of FILE. Without FILE there is one table, t, which has key
 type ip, 100 entries at most, and stores gpc0; each connection is tracked there by its
 client's address, and accepted.";
 
+/// What `stickd run --help` says last.
+const RUN_HELP: &str = "\
+Listens at the 'bind' of FILE's first frontend or listen section. Each connection is
+accepted or rejected by the section's rules, and relayed to its server. Commands, as
+'stickd replay --help' lists them, are answered on the socket, each on a line or parted
+by ';':
+  echo 'show table' | socat stdio /run/stickd.sock
+Moments are the milliseconds since the start. With --stop-after, once N connections have
+ended, 'settled NAME: C calls, R references' is printed for each table whose record is
+what its callers were told; or 'unsettled NAME: S1' and its kin, and the status is 1.";
+
 /// `stickd check`.
 fn check_command<'a>(alloc: Global) -> Result<Command<'a>, AllocError> {
     let file = Arg::new(alloc, "FILE")
@@ -48,17 +60,59 @@ fn replay_command<'a>(alloc: Global) -> Result<Command<'a>, AllocError> {
     let file = Arg::new(alloc, "FILE").help(
         "The configuration whose tables and rules are used [default: one table, t]",
     );
-    let shards = Arg::new(alloc, "shards")
-        .long("shards")
-        .value_name("K")
-        .value_parser(value_parser!(u32).range(1..=64))
-        .default_value("1")
-        .help("In how many parts each table is kept, 1 to 64");
     Command::new(alloc, "replay")
         .about("Replay a timed script of connections and commands on standard input")
         .after_help(REPLAY_HELP)
         .arg(file)?
-        .arg(shards)
+        .arg(shards_option(alloc))
+}
+
+/// The option that says in how many parts each table is kept.
+fn shards_option<'a>(alloc: Global) -> Arg<'a> {
+    Arg::new(alloc, "shards")
+        .long("shards")
+        .value_name("K")
+        .value_parser(value_parser!(u32).range(1..=64))
+        .default_value("1")
+        .help("In how many parts each table is kept, 1 to 64")
+}
+
+/// `stickd run`.
+fn run_command<'a>(alloc: Global) -> Result<Command<'a>, AllocError> {
+    let file = Arg::new(alloc, "FILE")
+        .required(true)
+        .help("The configuration");
+    let socket = Arg::new(alloc, "socket")
+        .long("socket")
+        .value_name("PATH")
+        .required(true)
+        .help("The Unix socket on which commands are answered");
+    let threads = Arg::new(alloc, "threads")
+        .long("threads")
+        .value_name("N")
+        .required(true)
+        .value_parser(value_parser!(u32).range(1..=64))
+        .help("How many connections are served at a time, 1 to 64");
+    let stop_after = Arg::new(alloc, "stop-after")
+        .long("stop-after")
+        .value_name("N")
+        .value_parser(value_parser!(u64))
+        .help("Stop once N connections have ended, and settle the tables");
+    let roll_at = Arg::new(alloc, "roll-at")
+        .long("roll-at")
+        .value_name("N")
+        .value_parser(value_parser!(u32).range(1..))
+        .default_value("65536")
+        .help("How many calls of a part of a table are recorded before its record begins again");
+    Command::new(alloc, "run")
+        .about("Run the proxy, and answer commands on a socket")
+        .after_help(RUN_HELP)
+        .arg(file)?
+        .arg(socket)?
+        .arg(threads)?
+        .arg(shards_option(alloc))?
+        .arg(stop_after)?
+        .arg(roll_at)
 }
 
 /// Reads the words of a command line, the program's name first.
@@ -69,7 +123,8 @@ pub fn read_command_line<'a>(alloc: Global, words: &'a [String]) -> Result<ArgMa
         .subcommand_required(true)
         .arg_required_else_help(true)
         .subcommand(check_command(alloc)?)?
-        .subcommand(replay_command(alloc)?)?;
+        .subcommand(replay_command(alloc)?)?
+        .subcommand(run_command(alloc)?)?;
     command.try_get_matches_from(words)
 }
 
@@ -79,4 +134,19 @@ pub fn read_shards(arguments: &ArgMatches<'_>) -> u32
     ensures few { result ≤ 64 }
 {
     arguments.get_one::<u32>("shards").unwrap_or(1).clamp(1, 64)
+}
+
+/// What `stickd run` is asked. That its numbers are in their ranges was seen as the command line was read.
+pub fn read_plan<'a>(arguments: &ArgMatches<'a>) -> Plan<'a>
+    ensures { (1 ≤ result.threads) × (result.threads ≤ 64) }
+{
+    Plan {
+        socket: arguments.get_str("socket").unwrap_or(""),
+        threads: arguments
+            .get_one::<u32>("threads")
+            .unwrap_or(1)
+            .clamp(1, 64),
+        stop_after: arguments.get_one::<u64>("stop-after"),
+        roll_at: u64::from(arguments.get_one::<u32>("roll-at").unwrap_or(65_536)),
+    }
 }

@@ -8,18 +8,26 @@ mod configuration;
 
 use byte_ports::{StreamSink, StreamSource};
 use clap::ArgMatches;
-use command_line::{read_command_line, read_shards};
+use command_line::{read_command_line, read_plan, read_shards};
 use configuration::{open_setup, read_file};
+use log::Log;
+use proxy::{ProxyRuntime, run_pooled};
 use script::{FaultKind, ReplayFault, replay_script};
+use std::net::{Net, TcpListener, TcpStream};
 use std::process::ExitCode;
+use std::random::RandomSource;
 use std::rt::Files;
+use std::sync::Wait;
+use std::thread::Threads;
+use std::time::Clock;
 use std::{env, io};
 
 /// The status of a bad command line.
 const BAD_COMMAND_LINE: u8 = 2;
 
 fn main(rt: HostRuntime) -> ExitCode {
-    match run(&rt) {
+    let words = collect_words(&rt);
+    match run(&rt, words) {
         Ok(status) => status,
         Err(reason) => {
             // Where standard error can't be written either, the status alone tells.
@@ -48,9 +56,23 @@ fn collect_words(rt: &HostRuntime) -> Result<Vec<String>, WordsFault> {
     }
 }
 
-/// Does what the command line asks, and answers the status. An error is one of writing.
-fn run(rt: &HostRuntime) -> io::Result<ExitCode> {
-    let words = match collect_words(rt) {
+/// Does what the command line asks, and answers the status. An error is one of writing. The bounds are a `ProxyRuntime`'s,
+/// one by one: no proof covers that trait at the runtime itself.
+fn run<
+    R: Net<Listener = TcpListener, Stream = TcpStream>
+        + Threads
+        + Wait
+        + Clock
+        + Log
+        + Sync
+        + RandomSource
+        + Files
+        + Input
+        + Print
+        + Eprint
+        + AllocGlobal,
+>(rt: &R, words: Result<Vec<String>, WordsFault>) -> io::Result<ExitCode> {
+    let words = match words {
         Ok(words) => words,
         Err(WordsFault::NotUtf8) => {
             eprintln!(rt; "stickd: a word of the command line isn't UTF-8")?;
@@ -71,12 +93,13 @@ fn run(rt: &HostRuntime) -> io::Result<ExitCode> {
 }
 
 /// Does what a command asks. The status is 1 where that fails, which is then said on standard error.
-fn run_command<R: Files + Input + Print + Eprint + AllocGlobal>(
+fn run_command<R: ProxyRuntime + RandomSource + Files + Input + Print + Eprint + AllocGlobal>(
     rt: &R,
     matches: &ArgMatches<'_>,
 ) -> io::Result<ExitCode> {
     let done = match matches.subcommand() {
         Some(("check", arguments)) => check(rt, arguments.get_str("FILE").unwrap_or(""))?,
+        Some(("run", arguments)) => serve(rt, arguments)?,
         Some((_, arguments)) => replay(rt, arguments.get_str("FILE"), read_shards(arguments))?,
         None => false,
     };
@@ -119,6 +142,18 @@ fn replay<R: Files + Input + Print + Eprint + AllocGlobal>(
             Ok(false)
         }
     }
+}
+
+/// Runs the proxy of a configuration, each of its tables in so many shards.
+fn serve<R: ProxyRuntime + RandomSource + Files + Print + Eprint + AllocGlobal>(
+    rt: &R,
+    arguments: &ArgMatches<'_>,
+) -> io::Result<bool> {
+    let path = arguments.get_str("FILE");
+    let Some(setup) = open_setup(rt, path, read_shards(arguments))? else {
+        return Ok(false);
+    };
+    run_pooled(rt.alloc(), rt, &setup, read_plan(arguments))
 }
 
 /// Says on standard error why the replay stopped.

@@ -1,0 +1,43 @@
+#!/usr/bin/env bash
+# Runs the proxy on a limit of two connections for each address, beside a server that greets and then waits: the third client
+# is turned away, and the table is shown. Wants python3 and the built program, crates/stickd/out/stickd.
+set -euo pipefail
+cd "$(dirname "$0")/.."
+room=$(mktemp -d)
+trap 'kill $(jobs -p) 2>/dev/null || true; rm -rf "$room"' EXIT
+cat > "$room/limit.cfg" <<'CONFIGURATION'
+listen www
+    bind 127.0.0.1:8480
+    stick-table type ip size 100k expire 10m store conn_cur,conn_cnt
+    tcp-request connection track-sc0 src
+    tcp-request connection reject if { sc0_conn_cur gt 2 }
+    server greeter 127.0.0.1:8481
+CONFIGURATION
+python3 - <<'SERVER' &
+import socketserver
+class Greeter(socketserver.BaseRequestHandler):
+    def handle(self):
+        self.request.sendall(b'welcome\n')
+        self.request.recv(1)
+socketserver.ThreadingTCPServer.allow_reuse_address = True
+socketserver.ThreadingTCPServer(('127.0.0.1', 8481), Greeter).serve_forever()
+SERVER
+crates/stickd/out/stickd run "$room/limit.cfg" --socket "$room/stickd.sock" --threads 4 &
+python3 - "$room/stickd.sock" <<'CLIENTS'
+import socket, sys, time
+for _ in range(100):
+    try:
+        socket.create_connection(('127.0.0.1', 8481)).close()
+        commands = socket.socket(socket.AF_UNIX)
+        commands.connect(sys.argv[1])
+        break
+    except OSError:
+        time.sleep(0.1)
+clients = [socket.create_connection(('127.0.0.1', 8480)) for _ in range(3)]
+for number, client in enumerate(clients, 1):
+    client.settimeout(5)
+    print(f'client {number}:', client.recv(100).decode().strip() or 'turned away')
+commands.sendall(b'show table www\n')
+commands.shutdown(socket.SHUT_WR)
+print(commands.makefile().read().strip())
+CLIENTS
