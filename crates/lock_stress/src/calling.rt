@@ -9,7 +9,7 @@ use std::alloc::Global;
 use std::sync::Wait;
 use std::thread;
 use std::thread::Threads;
-use stick_table::{PlainTable, Refusal};
+use stick_table::{Refusal, Table};
 
 /// One call of so many lists all shards.
 const LISTED: u32 = 64;
@@ -25,12 +25,12 @@ pub struct Called {
 }
 
 /// The caller of a seat, with a seed of its own.
-pub fn caller_of<'a>(
+pub fn caller_of<'a, T: Table>(
     alloc: Global,
-    table: &'a Shards<PlainTable>,
+    table: &'a Shards<T>,
     seat: Seat,
     seed: u32,
-) -> Caller<'a, PlainTable> {
+) -> Caller<'a, T> {
     let drawing = Drawing {
         seed: u64::from(seed) << 32 | u64::from(seat.number()),
         keys: 1_000,
@@ -40,9 +40,9 @@ pub fn caller_of<'a>(
 }
 
 /// The calls of one caller, one in 64 of them a listing of all shards; answers how many references it gave back then.
-fn call_often(
+fn call_often<T: Table>(
     rt: &impl Wait,
-    caller: &mut Caller<'_, PlainTable>,
+    caller: &mut Caller<'_, T>,
     calls: u32,
     progress: &Progress,
 ) -> Result<u64, Refusal> {
@@ -59,10 +59,10 @@ fn call_often(
 }
 
 /// All calls of one seat.
-fn call_to_end(
+fn call_to_end<T: Table>(
     rt: &impl Wait,
     alloc: Global,
-    table: &Shards<PlainTable>,
+    table: &Shards<T>,
     seat: Seat,
     calls: u32,
     seed: u32,
@@ -81,10 +81,10 @@ fn call_to_end(
 }
 
 /// Has all seats call at once; they come back in their order, with the number of references that were given back at the end.
-pub fn call_all<R: Threads + Wait + Sync>(
+pub fn call_all<T: Table + Send, R: Threads + Wait + Sync>(
     rt: &R,
     alloc: Global,
-    table: &Shards<PlainTable>,
+    table: &Shards<T>,
     seats: Vec<Seat>,
     plan: Plan,
     seed: u32,

@@ -6,7 +6,7 @@ use shard_locks::Shards;
 use shard_seats::Seat;
 use std::alloc::Global;
 use std::sync::Wait;
-use stick_table::{Event, PlainTable, Refusal};
+use stick_table::{Event, Refusal, Table};
 
 /// The seats of a table, and the references that their callers hold.
 #[derive(Drop)]
@@ -16,10 +16,10 @@ pub struct Shown {
 }
 
 /// Has a caller ask so often for what has expired, and track the key of a number, if there is one.
-fn close_caller(
+fn close_caller<T: Table>(
     rt: &impl Wait,
     alloc: Global,
-    caller: &mut Caller<'_, PlainTable>,
+    caller: &mut Caller<'_, T>,
     expires: u64,
     tracked: Option<u32>,
 ) -> Result<(), Refusal> {
@@ -34,10 +34,10 @@ fn close_caller(
 
 /// The callers have given all references back. Then every second one takes one, of a key of its own, and the first asks for what
 /// has expired, so often as is said.
-pub fn close(
+pub fn close<T: Table>(
     rt: &impl Wait,
     alloc: Global,
-    table: &Shards<PlainTable>,
+    table: &Shards<T>,
     seats: Vec<Seat>,
     expires: u64,
 ) -> Result<Shown, Refusal> {

@@ -1,6 +1,7 @@
 //! A stress test of tables in shards that threads share: each thread has a caller, which asks events of every kind, of random
 //! keys at random moments, and lists all shards at times. Then the references come back but for a few, and the table is
-//! settled: with receipts, or, without, while another thread rolls the records. Without arguments it makes a few calls.
+//! settled: with receipts, or, without, while another thread rolls the records. The tables are plain or pooled ones. Without
+//! arguments it makes a few calls.
 #![tactic(auto)]
 
 ghost use Rattle.std.specs.Prelude.{◌≤◌};
@@ -13,9 +14,9 @@ mod progress;
 mod rolling;
 mod rounds;
 
-use command_line::{HELP, Request, read_request};
+use command_line::{HELP, Request, Rounds, read_request};
 use plan::Plan;
-use rounds::run_round;
+use rounds::run_planned;
 use std::process::ExitCode;
 use std::rt::Clock;
 use std::sync::Wait;
@@ -34,7 +35,7 @@ fn print_round<R: Threads + Wait + Clock + Sync + Print + Eprint + AllocGlobal>(
     requires threads { (1 ≤ plan.threads) × (plan.threads ≤ 1024) }
     requires shards { (1 ≤ plan.shards) × (plan.shards ≤ 64) }
 {
-    match run_round(rt, rt.alloc(), plan, seed) {
+    match run_planned(rt, rt.alloc(), plan, seed) {
         Ok(ended) => {
             println!(rt; "{ended}")?;
             Ok(true)
@@ -49,9 +50,11 @@ fn print_round<R: Threads + Wait + Clock + Sync + Print + Eprint + AllocGlobal>(
 /// Runs a round of a few calls.
 fn print_small<R: Threads + Wait + Clock + Sync + Print + Eprint + AllocGlobal>(
     rt: &R,
+    pooled: bool,
     rolls: Option<u32>,
 ) -> io::Result<bool> {
     let plan = Plan {
+        pooled,
         threads: 4,
         shards: 2,
         calls: 250,
@@ -60,20 +63,33 @@ fn print_small<R: Threads + Wait + Clock + Sync + Print + Eprint + AllocGlobal>(
     print_round(rt, plan, 0)
 }
 
+/// Runs rounds of a few calls, of both kinds of table, with receipts and with rolls.
+fn print_all_small<R: Threads + Wait + Clock + Sync + Print + Eprint + AllocGlobal>(
+    rt: &R,
+) -> io::Result<bool> {
+    for pooled in [false, true] {
+        for rolls in [None, Some(20)] {
+            if !print_small(rt, pooled, rolls)? {
+                return Ok(false);
+            }
+        }
+    }
+    Ok(true)
+}
+
 /// Runs rounds of many calls, until one fails.
 fn print_rounds<R: Threads + Wait + Clock + Sync + Print + Eprint + AllocGlobal>(
     rt: &R,
-    calls: u32,
-    rounds: u32,
-    rolls: Option<u32>,
+    asked: Rounds,
 ) -> io::Result<bool> {
     let plan = Plan {
+        pooled: asked.pooled,
         threads: 64,
         shards: 8,
-        calls,
-        rolls,
+        calls: asked.calls,
+        rolls: asked.rolls,
     };
-    for seed in 0..rounds {
+    for seed in 0..asked.rounds {
         if !print_round(rt, plan, seed)? {
             return Ok(false);
         }
@@ -91,12 +107,8 @@ fn run<R: Threads + Wait + Clock + Sync + Print + Eprint + AllocGlobal>(
             println!(rt; "{HELP}")?;
             Ok(true)
         }
-        Request::Small => Ok(print_small(rt, None)? && print_small(rt, Some(20))?),
-        Request::Rounds {
-            calls,
-            rounds,
-            rolls,
-        } => print_rounds(rt, calls, rounds, rolls),
+        Request::Small => print_all_small(rt),
+        Request::Rounds(asked) => print_rounds(rt, asked),
     }
 }
 

@@ -8,7 +8,7 @@ use std::rt::Clock;
 use std::sync::Wait;
 use std::thread;
 use std::time::Duration;
-use stick_table::PlainTable;
+use stick_table::Table;
 
 /// The ms for which a roll waits at most.
 const PATIENCE: u32 = 60_000;
@@ -24,9 +24,9 @@ fn wait_for<R: Clock>(rt: &R, progress: &Progress, calls: u64, callers: u32) {
 }
 
 /// Rolls the record of each shard in turn, so often in all, evenly over the calls; answers how often it was done.
-pub fn roll_often<R: Wait + Clock>(
+pub fn roll_often<T: Table, R: Wait + Clock>(
     rt: &R,
-    table: &Shards<PlainTable>,
+    table: &Shards<T>,
     plan: Plan,
     progress: &Progress,
 ) -> Result<u32, NoMemory> {

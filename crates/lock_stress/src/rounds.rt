@@ -7,7 +7,8 @@ use crate::closing::{Shown, close};
 use crate::plan::Plan;
 use crate::progress::Progress;
 use crate::rolling::roll_often;
-use drawn_calls::{Held, abandon_all, references_of, spec};
+use drawn_calls::{abandon_all, references_of, spec};
+use pooled_table::StickTable;
 use sequence::NoMemory;
 use settlement::{Fault, Settled, Unsettled, settle};
 use shard_locks::Shards;
@@ -18,7 +19,7 @@ use std::rt::Clock;
 use std::sync::Wait;
 use std::thread::Threads;
 use std::{fmt, thread};
-use stick_table::{PlainTable, Refusal};
+use stick_table::{PlainTable, Refusal, Table};
 
 /// How many entries each shard has places for.
 const PLACES: u32 = 48;
@@ -90,10 +91,10 @@ struct Done {
 }
 
 /// The calls, and the rolls beside them. Where no thread can be made the rolls come behind the calls.
-fn call_and_roll<R: Threads + Wait + Clock + Sync>(
+fn call_and_roll<T: Table + Send, R: Threads + Wait + Clock + Sync>(
     rt: &R,
     alloc: Global,
-    table: &Shards<PlainTable>,
+    table: &Shards<T>,
     seats: Vec<Seat>,
     plan: Plan,
     seed: u32,
@@ -114,14 +115,14 @@ fn call_and_roll<R: Threads + Wait + Clock + Sync>(
 }
 
 /// Settles a table, its callers showing their seats and references.
-fn settle_with(
+fn settle_with<T: Table>(
     alloc: Global,
-    table: Shards<PlainTable>,
-    seats: Vec<Seat>,
-    held: &[Held],
+    table: Shards<T>,
+    shown: Shown,
     rolls: Option<u32>,
 ) -> Result<Ended, Trouble> {
-    match settle(alloc, table, seats, references_of(alloc, held)) {
+    let Shown { seats, held } = shown;
+    match settle(alloc, table, seats, references_of(alloc, &held)) {
         Ok(settled) => Ok(tally_of(&settled, rolls)),
         Err(unsettled) => {
             let Unsettled {
@@ -138,7 +139,7 @@ fn settle_with(
 }
 
 /// What a settled table has counted.
-fn tally_of(settled: &Settled<PlainTable>, rolls: Option<u32>) -> Ended {
+fn tally_of<T: Table>(settled: &Settled<T>, rolls: Option<u32>) -> Ended {
     let mut calls = 0u64;
     for count in settled.counts.iter() {
         calls = calls.saturating_add(*count);
@@ -154,9 +155,49 @@ fn tally_of(settled: &Settled<PlainTable>, rolls: Option<u32>) -> Ended {
     }
 }
 
-/// A round of a plan, whose numbers are drawn by this seed. For each reference that could have come back beside at the callers'
-/// end, one event is asked: how many calls there are doesn't depend on how the threads met.
-pub fn run_round<R: Threads + Wait + Clock + Sync>(
+/// The table of a plan, and the seats of its callers.
+fn open_table<T: Table>(alloc: Global, plan: Plan) -> Result<(Shards<T>, Vec<Seat>), Refusal>
+    requires threads { (1 ≤ plan.threads) × (plan.threads ≤ 1024) }
+    requires shards { (1 ≤ plan.shards) × (plan.shards ≤ 64) }
+{
+    let spec = spec(alloc, PLACES * plan.shards, REFERENCES, 1 << 62)?;
+    let keep = plan.rolls.is_none();
+    Ok(Shards::new(alloc, spec, plan.shards, plan.threads, keep)?)
+}
+
+/// Has the callers of a table end. For each reference that could have come back beside at their end, one event is asked: how
+/// many calls there are doesn't depend on how the threads met.
+fn close_all<T: Table>(
+    rt: &impl Wait,
+    alloc: Global,
+    table: &Shards<T>,
+    seats: Vec<Seat>,
+    released: u64,
+) -> Result<Shown, Refusal> {
+    let most = u64::from(REFERENCES) * u64::from(table.shards());
+    close(rt, alloc, table, seats, most.saturating_sub(released))
+}
+
+/// The calls of a round, the rolls beside them, and what the callers show at their end; with the number of rolls.
+fn call_and_close<T: Table + Send, R: Threads + Wait + Clock + Sync>(
+    rt: &R,
+    alloc: Global,
+    table: &Shards<T>,
+    seats: Vec<Seat>,
+    plan: Plan,
+    seed: u32,
+) -> Result<(Shown, u32), Refusal> {
+    let Done {
+        seats,
+        released,
+        rolled,
+    } = call_and_roll(rt, alloc, table, seats, plan, seed)?;
+    let shown = close_all(rt, alloc, table, seats, released)?;
+    Ok((shown, rolled))
+}
+
+/// A round of a plan on tables of this kind, whose numbers are drawn by this seed.
+fn run_round<T: Table + Send, R: Threads + Wait + Clock + Sync>(
     rt: &R,
     alloc: Global,
     plan: Plan,
@@ -165,24 +206,27 @@ pub fn run_round<R: Threads + Wait + Clock + Sync>(
     requires threads { (1 ≤ plan.threads) × (plan.threads ≤ 1024) }
     requires shards { (1 ≤ plan.shards) × (plan.shards ≤ 64) }
 {
-    let Plan {
-        threads,
-        shards,
-        rolls,
-        ..
-    } = plan;
-    let spec = spec(alloc, PLACES * shards, REFERENCES, 1 << 62)?;
-    let (table, seats) = Shards::<PlainTable>::new(alloc, spec, shards, threads, rolls.is_none())?;
-    let Done {
-        seats,
-        released,
-        rolled,
-    } = call_and_roll(rt, alloc, &table, seats, plan, seed)?;
-    let expires = u64::from(REFERENCES * shards).saturating_sub(released);
-    let Shown { seats, held } = close(rt, alloc, &table, seats, expires)?;
-    let rolls = match rolls {
+    let (table, seats) = open_table::<T>(alloc, plan)?;
+    let (shown, rolled) = call_and_close(rt, alloc, &table, seats, plan, seed)?;
+    let rolls = match plan.rolls {
         Some(_) => Some(rolled),
         None => None,
     };
-    settle_with(alloc, table, seats, &held, rolls)
+    settle_with(alloc, table, shown, rolls)
+}
+
+/// A round of a plan, whose numbers are drawn by this seed.
+pub fn run_planned<R: Threads + Wait + Clock + Sync>(
+    rt: &R,
+    alloc: Global,
+    plan: Plan,
+    seed: u32,
+) -> Result<Ended, Trouble>
+    requires threads { (1 ≤ plan.threads) × (plan.threads ≤ 1024) }
+    requires shards { (1 ≤ plan.shards) × (plan.shards ≤ 64) }
+{
+    if plan.pooled {
+        return run_round::<StickTable, R>(rt, alloc, plan, seed);
+    }
+    run_round::<PlainTable, R>(rt, alloc, plan, seed)
 }
