@@ -1,11 +1,8 @@
 //! The calls of a table in shards, one by one.
 
-ghost use Rattle.std.specs.Prelude.{◌≡◌, ◌≤◌, ◌<◌, IfOk};
-ghost use Rattle.table_model.specs.Limits.{IsTableEvent};
-
 use crate::tables::place;
 use drawn_calls::{Held, ask, key};
-use sequence::{NoMemory, Sequence};
+use sequence::Sequence;
 use shard_locks::{Listing, Shards};
 use shard_seats::Seat;
 use std::alloc::Global;
@@ -30,36 +27,106 @@ pub enum Call {
     Release,
 }
 
-/// The event of a call that is one.
-fn event_of(alloc: Global, call: Call, held: Held) -> Result<Event, NoMemory>
-    ensures { IfOk result IsTableEvent }
-{
+/// Puts gpc0 of the key of 5.
+fn put(
+    rt: &impl Wait,
+    alloc: Global,
+    table: &Shards<PlainTable>,
+    seat: &mut Seat,
+) -> Result<Reply, Refusal> {
     let key = key(alloc, 5)?;
+    let pair = Cell {
+        datum: Datum::Gpc0,
+        value: 3,
+    };
+    let pairs = Sequence::from_slice(alloc, &[pair])?;
+    ask(rt, table, seat, place(table, 0), Event::Put(0, key, pairs))
+}
+
+/// Tracks the key of a number at a moment.
+pub fn track(
+    rt: &impl Wait,
+    alloc: Global,
+    table: &Shards<PlainTable>,
+    seat: &mut Seat,
+    number: u32,
+    now: u32,
+) -> Result<Reply, Refusal> {
+    let key = key(alloc, number)?;
+    ask(
+        rt,
+        table,
+        seat,
+        place(table, 0),
+        Event::Track(u64::from(now), key),
+    )
+}
+
+/// Gets the key of a number at a moment.
+pub fn get(
+    rt: &impl Wait,
+    alloc: Global,
+    table: &Shards<PlainTable>,
+    seat: &mut Seat,
+    number: u32,
+    now: u32,
+) -> Result<Reply, Refusal> {
+    let key = key(alloc, number)?;
+    ask(
+        rt,
+        table,
+        seat,
+        place(table, 0),
+        Event::Get(u64::from(now), key),
+    )
+}
+
+/// Looks at a reference, counts by it, or gives it back.
+fn use_held(
+    rt: &impl Wait,
+    table: &Shards<PlainTable>,
+    seat: &mut Seat,
+    held: Held,
+    call: Call,
+) -> Result<Reply, Refusal> {
+    let event = match call {
+        Call::Look => Event::Look(20, held.ticket),
+        Call::Count => Event::Count(30, held.ticket, Act::IncGpc0),
+        _ => Event::Release(50, held.ticket),
+    };
+    ask(rt, table, seat, place(table, held.shard), event)
+}
+
+/// What a call that is an event is answered.
+fn reply_to(
+    rt: &impl Wait,
+    alloc: Global,
+    table: &Shards<PlainTable>,
+    seat: &mut Seat,
+    held: Held,
+    call: Call,
+) -> Result<Reply, Refusal> {
     match call {
-        Call::Put => {
-            let pair = Cell {
-                datum: Datum::Gpc0,
-                value: 3,
-            };
-            Ok(Event::Put(0, key, Sequence::from_slice(alloc, &[pair])?))
-        }
-        Call::Track => Ok(Event::Track(10, key)),
-        Call::Look => Ok(Event::Look(20, held.ticket)),
-        Call::Count => Ok(Event::Count(30, held.ticket, Act::IncGpc0)),
-        Call::Release => Ok(Event::Release(50, held.ticket)),
-        _ => Ok(Event::Get(40, key)),
+        Call::Put => put(rt, alloc, table, seat),
+        Call::Track => track(rt, alloc, table, seat, 5, 10),
+        Call::Look | Call::Count | Call::Release => use_held(rt, table, seat, held, call),
+        _ => get(rt, alloc, table, seat, 5, 40),
     }
+}
+
+/// Whether a row shows a value of a datum.
+pub fn has(row: &Row, datum: Datum, value: u64) -> bool {
+    for cell in row.cells.as_slice() {
+        if cell.datum == datum && cell.value == value {
+            return true;
+        }
+    }
+    false
 }
 
 /// Whether a row shows a reference, so many ms left, and this gpc0.
 fn is_row(row: &Row, left: u64, gpc0: u64) -> bool {
-    row.refs == 1
-        && row.left == left
-        && row
-            .cells
-            .as_slice()
-            .iter()
-            .any(|cell| cell.datum == Datum::Gpc0 && cell.value == gpc0)
+    row.refs == 1 && row.left == left && has(row, Datum::Gpc0, gpc0)
 }
 
 /// Whether that is what a call has to be answered.
@@ -75,7 +142,17 @@ fn is_wanted(call: Call, reply: &Reply) -> bool {
     }
 }
 
-/// Asks the event of a call; answers whether it is answered as it has to be.
+/// Keeps the reference of which a reply of the first shard tells.
+fn note(reply: &Reply, held: &mut Held) {
+    if let Reply::Tracked { ticket, .. } = reply {
+        *held = Held {
+            shard: 0,
+            ticket: *ticket,
+        };
+    }
+}
+
+/// Makes a call that is an event; answers whether it is answered as it has to be.
 fn make_event(
     rt: &impl Wait,
     alloc: Global,
@@ -83,16 +160,25 @@ fn make_event(
     seat: &mut Seat,
     held: &mut Held,
     call: Call,
-) -> Result<bool, Refusal> {
-    let event = event_of(alloc, call, *held)?;
-    let reply = ask(rt, table, seat, place(table, held.shard), event)?;
-    if let Reply::Tracked { ticket, .. } = &reply {
-        *held = Held {
-            shard: 0,
-            ticket: *ticket,
-        };
+) -> Result<bool, (u32, Refusal)> {
+    match reply_to(rt, alloc, table, seat, *held, call) {
+        Ok(reply) => {
+            note(&reply, held);
+            Ok(is_wanted(call, &reply))
+        }
+        Err(refusal) => Err((0, refusal)),
     }
-    Ok(is_wanted(call, &reply))
+}
+
+/// Lists the whole table.
+pub fn list(
+    rt: &impl Wait,
+    alloc: Global,
+    table: &Shards<PlainTable>,
+    seat: &mut Seat,
+    filter: &Filter,
+) -> Result<Listing, (u32, Refusal)> {
+    table.list(rt, alloc, seat, 45, filter)
 }
 
 /// Whether the whole table lists its one entry.
@@ -102,7 +188,7 @@ fn lists(
     table: &Shards<PlainTable>,
     seat: &mut Seat,
 ) -> Result<bool, (u32, Refusal)> {
-    match table.list(rt, alloc, seat, 45, &Filter::Everything) {
+    match list(rt, alloc, table, seat, &Filter::Everything) {
         Ok(Listing::Rows { used, rows }) => Ok(used == 1 && rows.as_slice().len() == 1),
         Ok(Listing::NotStored(_)) => Ok(false),
         Err(refused) => Err(refused),
@@ -124,6 +210,11 @@ fn holds(rt: &impl Wait, table: &Shards<PlainTable>) -> bool {
     done.into_inner()
 }
 
+/// Whether there are two shards, and the second has half of the table's places.
+fn is_halved(table: &Shards<PlainTable>) -> bool {
+    table.shards() == 2 && table.spec(place(table, 1)).size == 6
+}
+
 /// Makes a call; answers whether it is answered as it has to be. A refusal says of how many shards the call was made.
 pub fn make(
     rt: &impl Wait,
@@ -134,13 +225,10 @@ pub fn make(
     call: Call,
 ) -> Result<bool, (u32, Refusal)> {
     match call {
-        Call::Spec => Ok(table.shards() == 2 && table.spec(place(table, 1)).size == 6),
+        Call::Spec => Ok(is_halved(table)),
         Call::List => lists(rt, alloc, table, seat),
         Call::Roll => rolls(rt, table, seat.keeps()),
         Call::Hold => Ok(holds(rt, table)),
-        _ => match make_event(rt, alloc, table, seat, held, call) {
-            Ok(wanted) => Ok(wanted),
-            Err(refusal) => Err((0, refusal)),
-        },
+        _ => make_event(rt, alloc, table, seat, held, call),
     }
 }

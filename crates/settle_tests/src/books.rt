@@ -2,16 +2,15 @@
 
 ghost use Rattle.std.specs.Prelude.{◌≤◌, ◌^◌};
 
-use crate::asking::{Call, make};
-use crate::tables::{Outcome, open, place, show};
-use drawn_calls::{Held, ask, key, spec};
+use crate::asking::{Call, has, list, make, track};
+use crate::tables::{Opened, Outcome, open, show};
+use drawn_calls::{Held, spec};
 use shard_book::Book;
 use shard_locks::{Listing, Shards};
 use shard_seats::Seat;
 use std::alloc::Global;
 use std::sync::Wait;
-use std::test::Fail;
-use stick_table::{Event, Filter, Op, PlainTable, Reply, Row, Table, Ticket};
+use stick_table::{Event, Filter, Op, PlainTable, Reply, Row, Rows, Table, Ticket};
 use stored_data::Datum;
 
 /// No reference.
@@ -21,22 +20,43 @@ const NONE: Held = Held {
 };
 
 /// Whether a row is that of an entry whose gpc0 is 3.
-fn is_put(row: &Row) -> bool {
-    row.refs == 0
-        && row
-            .cells
-            .as_slice()
-            .iter()
-            .any(|cell| cell.datum == Datum::Gpc0 && cell.value == 3)
+pub fn is_put(row: &Row) -> bool {
+    row.refs == 0 && has(row, Datum::Gpc0, 3)
+}
+
+/// Whether rows are all of that kind.
+fn are_put(rows: &[Row]) -> bool {
+    for row in rows {
+        if !is_put(row) {
+            return false;
+        }
+    }
+    true
+}
+
+/// A plain copy of a book's table.
+fn plain_of(book: &Book<PlainTable>) -> Option<PlainTable> {
+    book.live().to_plain().ok()
+}
+
+/// How many entries a table lists at 60 ms, and their rows.
+fn rows_of(table: &mut PlainTable) -> Option<(u64, Rows)> {
+    match table.step(&Event::List(60, Filter::Everything)) {
+        Ok(Reply::Rows { used, rows }) => Some((used, rows)),
+        _ => None,
+    }
+}
+
+/// What a book lists at 60 ms.
+pub fn listed(book: &Book<PlainTable>) -> Option<(u64, Rows)> {
+    let mut table = plain_of(book)?;
+    rows_of(&mut table)
 }
 
 /// Whether a book lists one entry, whose gpc0 is 3.
 fn lists_put(book: &Book<PlainTable>) -> bool {
-    let Ok(mut live) = book.live().to_plain() else {
-        return false;
-    };
-    match live.step(&Event::List(60, Filter::Everything)) {
-        Ok(Reply::Rows { used, rows }) => used == 1 && rows.as_slice().iter().all(is_put),
+    match listed(book) {
+        Some((1, rows)) => are_put(rows.as_slice()),
         _ => false,
     }
 }
@@ -46,37 +66,50 @@ fn is_recorded(book: &Book<PlainTable>, events: u64) -> bool {
     book.base().events() == events && matches!(book.calls(), [call] if call.seat == 0)
 }
 
-/// Whether a table in which an entry was put, whose record was rolled, and that was listed then, is settled with its own books.
-fn rolled_settles(rt: &impl Wait, alloc: Global) -> bool {
-    let Ok((table, mut seats)) = open(alloc, false) else {
-        return false;
-    };
-    let [seat, ..] = seats.as_mut_slice() else {
-        return false;
-    };
-    let mut held = NONE;
-    for call in [Call::Put, Call::Roll, Call::List] {
-        if make(rt, alloc, &table, seat, &mut held, call) != Ok(true) {
-            return false;
-        }
-    }
-    let Outcome::Settled(settled) = show(alloc, table, seats, &[]) else {
-        return false;
-    };
-    match settled.books.as_slice() {
+/// Whether the books are those of an entry that was put, of a roll of the first book, and of a listing then.
+fn are_called(books: &[Book<PlainTable>]) -> bool {
+    match books {
         [first, second] => lists_put(first) && is_recorded(first, 1) && is_recorded(second, 0),
         _ => false,
     }
 }
 
+/// Makes these calls by the first seat; answers whether each is answered as it has to be.
+fn make_each(rt: &impl Wait, alloc: Global, opened: &mut Opened, calls: &[Call]) -> bool {
+    let (table, seats) = opened;
+    let Some(seat) = seats.as_mut_slice().first_mut() else {
+        return false;
+    };
+    let mut held = NONE;
+    for call in calls {
+        if make(rt, alloc, table, seat, &mut held, *call) != Ok(true) {
+            return false;
+        }
+    }
+    true
+}
+
+/// Whether a table in which an entry was put, whose record was rolled, and that was listed then, is settled with its own books.
+fn rolled_settles(rt: &impl Wait, alloc: Global) -> bool {
+    let Ok(mut opened) = open(alloc, false) else {
+        return false;
+    };
+    if !make_each(rt, alloc, &mut opened, &[Call::Put, Call::Roll, Call::List]) {
+        return false;
+    }
+    match show(alloc, opened, &[]) {
+        Outcome::Settled(settled) => are_called(settled.books.as_slice()),
+        _ => false,
+    }
+}
+
 #[test]
-fn settled_books_are_those_that_were_called(rt: HostRuntime) -> Result<(), Fail> {
+fn settled_books_are_those_that_were_called(rt: HostRuntime) {
     assert!(rt; rolled_settles(&rt, rt.alloc()));
-    Ok(())
 }
 
 /// What tracking a key on the first shard is answered.
-#[derive(Clone, Copy, Debug, PartialEq, Eq)]
+#[derive(Clone, Copy, PartialEq, Eq)]
 enum Tracked {
     Yes,
     Full,
@@ -85,17 +118,12 @@ enum Tracked {
 }
 
 /// Tracks the key of a number.
-fn track(
-    rt: &impl Wait,
-    alloc: Global,
-    table: &Shards<PlainTable>,
-    seat: &mut Seat,
-    number: u32,
-) -> Tracked {
-    let Ok(key) = key(alloc, number) else {
+fn try_track(rt: &impl Wait, alloc: Global, opened: &mut Opened, number: u32) -> Tracked {
+    let (table, seats) = opened;
+    let Some(seat) = seats.as_mut_slice().first_mut() else {
         return Tracked::Otherwise;
     };
-    match ask(rt, table, seat, place(table, 0), Event::Track(0, key)) {
+    match track(rt, alloc, table, seat, number, 0) {
         Ok(Reply::Tracked { .. }) => Tracked::Yes,
         Ok(Reply::Full) => Tracked::Full,
         Ok(Reply::NoRefs) => Tracked::NoRefs,
@@ -103,51 +131,66 @@ fn track(
     }
 }
 
-/// What is answered to three tracks on the first of two shards, of 5, of 7 and of 5 again, where the table has so many places and
-/// each shard may have so many references.
-fn three_tracks(rt: &impl Wait, alloc: Global, size: u32, max_refs: u32) -> Option<[Tracked; 3]>
+/// A table of two shards with so many places, each shard of which may have so many references, and its only seat.
+fn open_narrow(alloc: Global, size: u32, max_refs: u32) -> Option<Opened>
     requires size { (2 ≤ size) × (size ≤ 2 ^ 30) }
     requires max_refs { (1 ≤ max_refs) × (max_refs ≤ 2 ^ 20) }
 {
-    let Ok(spec) = spec(alloc, size, max_refs, 1_000) else {
-        return None;
-    };
-    let Ok((table, mut seats)) = Shards::new(alloc, spec, 2, 1, true) else {
-        return None;
-    };
-    let seat = seats.as_mut_slice().first_mut()?;
-    let first = track(rt, alloc, &table, seat, 5);
-    let second = track(rt, alloc, &table, seat, 7);
-    let third = track(rt, alloc, &table, seat, 5);
+    match spec(alloc, size, max_refs, 1_000) {
+        Ok(spec) => Shards::new(alloc, spec, 2, 1, true).ok(),
+        Err(_) => None,
+    }
+}
+
+/// What is answered to three tracks on the first of two shards, of 5, of 7 and of 5 again.
+fn three_tracks(rt: &impl Wait, alloc: Global, opened: Option<Opened>) -> Option<[Tracked; 3]> {
+    let mut opened = opened?;
+    let first = try_track(rt, alloc, &mut opened, 5);
+    let second = try_track(rt, alloc, &mut opened, 7);
+    let third = try_track(rt, alloc, &mut opened, 5);
     Some([first, second, third])
 }
 
 #[test]
-fn want_of_room_is_told(rt: HostRuntime) -> Result<(), Fail> {
+fn want_of_room_is_told(rt: HostRuntime) {
     let full = Some([Tracked::Yes, Tracked::Full, Tracked::Yes]);
-    assert_eq!(rt; three_tracks(&rt, rt.alloc(), 2, 5), full);
+    let narrow = open_narrow(rt.alloc(), 2, 5);
+    assert!(rt; three_tracks(&rt, rt.alloc(), narrow) == full);
     let no_refs = Some([Tracked::Yes, Tracked::NoRefs, Tracked::NoRefs]);
-    assert_eq!(rt; three_tracks(&rt, rt.alloc(), 12, 1), no_refs);
-    Ok(())
+    let narrow = open_narrow(rt.alloc(), 12, 1);
+    assert!(rt; three_tracks(&rt, rt.alloc(), narrow) == no_refs);
 }
 
-/// The datum that a listing says isn't stored.
-fn datum_not_stored(rt: &impl Wait, alloc: Global, filter: &Filter) -> Option<Datum> {
-    let Ok((table, mut seats)) = open(alloc, true) else {
-        return None;
-    };
+/// The datum that a listing by the first seat says isn't stored.
+fn datum_not_stored(
+    rt: &impl Wait,
+    alloc: Global,
+    opened: &mut Opened,
+    filter: &Filter,
+) -> Option<Datum> {
+    let (table, seats) = opened;
     let seat = seats.as_mut_slice().first_mut()?;
-    match table.list(rt, alloc, seat, 0, filter) {
+    match list(rt, alloc, table, seat, filter) {
         Ok(Listing::NotStored(datum)) => Some(datum),
         _ => None,
     }
 }
 
+/// The datum that a table says it doesn't store, where its gpc0 or its gpc1 is asked for.
+fn not_stored(rt: &impl Wait, alloc: Global, datum: Datum) -> Option<Datum> {
+    match open(alloc, true) {
+        Ok(mut opened) => datum_not_stored(
+            rt,
+            alloc,
+            &mut opened,
+            &Filter::Compare(datum, Op::Ge, 1),
+        ),
+        Err(_) => None,
+    }
+}
+
 #[test]
-fn a_datum_that_is_not_stored_is_told(rt: HostRuntime) -> Result<(), Fail> {
-    let stored = Filter::Compare(Datum::Gpc0, Op::Ge, 1);
-    assert!(rt; datum_not_stored(&rt, rt.alloc(), &stored).is_none());
-    let not_stored = Filter::Compare(Datum::Gpc1, Op::Ge, 1);
-    assert!(rt; datum_not_stored(&rt, rt.alloc(), &not_stored) == Some(Datum::Gpc1));
-    Ok(())
+fn a_datum_that_is_not_stored_is_told(rt: HostRuntime) {
+    assert!(rt; not_stored(&rt, rt.alloc(), Datum::Gpc0).is_none());
+    assert!(rt; not_stored(&rt, rt.alloc(), Datum::Gpc1) == Some(Datum::Gpc1));
 }

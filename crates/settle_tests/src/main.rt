@@ -1,19 +1,33 @@
-//! Tests of tables in shards that are settled once their callers have ended. As a program it makes each call of such a table
-//! once, without receipts and with them, and settles it: first with a reference that is out and isn't shown, then with that
-//! given back. Where a growth is refused it asks once more, and says how often that was, and how many answers were those
-//! that are wanted. `tests/refusals calls` refuses each of its allocations in turn.
+//! Tests of tables in shards that are called, kept house in, visited by connections, and settled once their callers have ended;
+//! and of the clock that a program that serves reads.
+//!
+//! As a program it makes each call of such a table once, without receipts and with them, and settles it: first with a reference
+//! that is out and isn't shown, then with that given back. Where a growth is refused it asks once more, and says how often that
+//! was, and how many answers were those that are wanted. `tests/refusals calls` refuses each of its allocations in turn.
 #![tactic(auto)]
 
+#[cfg(test)]
+mod addresses;
 mod asking;
 #[cfg(test)]
 mod books;
 #[cfg(test)]
+mod clocks;
+#[cfg(test)]
+mod counting_clock;
+#[cfg(test)]
 mod faults;
 #[cfg(test)]
 mod records;
+#[cfg(test)]
+mod rounds;
+#[cfg(test)]
+mod setups;
 mod tables;
 #[cfg(test)]
 mod threads;
+#[cfg(test)]
+mod visits;
 
 use asking::{Call, make};
 use drawn_calls::Held;
@@ -94,13 +108,29 @@ impl Tally {
         }
     }
 
+    /// Makes these calls by the first seat.
+    fn make_each(
+        &mut self,
+        rt: &impl Wait,
+        alloc: Global,
+        opened: &mut Opened,
+        held: &mut Held,
+        calls: &[Call],
+    ) {
+        let (table, seats) = opened;
+        if let Some(seat) = seats.as_mut_slice().first_mut() {
+            for call in calls {
+                self.make(rt, alloc, table, seat, held, *call);
+            }
+        }
+    }
+
     /// Shows a table and its seats, and once more where there is no memory for it.
     fn show(&mut self, alloc: Global, opened: Opened) -> Outcome {
-        let (table, seats) = opened;
-        match show(alloc, table, seats, &[]) {
-            Outcome::Unsettled(Fault::Memory, (table, seats)) => {
+        match show(alloc, opened, &[]) {
+            Outcome::Unsettled(Fault::Memory, opened) => {
                 self.refused = self.refused.saturating_add(1);
-                show(alloc, table, seats, &[])
+                show(alloc, opened, &[])
             }
             outcome => outcome,
         }
@@ -123,27 +153,19 @@ impl Tally {
 
 /// Makes each call of a table once, and settles it.
 fn lead(rt: &impl Wait, alloc: Global, keep: bool, tally: &mut Tally) -> bool {
-    let Some((table, mut seats)) = tally.open(alloc, keep) else {
+    let Some(mut opened) = tally.open(alloc, keep) else {
         return false;
     };
     let mut held = Held {
         shard: 0,
         ticket: Ticket { number: 0, slot: 0 },
     };
-    let [seat, ..] = seats.as_mut_slice() else {
+    tally.make_each(rt, alloc, &mut opened, &mut held, &CALLS);
+    let Outcome::Unsettled(fault, mut opened) = tally.show(alloc, opened) else {
         return false;
     };
-    for call in CALLS {
-        tally.make(rt, alloc, &table, seat, &mut held, call);
-    }
-    let Outcome::Unsettled(fault, (table, mut seats)) = tally.show(alloc, (table, seats)) else {
-        return false;
-    };
-    let [seat, ..] = seats.as_mut_slice() else {
-        return false;
-    };
-    tally.make(rt, alloc, &table, seat, &mut held, Call::Release);
-    let outcome = tally.show(alloc, (table, seats));
+    tally.make_each(rt, alloc, &mut opened, &mut held, &[Call::Release]);
+    let outcome = tally.show(alloc, opened);
     tally.settle(&outcome);
     fault == Fault::MissingRefs(0)
 }

@@ -2,14 +2,34 @@
 
 use drawn_calls::Held;
 use settlement::{Settled, is_told, replay};
-use shard_book::Book;
+use shard_book::{Book, Recorded};
 use shard_seats::Receipt;
 use std::alloc::Global;
-use stick_table::PlainTable;
+use stick_table::{PlainTable, Reply, Ticket};
 
 /// How many calls of a shard were noted.
-fn calls_noted(notes: &[Receipt], shard: u32) -> usize {
-    notes.iter().filter(|note| note.shard == shard).count()
+fn calls_noted(notes: &[Receipt], shard: u32) -> u64 {
+    let mut calls = 0u64;
+    for note in notes {
+        if note.shard == shard {
+            calls = calls.saturating_add(1);
+        }
+    }
+    calls
+}
+
+/// Whether the tickets are those of a shard's references that are held: each of these is there, and there are as many.
+fn are_held(tickets: &[Ticket], shard: u32, held: &[Held]) -> bool {
+    let mut count = 0u64;
+    for one in held {
+        if one.shard == shard {
+            if !tickets.contains(&one.ticket) {
+                return false;
+            }
+            count = count.saturating_add(1);
+        }
+    }
+    tickets.len() as u64 == count
 }
 
 /// Whether a settled book has counted the calls of its shard that two callers noted, and has those references out that are
@@ -23,30 +43,35 @@ pub fn is_counted(
     let [first, second] = notes;
     let calls = calls_noted(first, shard).saturating_add(calls_noted(second, shard));
     let place = shard as usize;
-    let (Some(count), Some(tickets)) = (settled.counts.get(place), settled.tickets.get(place))
-    else {
-        return false;
-    };
-    let mut shown = held.iter().filter(|one| one.shard == shard);
-    *count == calls as u64
-        && tickets.as_slice().len() == held.iter().filter(|one| one.shard == shard).count()
-        && shown.all(|one| tickets.as_slice().contains(&one.ticket))
+    match (settled.counts.get(place), settled.tickets.get(place)) {
+        (Some(count), Some(tickets)) => *count == calls
+            && are_held(tickets.as_slice(), shard, held),
+        _ => false,
+    }
+}
+
+/// The replies to a book's record, made again from the empty table.
+fn replies_of(alloc: Global, book: &Book<PlainTable>) -> Option<Vec<Reply>> {
+    if book.base().is_new() {
+        replay(alloc, book).ok()
+    } else {
+        None
+    }
+}
+
+/// Whether a caller noted its calls of a shard, and no others.
+fn noted(seat: u32, shard: u32, notes: &[Receipt], calls: &[Recorded], replies: &[Reply]) -> bool {
+    replies.len() == calls.len() && is_told(seat, shard, notes, calls, replies)
 }
 
 /// Whether a book's record, made again from the empty table, is what two callers noted of its shard, call by call.
 fn is_record(alloc: Global, book: &Book<PlainTable>, shard: u32, notes: [&[Receipt]; 2]) -> bool {
-    if !book.base().is_new() {
-        return false;
-    }
-    let Ok(replies) = replay(alloc, book) else {
+    let Some(replies) = replies_of(alloc, book) else {
         return false;
     };
     let (calls, replies) = (book.calls(), replies.as_slice());
-    if replies.len() != calls.len() {
-        return false;
-    }
     let [first, second] = notes;
-    is_told(0, shard, first, calls, replies) && is_told(1, shard, second, calls, replies)
+    noted(0, shard, first, calls, replies) && noted(1, shard, second, calls, replies)
 }
 
 /// The same of the book of a settled shard.

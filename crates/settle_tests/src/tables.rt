@@ -1,8 +1,8 @@
 //! A table of 12 entries in two shards, and what is shown when it is settled.
 
-ghost use Rattle.std.specs.Prelude.{◌≡◌, ◌≤◌, ◌<◌, IfOk};
+ghost use Rattle.std.specs.Prelude.{◌<◌};
 
-use drawn_calls::{Held, spec};
+use drawn_calls::{Held, abandon_all, references_of, spec};
 use sequence::NoMemory;
 use settlement::{Fault, Settled, Unsettled, settle};
 use shard_locks::Shards;
@@ -14,10 +14,9 @@ use stick_table::PlainTable;
 pub type Opened = (Shards<PlainTable>, Vec<Seat>);
 
 /// A table of 12 entries in two shards, each of which may have 5 references, and two seats.
-pub fn open(alloc: Global, keep: bool) -> Result<Opened, NoMemory>
-    ensures { IfOk result (λ opened. opened.0.shards ≡ 2) }
-{
-    Shards::new(alloc, spec(alloc, 12, 5, 1 << 62)?, 2, 2, keep)
+pub fn open(alloc: Global, keep: bool) -> Result<Opened, NoMemory> {
+    let spec = spec(alloc, 12, 5, 1 << 62)?;
+    Shards::new(alloc, spec, 2, 2, keep)
 }
 
 /// The shard of a number, of which there are as many as the table has.
@@ -27,44 +26,43 @@ pub fn place(table: &Shards<PlainTable>, number: u32) -> u32
     number % table.shards()
 }
 
-/// The references of these tickets; fewer where there is no memory for them.
-fn references(alloc: Global, held: &[Held]) -> Vec<TrackRef> {
-    let mut refs = Vec::new(alloc);
-    for one in held {
-        if let Err(refused) = refs.push(TrackRef::new(one.shard, one.ticket)) {
-            refused.value.abandon();
+/// Whether a reference is of this ticket.
+fn is_of(reference: &TrackRef, held: &Held) -> bool {
+    held.shard == reference.shard() && held.ticket == reference.ticket()
+}
+
+/// Whether references are those of these tickets, in their order.
+fn are_of(refs: &[TrackRef], held: &[Held]) -> bool {
+    if refs.len() != held.len() {
+        return false;
+    }
+    for place in 0..refs.len() {
+        if !is_of(&refs[place], &held[place]) {
+            return false;
         }
     }
-    refs
+    true
 }
 
-/// Gives references up; answers whether they are those of these tickets, in their order.
-fn are_back(mut refs: Vec<TrackRef>, held: &[Held]) -> bool {
-    let mut left = held;
-    let mut are = refs.as_slice().len() == held.len();
-    while let Some(reference) = refs.pop() {
-        are = are && is_last(&reference, left);
-        left = but_last(left);
-        reference.abandon();
-    }
-    refs.destroy_empty();
-    are
-}
+/// The number of a seat, its calls of each of two shards, and its receipts.
+type Account = [u64; 4];
 
-/// Whether a reference is of the last of these tickets.
-fn is_last(reference: &TrackRef, held: &[Held]) -> bool {
-    match held {
-        [.., one] => one.shard == reference.shard() && one.ticket == reference.ticket(),
-        [] => false,
+/// The account of a seat, where there are so many.
+fn account(seats: &[Seat], place: usize) -> Option<Account> {
+    match seats.get(place) {
+        Some(seat) => Some([
+            u64::from(seat.number()),
+            seat.calls(0),
+            seat.calls(1),
+            seat.receipts().len() as u64,
+        ]),
+        None => None,
     }
 }
 
-/// All but the last.
-fn but_last(held: &[Held]) -> &[Held] {
-    match held {
-        [rest @ .., _one] => rest,
-        [] => held,
-    }
+/// The accounts of three seats, or of those that there are.
+fn accounts(seats: &[Seat]) -> [Option<Account>; 3] {
+    [account(seats, 0), account(seats, 1), account(seats, 2)]
 }
 
 /// What becomes of a table that is shown for settling.
@@ -77,40 +75,45 @@ pub enum Outcome {
     Lost,
 }
 
-/// The number of a seat, and how many calls of each shard and how many receipts it has.
-fn account(seats: &[Seat], place: usize) -> Option<(u32, u64, u64, usize)> {
-    match seats.get(place) {
-        Some(seat) => Some((
-            seat.number(),
-            seat.calls(0),
-            seat.calls(1),
-            seat.receipts().len(),
-        )),
-        None => None,
+/// What comes back, where it is what was shown: so many shards, seats of these accounts, and the references of these tickets.
+fn handed_back(
+    unsettled: Unsettled<PlainTable>,
+    shards: u32,
+    shown: [Option<Account>; 3],
+    held: &[Held],
+) -> Outcome {
+    let Unsettled {
+        fault,
+        found: _,
+        shards: table,
+        seats,
+        refs,
+    } = unsettled;
+    let are_back = are_of(refs.as_slice(), held);
+    abandon_all(refs);
+    if are_back && accounts(seats.as_slice()) == shown && table.shards() == shards {
+        Outcome::Unsettled(fault, (table, seats))
+    } else {
+        Outcome::Lost
     }
 }
 
+/// Settles a table.
+fn settled(
+    alloc: Global,
+    opened: Opened,
+    refs: Vec<TrackRef>,
+) -> Result<Settled<PlainTable>, Unsettled<PlainTable>> {
+    let (table, seats) = opened;
+    settle(alloc, table, seats, refs)
+}
+
 /// Settles a table, its callers showing these seats, and references by these tickets.
-pub fn show(alloc: Global, table: Shards<PlainTable>, seats: Vec<Seat>, held: &[Held]) -> Outcome {
-    let refs = references(alloc, held);
-    let shards = table.shards();
-    let accounts = (account(&seats, 0), account(&seats, 1), account(&seats, 2));
-    match settle(alloc, table, seats, refs) {
+pub fn show(alloc: Global, opened: Opened, held: &[Held]) -> Outcome {
+    let shards = opened.0.shards();
+    let shown = accounts(opened.1.as_slice());
+    match settled(alloc, opened, references_of(alloc, held)) {
         Ok(settled) => Outcome::Settled(settled),
-        Err(unsettled) => {
-            let Unsettled {
-                fault,
-                found: _,
-                shards: table,
-                seats,
-                refs,
-            } = unsettled;
-            let back = (account(&seats, 0), account(&seats, 1), account(&seats, 2));
-            if are_back(refs, held) && back == accounts && table.shards() == shards {
-                Outcome::Unsettled(fault, (table, seats))
-            } else {
-                Outcome::Lost
-            }
-        }
+        Err(unsettled) => handed_back(unsettled, shards, shown, held),
     }
 }

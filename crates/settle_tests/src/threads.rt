@@ -1,52 +1,77 @@
 //! Two threads that share a table, and what it is settled with once they have ended.
 
 use crate::records::{is_counted, is_noted};
-use crate::tables::{Outcome, open, place, show};
-use drawn_calls::{Caller, Drawing, Held, ask, key};
+use crate::tables::{Opened, Outcome, open, show};
+use drawn_calls::{Caller, Drawing, Held, key};
 use settlement::{Fault, Settled};
 use shard_locks::Shards;
 use shard_seats::{Receipt, Seat};
 use std::alloc::Global;
 use std::sync::Wait;
-use std::test::Fail;
 use std::thread;
 use std::thread::Threads;
-use stick_table::{Event, PlainTable, Reply};
+use stick_table::{Event, PlainTable};
 
 /// How many calls each thread makes.
 const CALLS: usize = 1_000;
 
-/// A seat, and what its caller noted of its calls.
+/// A seat, what its caller noted of its calls, and the references that the caller holds.
 #[derive(Drop)]
 pub struct Noted {
     pub seat: Seat,
     pub notes: Vec<Receipt>,
+    pub held: Vec<Held>,
 }
 
-/// The calls of one thread, on and on until there are so many.
-fn call_often(
-    rt: &impl Wait,
-    alloc: Global,
-    table: &Shards<PlainTable>,
-    caller: Noted,
-) -> Option<Noted> {
-    let Noted { seat, mut notes } = caller;
+/// A caller by a seat, which holds nothing yet.
+fn caller_of(alloc: Global, table: &Shards<PlainTable>, seat: Seat) -> Caller<'_, PlainTable> {
     let drawing = Drawing {
         seed: u64::from(seat.number()),
         keys: 16,
         moments: 2_000,
     };
-    let mut caller = Caller::new(alloc, table, seat, drawing);
-    for _ in notes.len()..CALLS {
+    Caller::new(alloc, table, seat, drawing)
+}
+
+/// Has a caller call until so many calls are noted; answers whether none was refused.
+fn call_on(
+    rt: &impl Wait,
+    caller: &mut Caller<'_, PlainTable>,
+    notes: &mut Vec<Receipt>,
+    calls: usize,
+) -> bool {
+    for _ in notes.len()..calls {
         let Ok(note) = caller.call(rt) else {
-            return None;
+            return false;
         };
         if notes.push(note).is_err() {
-            return None;
+            return false;
         }
     }
-    let seat = caller.into_seat();
-    Some(Noted { seat, notes })
+    true
+}
+
+/// The calls of one thread, on and on until there are so many. What its caller held before, it still holds.
+fn call_often(
+    rt: &impl Wait,
+    alloc: Global,
+    table: &Shards<PlainTable>,
+    noted: Noted,
+) -> Option<Noted> {
+    let Noted {
+        seat,
+        mut notes,
+        mut held,
+    } = noted;
+    let mut caller = caller_of(alloc, table, seat);
+    if !call_on(rt, &mut caller, &mut notes, CALLS) {
+        return None;
+    }
+    let (seat, more) = caller.into_parts();
+    match held.extend_from_slice(more.as_slice()) {
+        Ok(()) => Some(Noted { seat, notes, held }),
+        Err(_) => None,
+    }
 }
 
 /// The calls of two threads.
@@ -71,106 +96,111 @@ fn call_from_two<R: Threads + Wait + Sync>(
     })
 }
 
-/// Makes a reference to the entry of 5, which lies on the first shard, and notes that call.
+/// A seat whose caller has noted nothing.
+fn unnoted(alloc: Global, seat: Seat) -> Noted {
+    Noted {
+        seat,
+        notes: Vec::new(alloc),
+        held: Vec::new(alloc),
+    }
+}
+
+/// Has a caller track 5, which lies on the first shard, and notes that call.
+fn track_five(
+    rt: &impl Wait,
+    alloc: Global,
+    caller: &mut Caller<'_, PlainTable>,
+    notes: &mut Vec<Receipt>,
+) -> bool {
+    let Ok(key) = key(alloc, 5) else {
+        return false;
+    };
+    match caller.ask(rt, 0, Event::Track(0, key)) {
+        Ok(note) => notes.push(note).is_ok(),
+        Err(_) => false,
+    }
+}
+
+/// A seat whose caller has noted that it made a reference to the entry of 5, and holds it.
 fn track_first(
     rt: &impl Wait,
     alloc: Global,
     table: &Shards<PlainTable>,
-    caller: &mut Noted,
-) -> bool {
-    let (Ok(key), Ok(asked)) = (key(alloc, 5), key(alloc, 5)) else {
-        return false;
-    };
-    let event = Event::Track(0, asked);
-    let Ok(reply) = ask(
-        rt,
-        table,
-        &mut caller.seat,
-        place(table, 0),
-        Event::Track(0, key),
-    ) else {
-        return false;
-    };
-    caller
-        .notes
-        .push(Receipt {
-            shard: 0,
-            event,
-            reply,
-        })
-        .is_ok()
-}
-
-/// Adds to what is held the references of which notes tell, and which they don't give back.
-fn hold_noted(held: &mut Vec<Held>, notes: &[Receipt]) -> bool {
-    for note in notes {
-        let shard = note.shard;
-        if let Event::Release(_, gone) = &note.event {
-            let gone = *gone;
-            held.retain(|one| one.shard != shard || one.ticket != gone);
-        }
-        if let Reply::Tracked { ticket, .. } = &note.reply {
-            let ticket = *ticket;
-            if held.push(Held { shard, ticket }).is_err() {
-                return false;
-            }
-        }
-    }
-    true
-}
-
-/// A table and the callers that share it, the first of which holds a reference on the first shard.
-fn open_called(
-    rt: &impl Wait,
-    alloc: Global,
-    keep: bool,
-) -> Option<(Shards<PlainTable>, Noted, Noted)> {
-    let Ok((table, mut seats)) = open(alloc, keep) else {
+    seat: Seat,
+) -> Option<Noted> {
+    let mut notes = Vec::new(alloc);
+    let mut caller = caller_of(alloc, table, seat);
+    if !track_five(rt, alloc, &mut caller, &mut notes) {
         return None;
-    };
+    }
+    let (seat, held) = caller.into_parts();
+    Some(Noted { seat, notes, held })
+}
+
+/// What two threads that share a table have noted. The first of them began with a reference on the first shard.
+fn noted_by_two<R: Threads + Wait + Sync>(
+    rt: &R,
+    alloc: Global,
+    table: &Shards<PlainTable>,
+    mut seats: Vec<Seat>,
+) -> Option<(Noted, Noted)> {
     let (Some(second), Some(first)) = (seats.pop(), seats.pop()) else {
         return None;
     };
-    let mut first = Noted {
-        seat: first,
-        notes: Vec::new(alloc),
-    };
-    let second = Noted {
-        seat: second,
-        notes: Vec::new(alloc),
-    };
-    if track_first(rt, alloc, &table, &mut first) {
-        Some((table, first, second))
-    } else {
-        None
+    let first = track_first(rt, alloc, table, first)?;
+    call_from_two(rt, alloc, table, first, unnoted(alloc, second))
+}
+
+/// All that two callers hold.
+fn held_by_both(alloc: Global, first: &[Held], second: &[Held]) -> Option<Vec<Held>> {
+    let mut held = Vec::from_slice(alloc, first).ok()?;
+    match held.extend_from_slice(second) {
+        Ok(()) => Some(held),
+        Err(_) => None,
     }
 }
 
-/// Shows a table without its second seat, and then without the first of what is held; each is missed, and all comes back.
-fn are_missed(
+/// A table that is shown without its second seat, which it misses; all comes back.
+fn miss_calls(
     alloc: Global,
     table: Shards<PlainTable>,
     first: Seat,
     second: Seat,
     held: &[Held],
-) -> Option<(Shards<PlainTable>, Vec<Seat>)> {
+) -> Option<Opened> {
     let mut seats = Vec::new(alloc);
-    if seats.push(first).is_err() {
-        return None;
-    }
-    let Outcome::Unsettled(missed, (table, mut seats)) = show(alloc, table, seats, held) else {
+    seats.push(first).ok()?;
+    let Outcome::Unsettled(Fault::MissingCalls(0), (table, mut seats)) = show(
+        alloc,
+        (table, seats),
+        held,
+    ) else {
         return None;
     };
+    match seats.push(second) {
+        Ok(()) => Some((table, seats)),
+        Err(_) => None,
+    }
+}
+
+/// A table that is shown without the first of what is held, which it misses; all comes back.
+fn miss_first(alloc: Global, opened: Opened, held: &[Held]) -> Option<Opened> {
     let [_, rest @ ..] = held else {
         return None;
     };
-    if missed != Fault::MissingCalls(0) || seats.push(second).is_err() {
-        return None;
-    }
-    match show(alloc, table, seats, rest) {
+    match show(alloc, opened, rest) {
         Outcome::Unsettled(Fault::MissingRefs(0), opened) => Some(opened),
         _ => None,
     }
+}
+
+/// Whether so many calls are counted in all.
+fn are_in_all(counts: &[u64], calls: usize) -> bool {
+    let mut sum = 0u64;
+    for count in counts {
+        sum = sum.saturating_add(*count);
+    }
+    sum == calls as u64
 }
 
 /// Whether the settled books have counted 2,000 calls, just those that were noted of each, and have those references out that
@@ -183,49 +213,46 @@ fn is_settled(
 ) -> bool {
     is_counted(settled, 0, notes, held)
         && is_counted(settled, 1, notes, held)
-        && settled
-            .counts
-            .iter()
-            .fold(0u64, |sum, count| sum.saturating_add(*count))
-            == 2 * CALLS as u64
+        && are_in_all(settled.counts.as_slice(), 2 * CALLS)
         && is_noted(alloc, settled, 0, notes)
         && is_noted(alloc, settled, 1, notes)
 }
 
-/// Whether a table that two threads have called is settled with what they keep, and not with less.
-fn two_settle<R: Threads + Wait + Sync>(rt: &R, alloc: Global, keep: bool) -> bool {
-    let Some((table, first, second)) = open_called(rt, alloc, keep) else {
+/// Whether a table is settled with what two callers keep, and not with less.
+fn settles_with(alloc: Global, table: Shards<PlainTable>, first: Noted, second: Noted) -> bool {
+    let Some(held) = held_by_both(alloc, first.held.as_slice(), second.held.as_slice()) else {
         return false;
     };
-    let Some((first, second)) = call_from_two(rt, alloc, &table, first, second) else {
+    let Some(opened) = miss_calls(alloc, table, first.seat, second.seat, &held) else {
         return false;
     };
-    let mut held = Vec::new(alloc);
-    if !hold_noted(&mut held, &first.notes) || !hold_noted(&mut held, &second.notes) {
-        return false;
-    }
-    let Some((table, seats)) = are_missed(alloc, table, first.seat, second.seat, &held) else {
+    let Some(opened) = miss_first(alloc, opened, &held) else {
         return false;
     };
-    match show(alloc, table, seats, &held) {
-        Outcome::Settled(settled) => is_settled(
-            alloc,
-            &settled,
-            [first.notes.as_slice(), second.notes.as_slice()],
-            &held,
-        ),
+    let notes = [first.notes.as_slice(), second.notes.as_slice()];
+    match show(alloc, opened, &held) {
+        Outcome::Settled(settled) => is_settled(alloc, &settled, notes, &held),
         _ => false,
     }
 }
 
-#[test]
-fn threads_settle_with_receipts(rt: HostRuntime) -> Result<(), Fail> {
-    assert!(rt; two_settle(&rt, rt.alloc(), true));
-    Ok(())
+/// Whether that is so of a table that two threads have called.
+fn two_settle<R: Threads + Wait + Sync>(rt: &R, alloc: Global, keep: bool) -> bool {
+    let Ok((table, seats)) = open(alloc, keep) else {
+        return false;
+    };
+    match noted_by_two(rt, alloc, &table, seats) {
+        Some((first, second)) => settles_with(alloc, table, first, second),
+        None => false,
+    }
 }
 
 #[test]
-fn threads_settle_without_receipts(rt: HostRuntime) -> Result<(), Fail> {
+fn threads_settle_with_receipts(rt: HostRuntime) {
+    assert!(rt; two_settle(&rt, rt.alloc(), true));
+}
+
+#[test]
+fn threads_settle_without_receipts(rt: HostRuntime) {
     assert!(rt; two_settle(&rt, rt.alloc(), false));
-    Ok(())
 }

@@ -3,10 +3,10 @@ use Rattle.shard_seats.specs.SeatState.{RefState}
 use Rattle.admit_core.specs.Connection.{Progress, closed}
 use Rattle.shared_drive.specs.Tables.{HoldsOf}
 use Rattle.shared_drive.proofs.AskLemmas.{ready_still}
-use Rattle.visit_tests.proofs.visits.close.Goals as goal
+use Rattle.settle_tests.proofs.visits.close.Goals as goal
 
-pub finish-requires : goal.finish-requires
-finish-requires g c =
+pub go_on-requires : goal.go_on-requires
+go_on-requires g c =
     let tables = c.args.tables.now in
     let ready = c.requires.ready in
     record {

@@ -2,7 +2,7 @@
 
 ghost use Rattle.std.specs.Prelude.{◌≡◌, length, IfOk};
 
-use crate::tables::spec;
+use crate::addresses::spec;
 use rule_model::{
     Action, Criterion, Fetch, KeyExpression, Measure, NamedSpec, Operator, Pattern, Rule, Setup,
     Slot, Term,
@@ -25,24 +25,31 @@ fn tracking(alloc: Global) -> Result<Rule, NoMemory> {
     })
 }
 
-/// `tcp-request connection reject if { sc0_conn_cur gt LIMIT }`.
-fn refusing(alloc: Global, limit: u64) -> Result<Rule, NoMemory> {
+/// A list of one item.
+fn alone<T: Drop>(alloc: Global, item: T) -> Result<Sequence<T>, NoMemory> {
+    let mut list = Sequence::new(alloc);
+    list.push(item)?;
+    Ok(list)
+}
+
+/// `sc0_conn_cur gt LIMIT`.
+fn above(alloc: Global, limit: u64) -> Result<Term, NoMemory> {
     let pattern = Pattern::Compare(Operator::Gt, limit);
     let patterns = Sequence::from_slice(alloc, &[pattern])?;
     let measure = Measure::Tracked(Slot::Sc0, Fetch::Datum(Datum::ConnCur));
-    let mut criteria = Sequence::new(alloc);
-    criteria.push(Criterion::Matches(measure, patterns))?;
-    let mut terms = Sequence::new(alloc);
-    terms.push(Term {
+    Ok(Term {
         negated: false,
-        criteria,
-    })?;
-    let mut condition = Sequence::new(alloc);
-    condition.push(terms)?;
+        criteria: alone(alloc, Criterion::Matches(measure, patterns))?,
+    })
+}
+
+/// `tcp-request connection reject if { sc0_conn_cur gt LIMIT }`.
+fn refusing(alloc: Global, limit: u64) -> Result<Rule, NoMemory> {
+    let terms = alone(alloc, above(alloc, limit)?)?;
     Ok(Rule {
         action: Action::Reject,
         unless: false,
-        condition: Some(condition),
+        condition: Some(alone(alloc, terms)?),
     })
 }
 

@@ -1,14 +1,17 @@
-//! A table in two shards, and what it shows of one address.
+//! A table of addresses in two shards, and what it shows of one.
 
 ghost use Rattle.std.specs.Prelude.{◌≡◌, IfOk};
 ghost use Rattle.table_model.specs.Limits.{IsTableSpec};
 
+use crate::asking::has;
+use crate::tables::place;
+use drawn_calls::ask;
 use sequence::NoMemory;
 use shard_locks::Shards;
 use shard_seats::Seat;
 use std::alloc::Global;
 use std::sync::Wait;
-use stick_key::{KeyType, Sample, StickKey, convert, shard_of};
+use stick_key::{KeyType, Sample, StickKey, convert};
 use stick_table::{Event, PlainTable, Reply, Row};
 use stored_data::{Column, Datum, StoredSet};
 use table_model::Spec;
@@ -47,14 +50,14 @@ pub fn spec(alloc: Global) -> Result<Spec, NoMemory>
     })
 }
 
-/// An empty table in two shards, and its only seat.
-pub fn open(alloc: Global) -> Result<(Shards<PlainTable>, Seat), NoMemory>
+/// An empty table in two shards, the seat by which connections ask it, and that of one who looks at it.
+pub fn open(alloc: Global) -> Result<(Shards<PlainTable>, Seat, Seat), NoMemory>
     ensures { IfOk result (λ opened. opened.0.shards ≡ 2) }
 {
-    let (table, mut seats) = Shards::new(alloc, spec(alloc)?, 2, 1, false)?;
-    match seats.pop() {
-        Some(seat) => Ok((table, seat)),
-        None => Err(NoMemory),
+    let (table, mut seats) = Shards::new(alloc, spec(alloc)?, 2, 2, false)?;
+    match (seats.pop(), seats.pop()) {
+        (Some(viewer), Some(seat)) => Ok((table, seat, viewer)),
+        _ => Err(NoMemory),
     }
 }
 
@@ -68,14 +71,6 @@ fn key(alloc: Global) -> Result<StickKey, NoMemory> {
         Ok(Some(key)) => Ok(key),
         _ => Err(NoMemory),
     }
-}
-
-/// Whether a row shows a value of a datum.
-fn has(row: &Row, datum: Datum, value: u64) -> bool {
-    row.cells
-        .as_slice()
-        .iter()
-        .any(|cell| cell.datum == datum && cell.value == value)
 }
 
 /// What a row is to show.
@@ -112,8 +107,7 @@ pub fn shows(
     let Ok(key) = key(alloc) else {
         return false;
     };
-    let shard = shard_of(&key, table.shards());
-    match table.call(rt, seat, shard, Event::Get(500, key)) {
+    match ask(rt, table, seat, place(table, 0), Event::Get(500, key)) {
         Ok(Reply::Row(row)) => wanted.is_shown_by(&row),
         _ => false,
     }
