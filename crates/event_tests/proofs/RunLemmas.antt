@@ -1,11 +1,10 @@
 -- Lists of stored calls, one call longer, and made again.
-use Rattle.std.proofs.Common.{◌≡◌, ℕ, Option, List, [], ◌∷◌, ◌++◌, All, subst, sym}
+use Rattle.std.proofs.Common.{◌≡◌, List, [], ◌∷◌, ◌++◌, All, subst, sym}
 use Rattle.std.proofs.lemmas.List.Elements.{All-append, All-cons, All-nil}
 use Rattle.table_model.specs.State.{State}
 use Rattle.table_model.specs.Limits.{IsTableEvent}
 use Rattle.table_model.specs.Run.{StoredRun, CanRedoAll}
 use Rattle.table_model.specs.Step.{Step, slot_of}
-use Rattle.table_model.specs.declared.events.Event.{Event}
 use Rattle.table_model.specs.declared.events.Stored.{Stored}
 use Rattle.table_model.specs.declared.replies.Reply.{Reply}
 use Rattle.table_model.proofs.RunLemmas.{redo-law, stored_run_more}
@@ -18,12 +17,11 @@ all_and_one calls call so_far one =
     All-append (λ (c : Stored). IsTableEvent c.event) calls (call ∷ []) so_far (All-cons (λ (c : Stored). IsTableEvent c.event) call [] one (All-nil (λ (c : Stored). IsTableEvent c.event)))
 
 -- a run and its calls' events, one call longer
-pub told_more : (base table next : State) (calls longer : List Stored) (replies more : List Reply) (event : Event) (slot : Option ℕ) (reply : Reply)
-    → StoredRun base calls replies table × All (λ (c : Stored). IsTableEvent c.event) calls → slot ≡ slot_of reply → Step table event reply next → IsTableEvent event
-    → longer ≡ calls ++ record { event = event; slot = slot } ∷ [] → more ≡ replies ++ reply ∷ []
+pub told_more : (base table next : State) (calls longer : List Stored) (replies more : List Reply) (call : Stored) (reply : Reply)
+    → StoredRun base calls replies table × All (λ (c : Stored). IsTableEvent c.event) calls → Step table call.event reply next → call.slot ≡ slot_of reply → IsTableEvent call.event
+    → longer ≡ calls ++ call ∷ [] → more ≡ replies ++ reply ∷ []
     → StoredRun base longer more next × All (λ (c : Stored). IsTableEvent c.event) longer
-told_more base table next calls longer replies more event slot reply so_far named step allowed is_longer is_more =
-    let call : Stored = record { event = event; slot = slot } in
+told_more base table next calls longer replies more call reply so_far step named allowed is_longer is_more =
     let run : StoredRun base (calls ++ call ∷ []) (replies ++ reply ∷ []) next = stored_run_more base calls replies table call reply next so_far.0 named step in
     let first : StoredRun base longer (replies ++ reply ∷ []) next = subst (λ (cs : List Stored). StoredRun base cs (replies ++ reply ∷ []) next) (sym is_longer) run in
     let all : All (λ (c : Stored). IsTableEvent c.event) (calls ++ call ∷ []) = all_and_one calls call so_far.1 allowed in (

@@ -1,11 +1,9 @@
-//! What the test draws at random.
+//! What the tests draw at random: moments, tickets, and events at those moments.
 ghost use Rattle.std.specs.Prelude.{◌≤◌, ◌<◌, ◌^◌, All, IfOk};
 ghost use Rattle.stored_data.specs.Data.{greatest};
 ghost use Rattle.table_model.specs.Limits.{IsTableEvent};
 ghost use Rattle.table_model.specs.declared.rows.Cell.{Cell};
 
-use crate::answers::KEYS;
-use crate::reckoning::{Limits, Reckoning};
 use random_numbers::Random;
 use sequence::Sequence;
 use std::alloc::{AllocError, Global};
@@ -16,49 +14,48 @@ use stored_data::{Act, Datum};
 /// The greatest moment, in ms.
 const GREATEST_MOMENT: u64 = (1 << 62) - 1;
 
-/// The key of a number: of a few more than there are places.
-fn key(alloc: Global, random: &mut Random, limits: Limits) -> Result<StickKey, AllocError> {
-    let number = random.below(limits.size.saturating_add(2).min(KEYS).max(1));
-    match convert(alloc, &Sample::Number(number), KeyType::Integer) {
+/// What events are drawn of: the numbers below this one as keys, and data, of which one that stands here more often is
+/// named more often.
+#[derive(Clone, Copy)]
+pub struct Scope {
+    pub keys: u32,
+    pub named: &'static [Datum; 12],
+    /// Those that are put, mostly.
+    pub put: &'static [Datum; 7],
+}
+
+/// The key of a number: of all, or of few.
+fn key(alloc: Global, random: &mut Random, scope: Scope) -> Result<StickKey, AllocError> {
+    let keys = match random.below(3) {
+        0 => 3,
+        _ => scope.keys.max(1),
+    };
+    match convert(alloc, &Sample::Number(random.below(keys)), KeyType::Integer) {
         Ok(Some(key)) => Ok(key),
         _ => Err(AllocError),
     }
 }
 
-/// The date of some entry, or the clock.
-fn date(random: &mut Random, plain: &Reckoning) -> u64 {
-    let place = random.below(8) as usize;
-    match plain.entries.get(place) {
-        Some(entry) => entry.date.unwrap_or(plain.clock),
-        None => plain.clock,
-    }
-}
-
 /// A moment before the clock, at it, soon or long after it, or at a date or 1 ms before it.
-pub fn moment(random: &mut Random, plain: &Reckoning) -> u64
+pub fn moment(random: &mut Random, clock: u64, date: u64) -> u64
     ensures { result < 2 ^ 62 }
 {
     let ahead = u64::from(random.below(6));
     let moment = match random.below(200) {
-        0 => plain.clock.saturating_add(1 << 61),
-        1..=30 => plain.clock.saturating_sub(ahead),
-        31..=80 => plain.clock,
-        81..=110 => date(random, plain),
-        111..=130 => date(random, plain).saturating_sub(1),
-        131..=140 => plain.clock.saturating_add(ahead.saturating_mul(100)),
-        _ => plain.clock.saturating_add(ahead),
+        0 => clock.saturating_add(1 << 61),
+        1..=30 => clock.saturating_sub(ahead),
+        31..=80 => clock,
+        81..=110 => date,
+        111..=130 => date.saturating_sub(1),
+        131..=140 => clock.saturating_add(ahead.saturating_mul(100)),
+        _ => clock.saturating_add(ahead),
     };
     moment.min(GREATEST_MOMENT)
 }
 
-/// A ticket that is mostly out: now and then another number, or another slot.
-fn ticket(random: &mut Random, plain: &Reckoning) -> Ticket {
-    let place = random.below((plain.held.len().min(8) as u32).max(1)) as usize;
-    let Some(held) = plain.held.get(place) else {
-        return Ticket { number: 1, slot: 0 };
-    };
-    let ticket = held.ticket;
-    match random.below(24) {
+/// What becomes of a ticket that is drawn: it is mostly itself, now and then of the next number, or of the next slot.
+pub fn altered(ticket: Ticket, way: u32) -> Ticket {
+    match way {
         0 => Ticket {
             number: ticket.number.saturating_add(1),
             slot: ticket.slot,
@@ -71,43 +68,44 @@ fn ticket(random: &mut Random, plain: &Reckoning) -> Ticket {
     }
 }
 
-/// An act, mostly on a datum that is stored.
+/// Acts, mostly on data that are stored.
+static ACTS: [Act; 9] = [
+    Act::IncGpc0,
+    Act::IncGpc0,
+    Act::IncGpc0,
+    Act::ClrGpc0,
+    Act::Connection,
+    Act::Connection,
+    Act::Session,
+    Act::BytesIn(1_000),
+    Act::IncGpc1,
+];
+
+static OPS: [Op; 6] = [Op::Eq, Op::Ne, Op::Le, Op::Ge, Op::Lt, Op::Gt];
+
 fn act(random: &mut Random) -> Act {
-    match random.below(9) {
-        0..=2 => Act::IncGpc0,
-        3 => Act::ClrGpc0,
-        4..=5 => Act::Connection,
-        6 => Act::Session,
-        7 => Act::BytesIn(1_000),
-        _ => Act::IncGpc1,
-    }
+    ACTS[random.below(9) as usize]
 }
 
-/// A datum that is stored, mostly.
-fn datum(random: &mut Random) -> Datum {
-    match random.below(12) {
-        0..=3 => Datum::Gpc0,
-        4..=6 => Datum::ConnCnt,
-        7..=8 => Datum::ConnRate,
-        9..=10 => Datum::ConnCur,
-        _ => Datum::Gpc1,
-    }
+fn datum(random: &mut Random, scope: Scope) -> Datum {
+    let named = scope.named;
+    named[random.below(12) as usize]
 }
 
 /// A datum that can be put, mostly.
-fn put_datum(random: &mut Random) -> Datum {
-    match random.below(8) {
-        0..=3 => Datum::Gpc0,
-        4..=6 => Datum::ConnCnt,
-        _ => datum(random),
+fn put_datum(random: &mut Random, scope: Scope) -> Datum {
+    let put = scope.put;
+    match put.get(random.below(8) as usize) {
+        Some(datum) => *datum,
+        None => datum(random, scope),
     }
 }
 
 /// A pair: a small value, or one near the greatest.
-fn pair(random: &mut Random) -> Cell
+fn pair(random: &mut Random, scope: Scope) -> Cell
     ensures { result.value ≤ greatest result.datum }
 {
-    let datum = put_datum(random);
+    let datum = put_datum(random, scope);
     let small = u64::from(random.below(6));
     let value = match random.below(5) {
         0 => datum.greatest().saturating_sub(small),
@@ -117,11 +115,11 @@ fn pair(random: &mut Random) -> Cell
 }
 
 /// No pair, one, or two.
-fn pairs(alloc: Global, random: &mut Random) -> Result<Cells, AllocError>
+fn pairs(alloc: Global, random: &mut Random, scope: Scope) -> Result<Cells, AllocError>
     ensures { IfOk result (λ cells. All (λ (pair : Cell). pair.value ≤ greatest pair.datum) cells) }
 {
-    let first = pair(random);
-    let second = pair(random);
+    let first = pair(random, scope);
+    let second = pair(random, scope);
     match random.below(3) {
         0 => Ok(Sequence::new(alloc)),
         1 => Sequence::from_slice(alloc, &[first]),
@@ -129,58 +127,50 @@ fn pairs(alloc: Global, random: &mut Random) -> Result<Cells, AllocError>
     }
 }
 
-fn op(random: &mut Random) -> Op {
-    match random.below(6) {
-        0 => Op::Eq,
-        1 => Op::Ne,
-        2 => Op::Le,
-        3 => Op::Ge,
-        4 => Op::Lt,
-        _ => Op::Gt,
-    }
-}
-
 /// A filter of any kind, mostly one that compares.
-fn filter(alloc: Global, random: &mut Random, limits: Limits) -> Result<Filter, AllocError> {
+fn filter(alloc: Global, random: &mut Random, scope: Scope) -> Result<Filter, AllocError> {
     match random.below(8) {
         0 => Ok(Filter::Everything),
         1 => Ok(Filter::Nothing),
-        2 => Ok(Filter::Key(key(alloc, random, limits)?)),
+        2 => Ok(Filter::Key(key(alloc, random, scope)?)),
         _ => {
-            let datum = datum(random);
-            let op = op(random);
+            let datum = datum(random, scope);
+            let op = OPS[random.below(6) as usize];
             Ok(Filter::Compare(datum, op, u64::from(random.below(5))))
         }
     }
 }
 
-/// An event at this moment, of the kind that a number below 20 stands for.
+/// An event that sets data of a key.
+fn put(alloc: Global, random: &mut Random, scope: Scope, now: u64) -> Result<Event, AllocError>
+    requires { now < 2 ^ 62 }
+    ensures { IfOk result IsTableEvent }
+{
+    let key = key(alloc, random, scope)?;
+    Ok(Event::Put(now, key, pairs(alloc, random, scope)?))
+}
+
+/// An event at this moment, of any kind; one of a reference is of this ticket.
 pub fn event(
     alloc: Global,
     random: &mut Random,
-    plain: &Reckoning,
-    kind: u32,
+    scope: Scope,
     now: u64,
+    ticket: Ticket,
 ) -> Result<Event, AllocError>
     requires { now < 2 ^ 62 }
     ensures { IfOk result IsTableEvent }
 {
-    match kind {
-        0 => Ok(Event::Get(now, key(alloc, random, plain.limits)?)),
-        1..=5 => Ok(Event::Track(now, key(alloc, random, plain.limits)?)),
-        6..=7 => Ok(Event::Look(now, ticket(random, plain))),
-        8..=10 => {
-            let ticket = ticket(random, plain);
-            Ok(Event::Count(now, ticket, act(random)))
-        }
-        11..=12 => Ok(Event::Release(now, ticket(random, plain))),
-        13..=15 => {
-            let key = key(alloc, random, plain.limits)?;
-            Ok(Event::Put(now, key, pairs(alloc, random)?))
-        }
-        16 => Ok(Event::Clear(now, key(alloc, random, plain.limits)?)),
-        17 => Ok(Event::ClearWhere(now, filter(alloc, random, plain.limits)?)),
-        18 => Ok(Event::List(now, filter(alloc, random, plain.limits)?)),
+    match random.below(24) {
+        0 => Ok(Event::Get(now, key(alloc, random, scope)?)),
+        1..=6 => Ok(Event::Track(now, key(alloc, random, scope)?)),
+        7..=8 => Ok(Event::Look(now, ticket)),
+        9..=11 => Ok(Event::Count(now, ticket, act(random))),
+        12..=14 => Ok(Event::Release(now, ticket)),
+        15..=18 => put(alloc, random, scope, now),
+        19 => Ok(Event::Clear(now, key(alloc, random, scope)?)),
+        20 => Ok(Event::ClearWhere(now, filter(alloc, random, scope)?)),
+        21..=22 => Ok(Event::List(now, filter(alloc, random, scope)?)),
         _ => Ok(Event::Expire(now)),
     }
 }

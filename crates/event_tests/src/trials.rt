@@ -1,87 +1,71 @@
-//! Random events on many tables.
-ghost use Rattle.std.specs.Prelude.{◌≤◌, ◌<◌, ◌^◌, IfSome};
-ghost use Rattle.stored_data.specs.Data.{is_rate};
-ghost use Rattle.stored_data.specs.Stored.{IsPeriod};
+//! Random events on many plain tables, each compared with what the rules say.
+ghost use Rattle.std.specs.Prelude.{◌<◌, ◌^◌, IfOk};
 ghost use Rattle.table_model.specs.Limits.{IsTableEvent};
 
-use crate::draws;
+use crate::answers::KEYS;
+use crate::calls::{Answers, open, step_and_redo, step_twice};
+use crate::draws::{self, Scope};
 use crate::reckoning::{Limits, Reckoning};
+use crate::tables::{columns, spec};
 use random_numbers::Random;
 use std::alloc::{AllocError, Global};
 use std::test::Fail;
-use stick_key::KeyType;
-use stick_table::{Event, PlainTable, Refusal, Reply, Spec, Stored, Table};
-use stored_data::{Column, Datum, StoredSet};
-
-/// Adds a column that isn't there.
-fn add(columns: &mut StoredSet, datum: Datum, period: u32) -> Result<(), AllocError>
-    requires { IsPeriod (is_rate datum) period }
-{
-    if columns.holds(datum) {
-        return Ok(());
-    }
-    columns.add(Column { datum, period })
-}
+use stick_table::{Event, PlainTable, Spec, Table, Ticket};
+use stored_data::Datum;
 
 /// The data that each table stores.
-fn columns(alloc: Global, period: u32) -> Result<StoredSet, AllocError>
-    requires { (1 ≤ period) × (period < 2 ^ 31) }
-{
-    let mut columns = StoredSet::new(alloc);
-    add(&mut columns, Datum::ConnCur, 0)?;
-    add(&mut columns, Datum::ConnRate, period)?;
-    add(&mut columns, Datum::ConnCnt, 0)?;
-    add(&mut columns, Datum::Gpc0, 0)?;
-    Ok(columns)
-}
+static STORED: [Datum; 4] = [Datum::ConnCur, Datum::ConnRate, Datum::ConnCnt, Datum::Gpc0];
 
-/// The limits of a table: 1 to 8 entries.
-fn limits(random: &mut Random) -> Limits
-    ensures size { (1 ≤ result.size) × (result.size ≤ 8) }
-    ensures expire { IfSome result.expire (λ ms. (1 ≤ ms) × (ms ≤ 40)) }
-    ensures max_refs { (1 ≤ result.max_refs) × (result.max_refs ≤ 10) }
-    ensures life { result.life ≤ 2 ^ 62 }
-    ensures period { (1 ≤ result.period) × (result.period ≤ 20) }
+static NAMED: [Datum; 12] = [
+    Datum::Gpc0,
+    Datum::Gpc0,
+    Datum::Gpc0,
+    Datum::Gpc0,
+    Datum::ConnCnt,
+    Datum::ConnCnt,
+    Datum::ConnCnt,
+    Datum::ConnRate,
+    Datum::ConnRate,
+    Datum::ConnCur,
+    Datum::ConnCur,
+    Datum::Gpc1,
+];
+
+static PUT: [Datum; 7] = [
+    Datum::Gpc0,
+    Datum::Gpc0,
+    Datum::Gpc0,
+    Datum::Gpc0,
+    Datum::ConnCnt,
+    Datum::ConnCnt,
+    Datum::ConnCnt,
+];
+
+/// What two replies to an event are: half of them are given at once, and half the second by a plain copy of what the
+/// table was before, by which the call is made again.
+pub fn ask<T: Table>(
+    random: &mut Random,
+    table: &mut T,
+    event: &Event,
+) -> Result<Answers, AllocError>
+    requires { IsTableEvent event.now }
 {
-    let expire = match random.below(4) {
-        0 => None,
-        _ => Some(random.below(40) + 1),
-    };
-    let life = match random.below(5) {
-        0 => u64::from(random.below(130)),
-        _ => 1 << 62,
-    };
-    Limits {
-        size: random.below(8) + 1,
-        expire,
-        nopurge: random.below(3) == 0,
-        max_refs: random.below(10) + 1,
-        life,
-        period: random.below(20) + 1,
+    if random.below(2) == 0 {
+        return Ok(step_twice(table, event));
     }
+    Ok(step_and_redo(table, event.copy()?))
 }
 
-fn open(alloc: Global, limits: Limits) -> Result<PlainTable, AllocError>
-    requires size { (1 ≤ limits.size) × (limits.size ≤ 8) }
-    requires expire { IfSome limits.expire (λ ms. (1 ≤ ms) × (ms ≤ 40)) }
-    requires max_refs { (1 ≤ limits.max_refs) × (limits.max_refs ≤ 10) }
-    requires life { limits.life ≤ 2 ^ 62 }
-    requires period { (1 ≤ limits.period) × (limits.period ≤ 20) }
-{
-    let columns = columns(alloc, limits.period)?;
-    PlainTable::open(
-        alloc,
-        Spec {
-            kind: KeyType::Integer,
-            size: limits.size,
-            expire: limits.expire,
-            nopurge: limits.nopurge,
-            columns,
-            max_refs: limits.max_refs,
-            life: limits.life,
-            seed: 0,
-        },
-    )
+/// What a table of this specification is reckoned with.
+fn limits(spec: &Spec, period: u32) -> Limits {
+    Limits {
+        size: spec.size,
+        expire: spec.expire,
+        nopurge: spec.nopurge,
+        max_refs: spec.max_refs,
+        life: spec.life,
+        period,
+    }
 }
 
 /// A table, what it is reckoned to be by each of two replies to every event, and the events drawn for it.
@@ -97,11 +81,15 @@ struct Trial {
 impl Trial {
     fn new(alloc: Global, seed: u64) -> Result<Trial, AllocError> {
         let mut random = Random::new(seed);
-        let limits = limits(&mut random);
+        let period = random.below(20) + 1;
+        let columns = columns(alloc, &STORED, period)?;
+        let size = random.below(8) + 1;
+        let spec = spec(&mut random, size, columns);
+        let limits = limits(&spec, period);
         Ok(Trial {
             alloc,
             random,
-            table: open(alloc, limits)?,
+            table: open(alloc, spec)?,
             plain: Reckoning::new(alloc, limits),
             again: Reckoning::new(alloc, limits),
         })
@@ -113,52 +101,49 @@ impl Trial {
             && self.table.tickets().len() == self.plain.held.len()
     }
 
-    /// Whether both replies to an event, or the refusal of it, are as reckoned.
-    fn agree(
-        &mut self,
-        now: u64,
-        event: &Event,
-        replies: Result<(Reply, Reply), Refusal>,
-    ) -> Result<bool, AllocError> {
-        match replies {
-            Ok((first, second)) => Ok(
-                self.plain.agrees(now, event, &Ok(first))?
-                    && self.again.agrees(now, event, &Ok(second))?,
-            ),
-            Err(refusal) => self.plain.agrees(now, event, &Err(refusal)),
+    /// The date of some entry, or the clock.
+    fn date(&mut self) -> u64 {
+        let place = self.random.below(8) as usize;
+        match self.plain.entries.get(place) {
+            Some(entry) => entry.date.unwrap_or(self.plain.clock),
+            None => self.plain.clock,
         }
     }
 
-    /// One event, done by the table, and then by a plain copy of what it was before; answers whether both are as
-    /// reckoned.
-    #[tactic(auto, using(table_model::proofs::RunLemmas::can_redo))]
-    fn redo(&mut self, now: u64, event: Event) -> Result<bool, AllocError>
-        requires { IsTableEvent event }
+    /// A ticket that is mostly out: now and then another number, or another slot.
+    fn ticket(&mut self) -> Ticket {
+        let count = (self.plain.held.len().min(8) as u32).max(1);
+        let place = self.random.below(count) as usize;
+        match self.plain.held.get(place) {
+            Some(held) => draws::altered(held.ticket, self.random.below(24)),
+            None => Ticket { number: 1, slot: 0 },
+        }
+    }
+
+    /// An event at this moment.
+    fn drawn(&mut self, now: u64) -> Result<Event, AllocError>
+        requires { now < 2 ^ 62 }
+        ensures { IfOk result IsTableEvent }
     {
-        let mut copy = self.table.to_plain()?;
-        match self.table.step(&event) {
-            Ok(reply) => {
-                let slot = reply.slot();
-                let stored = Stored { event, slot };
-                match copy.redo(&stored) {
-                    Ok(redone) => self.agree(now, &stored.event, Ok((reply, redone))),
-                    Err(_) => Ok(false),
-                }
-            }
-            Err(refusal) => self.agree(now, &event, Err(refusal)),
-        }
+        let scope = Scope {
+            keys: self.plain.limits.size.saturating_add(2).min(KEYS),
+            named: &NAMED,
+            put: &PUT,
+        };
+        let ticket = self.ticket();
+        draws::event(self.alloc, &mut self.random, scope, now, ticket)
     }
 
-    /// One event, replied twice or made again; answers whether the replies are as reckoned.
+    /// One event, replied twice or made again; answers whether both replies, or the refusal, are as reckoned.
     fn event(&mut self) -> Result<bool, AllocError> {
-        let kind = self.random.below(20);
-        let now = draws::moment(&mut self.random, &self.plain);
-        let event = draws::event(self.alloc, &mut self.random, &self.plain, kind, now)?;
-        if self.random.below(2) == 0 {
-            return self.redo(now, event);
-        }
-        let replies = self.table.step_twice(&event);
-        self.agree(now, &event, replies)
+        let date = self.date();
+        let now = draws::moment(&mut self.random, self.plain.clock, date);
+        let event = self.drawn(now)?;
+        let answers = ask(&mut self.random, &mut self.table, &event)?;
+        Ok(
+            self.plain.agrees(now, &event, &answers.0)?
+                && self.again.agrees(now, &event, &answers.1)?,
+        )
     }
 }
 

@@ -12,7 +12,14 @@ fn is_same_row(a: &Row, b: &Row) -> bool {
 
 /// Whether two lists of rows show the same.
 fn are_same_rows(a: &[Row], b: &[Row]) -> bool {
-    a.len() == b.len() && a.iter().zip(b).all(|(one, other)| is_same_row(one, other))
+    let mut place = 0usize;
+    for row in a {
+        match b.get(place) {
+            Some(other) if is_same_row(row, other) => place = place.saturating_add(1),
+            _ => return false,
+        }
+    }
+    place == b.len()
 }
 
 /// Whether two replies tell the same. The slot of a reference is its table's own matter.

@@ -2,7 +2,7 @@ use Rattle.std.proofs.Common.{All}
 use Rattle.table_model.specs.Limits.{IsTableEvent}
 use Rattle.table_model.specs.Run.{StoredRun}
 use Rattle.table_model.specs.declared.events.Stored.{Stored}
-use Rattle.event_tests.proofs.worked.told_calls.Given as goal
+use Rattle.event_tests.proofs.runs.told_calls.Given as goal
 
 -- the calls so far are those of a run from the base to the table
 abbrev pub invariant-loop-row : goal.invariant-loop-row

@@ -1,0 +1,187 @@
+//! Random events on many pooled tables, each compared with what a plain one answers.
+ghost use Rattle.std.specs.Prelude.{◌<◌, ◌^◌, IfOk};
+ghost use Rattle.table_model.specs.Limits.{IsTableEvent};
+
+use crate::alike::is_alike;
+use crate::calls::{Answer, copied, open, step};
+use crate::draws::{self, Scope};
+use crate::tables::{columns, spec};
+use crate::trials::ask;
+use pooled_table::StickTable;
+use random_numbers::Random;
+use std::alloc::{AllocError, Global};
+use std::test::Fail;
+use stick_key::StickKey;
+use stick_table::{Event, Filter, PlainTable, Reply, Ticket};
+use stored_data::Datum;
+
+/// The data that each table stores.
+static STORED: [Datum; 6] = [
+    Datum::Gpc0,
+    Datum::Gpc0Rate,
+    Datum::ConnCnt,
+    Datum::ConnRate,
+    Datum::ConnCur,
+    Datum::BytesInCnt,
+];
+
+static NAMED: [Datum; 12] = [
+    Datum::Gpc0,
+    Datum::Gpc0,
+    Datum::Gpc0,
+    Datum::Gpc0,
+    Datum::ConnCnt,
+    Datum::ConnCnt,
+    Datum::Gpc0Rate,
+    Datum::ConnRate,
+    Datum::ConnCur,
+    Datum::ConnCur,
+    Datum::BytesInCnt,
+    Datum::Gpc1,
+];
+
+static PUT: [Datum; 7] = [
+    Datum::Gpc0,
+    Datum::Gpc0,
+    Datum::Gpc0,
+    Datum::Gpc0,
+    Datum::BytesInCnt,
+    Datum::BytesInCnt,
+    Datum::BytesInCnt,
+];
+
+static SIZES: [u32; 4] = [1, 2, 7, 100];
+
+/// The tickets of a reference, of the pooled table and of the plain one.
+type Tickets = (Ticket, Ticket);
+
+/// A pooled table, a plain one made with the same, and the tickets of each reference.
+#[derive(Drop)]
+struct Trial {
+    alloc: Global,
+    random: Random,
+    clock: u64,
+    scope: Scope,
+    table: StickTable,
+    plain: PlainTable,
+    held: Vec<Tickets>,
+}
+
+/// The ticket that an answer tells.
+fn told(answer: &Answer) -> Option<Ticket> {
+    match answer {
+        Ok(Reply::Tracked { ticket, .. }) => Some(*ticket),
+        _ => None,
+    }
+}
+
+/// Whether the same references are out, by their numbers.
+fn are_the_same(a: &[(Ticket, StickKey)], b: &[(Ticket, StickKey)]) -> bool {
+    let mut place = 0usize;
+    for held in a {
+        match b.get(place) {
+            Some(other) if held.0.number == other.0.number => place = place.saturating_add(1),
+            _ => return false,
+        }
+    }
+    place == b.len()
+}
+
+/// Whether two tables have counted as many events and have the same references out.
+fn have_the_same_out(a: &PlainTable, b: &PlainTable) -> bool {
+    a.events() == b.events() && are_the_same(a.tickets(), b.tickets())
+}
+
+/// What a table lists.
+fn listed(table: &mut PlainTable) -> Answer {
+    step(table, &Event::List(0, Filter::Everything))
+}
+
+impl Trial {
+    fn new(alloc: Global, seed: u64) -> Result<Trial, AllocError> {
+        let mut random = Random::new(seed);
+        let columns = columns(alloc, &STORED, random.below(20) + 1)?;
+        let size = SIZES[random.below(4) as usize];
+        let spec = spec(&mut random, size.clamp(1, 100), columns);
+        Ok(Trial {
+            alloc,
+            random,
+            clock: 0,
+            scope: Scope {
+                keys: size.saturating_add(3),
+                named: &NAMED,
+                put: &PUT,
+            },
+            plain: open(alloc, spec.copy()?)?,
+            table: open(alloc, spec)?,
+            held: Vec::new(alloc),
+        })
+    }
+
+    /// The tickets of a reference that is mostly out: now and then of another number, or of another slot.
+    fn tickets(&mut self) -> Tickets {
+        let place = self.random.below(8) as usize;
+        let way = self.random.below(30);
+        match self.held.get(place) {
+            Some((ticket, plain)) => (draws::altered(*ticket, way), draws::altered(*plain, way)),
+            None => (Ticket { number: 0, slot: 0 }, Ticket { number: 0, slot: 0 }),
+        }
+    }
+
+    /// Keeps account of the references that are out.
+    fn note(&mut self, event: &Event, answer: &Answer, plain: &Answer) -> Result<(), AllocError> {
+        if let (Some(ticket), Some(other)) = (told(answer), told(plain)) {
+            self.held.push((ticket, other))?;
+        }
+        if let (Event::Release(_, gone), Ok(_)) = (event, answer) {
+            let number = gone.number;
+            self.held.retain(|held| held.0.number != number);
+        }
+        Ok(())
+    }
+
+    /// An event on each table; answers whether both replies of the one tell the same as that of the other.
+    fn answer_alike(&mut self, event: &Event, of_plain: &Event) -> Result<bool, AllocError>
+        requires event { IsTableEvent event.now }
+        requires plain { IsTableEvent of_plain.now }
+    {
+        let answers = ask(&mut self.random, &mut self.table, event)?;
+        let plain = step(&mut self.plain, of_plain);
+        self.note(event, &answers.0, &plain)?;
+        Ok(is_alike(&answers.0, &plain) && is_alike(&answers.1, &plain))
+    }
+
+    /// One event, drawn once for each table.
+    fn event(&mut self) -> Result<bool, AllocError> {
+        let date = self.clock.saturating_add(u64::from(self.random.below(41)));
+        let now = draws::moment(&mut self.random, self.clock, date);
+        let (ticket, plain) = self.tickets();
+        let seed = u64::from(self.random.below(1 << 31));
+        let event = draws::event(self.alloc, &mut Random::new(seed), self.scope, now, ticket)?;
+        let other = draws::event(self.alloc, &mut Random::new(seed), self.scope, now, plain)?;
+        self.clock = self.clock.max(now);
+        self.answer_alike(&event, &other)
+    }
+
+    /// Whether a plain copy of the table has the same references out, counted as many events, and lists the same as
+    /// the plain table.
+    fn is_copied(&self) -> Result<bool, AllocError> {
+        let mut copy = copied(&self.table)?;
+        let mut plain = copied(&self.plain)?;
+        Ok(have_the_same_out(&copy, &plain) && is_alike(&listed(&mut copy), &listed(&mut plain)))
+    }
+}
+
+#[test]
+fn a_pooled_table_answers_as_a_plain_one(rt: HostRuntime) -> Result<(), Fail> {
+    for seed in 0..1_000u64 {
+        let mut trial = Trial::new(rt.alloc(), seed)?;
+        for event in 0..200u32 {
+            assert!(rt; trial.event()?, "table {seed}, event {event}");
+            if event % 20 == 19 {
+                assert!(rt; trial.is_copied()?, "table {seed}, event {event}");
+            }
+        }
+    }
+    Ok(())
+}
