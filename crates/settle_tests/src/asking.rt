@@ -195,7 +195,8 @@ fn lists(
     }
 }
 
-/// Whether a roll of the first shard's record says that it was done, where no receipts are kept, and else that it wasn't.
+/// Whether a roll of the first shard's record says that it was done, where no receipts are kept, and else that it
+/// wasn't.
 fn rolls(rt: &impl Wait, table: &Shards<PlainTable>, keep: bool) -> Result<bool, (u32, Refusal)> {
     match table.roll(rt, place(table, 0), 1) {
         Ok(rolled) => Ok(rolled != keep),

@@ -89,7 +89,8 @@ fn make_each(rt: &impl Wait, alloc: Global, opened: &mut Opened, calls: &[Call])
     true
 }
 
-/// Whether a table in which an entry was put, whose record was rolled, and that was listed then, is settled with its own books.
+/// Whether a table in which an entry was put, whose record was rolled, and that was listed then, is settled with its
+/// own books.
 fn rolled_settles(rt: &impl Wait, alloc: Global) -> bool {
     let Ok(mut opened) = open(alloc, false) else {
         return false;

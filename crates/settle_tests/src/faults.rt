@@ -39,8 +39,8 @@ fn get_six(rt: &impl Wait, alloc: Global, opened: &mut Opened, now: u32) -> bool
     }
 }
 
-/// The reference that the first of two seats made on the first shard, which it also asked for its entry, as the second seat
-/// asked the second shard, at these moments.
+/// The reference that the first of two seats made on the first shard, which it also asked for its entry, as the second
+/// seat asked the second shard, at these moments.
 fn call_both(
     rt: &impl Wait,
     alloc: Global,
@@ -202,7 +202,8 @@ fn references_are_shown_once_each(rt: HostRuntime) {
     assert!(rt; references_are_missed(&rt, rt.alloc(), true));
 }
 
-/// Whether a table is unsettled with the seats of another, of which a shard's receipts differ, and is settled with its own.
+/// Whether a table is unsettled with the seats of another, of which a shard's receipts differ, and is settled with its
+/// own.
 fn differs(alloc: Global, opened: Opened, held: Held, other: Opened, shard: u32) -> bool {
     let (table, seats) = opened;
     let (_, strange) = other;

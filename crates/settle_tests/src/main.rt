@@ -1,9 +1,10 @@
-//! Tests of tables in shards that are called, kept house in, visited by connections, and settled once their callers have ended;
-//! and of the clock that a program that serves reads.
+//! Tests of tables in shards that are called, kept house in, visited by connections, and settled once their callers
+//! have ended; and of the clock that a program that serves reads.
 //!
-//! As a program it makes each call of such a table once, without receipts and with them, and settles it: first with a reference
-//! that is out and isn't shown, then with that given back. Where a growth is refused it asks once more, and says how often that
-//! was, and how many answers were those that are wanted. `tests/refusals calls` refuses each of its allocations in turn.
+//! As a program it makes each call of such a table once, without receipts and with them, and settles it: first with a
+//! reference that is out and isn't shown, then with that given back. Where a growth is refused it asks once more, and
+//! says how often that was, and how many answers were those that are wanted. `tests/refusals calls` refuses each of its
+//! allocations in turn.
 #![tactic(auto)]
 
 #[cfg(test)]

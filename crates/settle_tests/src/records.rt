@@ -32,8 +32,8 @@ fn are_held(tickets: &[Ticket], shard: u32, held: &[Held]) -> bool {
     tickets.len() as u64 == count
 }
 
-/// Whether a settled book has counted the calls of its shard that two callers noted, and has those references out that are
-/// held.
+/// Whether a settled book has counted the calls of its shard that two callers noted, and has those references out that
+/// are held.
 pub fn is_counted(
     settled: &Settled<PlainTable>,
     shard: u32,

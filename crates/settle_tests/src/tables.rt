@@ -75,7 +75,8 @@ pub enum Outcome {
     Lost,
 }
 
-/// What comes back, where it is what was shown: so many shards, seats of these accounts, and the references of these tickets.
+/// What comes back, where it is what was shown: so many shards, seats of these accounts, and the references of these
+/// tickets.
 fn handed_back(
     unsettled: Unsettled<PlainTable>,
     shards: u32,

@@ -203,8 +203,8 @@ fn are_in_all(counts: &[u64], calls: usize) -> bool {
     sum == calls as u64
 }
 
-/// Whether the settled books have counted 2,000 calls, just those that were noted of each, and have those references out that
-/// are held; and whether each record is what the callers noted.
+/// Whether the settled books have counted 2,000 calls, just those that were noted of each, and have those references
+/// out that are held; and whether each record is what the callers noted.
 fn is_settled(
     alloc: Global,
     settled: &Settled<PlainTable>,

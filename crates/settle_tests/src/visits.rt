@@ -1,6 +1,6 @@
 //! Connections from one address, from where they come to what they leave. Expected values come from HAProxy's words: a
-//! session is counted where it is accepted, bytes once it is closed, and `conn_cur` the connections that hold the entry now. A
-//! Track and a Release refresh the entry, so that what it has left tells at which moment they were made.
+//! session is counted where it is accepted, bytes once it is closed, and `conn_cur` the connections that hold the entry
+//! now. A Track and a Release refresh the entry, so that what it has left tells at which moment they were made.
 
 ghost use Rattle.std.specs.Prelude.{◌≡◌, true, All, length};
 ghost use Rattle.admit_core.specs.Conn.{needed};
@@ -152,8 +152,8 @@ fn goes_through(
     is_admitted && rested == Rested::Still
 }
 
-/// Whether a connection that comes is served, and leaves nothing behind but what was counted: five calls of its seat, and
-/// seven moves, of which two are changes of phase. Its release is the sixth, at 105 ms.
+/// Whether a connection that comes is served, and leaves nothing behind but what was counted: five calls of its seat,
+/// and seven moves, of which two are changes of phase. Its release is the sixth, at 105 ms.
 fn serves(
     alloc: Global,
     rt: &impl Wait,
@@ -193,8 +193,8 @@ fn an_accepted_connection_leaves_what_was_counted(rt: HostRuntime) {
     assert!(rt; is_served(&rt, rt.alloc()));
 }
 
-/// Whether a connection beside another is tracked, at 104 ms, by the fifth move, and rejected; and is gone once it goes on,
-/// behind a look at the table at 500 ms.
+/// Whether a connection beside another is tracked, at 104 ms, by the fifth move, and rejected; and is gone once it goes
+/// on, behind a look at the table at 500 ms.
 fn goes_away(
     alloc: Global,
     rt: &impl Wait,
@@ -277,8 +277,8 @@ fn a_second_connection_of_an_address_is_rejected(rt: HostRuntime) {
     assert!(rt; is_limited(&rt, rt.alloc()));
 }
 
-/// Whether a connection that is rejected still holds its reference where another table, of which its seat has seen too much,
-/// refuses the release; and gives it back to its own.
+/// Whether a connection that is rejected still holds its reference where another table, of which its seat has seen too
+/// much, refuses the release; and gives it back to its own.
 fn keeps_it(
     alloc: Global,
     rt: &impl Wait,
