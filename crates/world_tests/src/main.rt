@@ -11,10 +11,9 @@ mod setups;
 #[cfg(test)]
 mod worlds;
 
-use counts::{admitted, held, out, visit};
+use counts::{admitted, go_on, held, open, out, visit};
 use pooled_table::StickTable;
 use setups::limiting;
-use std::alloc::Global;
 use std::io;
 use std::process::ExitCode;
 use world::World;
@@ -73,13 +72,13 @@ struct Left {
 }
 
 impl Left {
-    fn of(alloc: Global, world: &World<'_, StickTable>) -> Left
+    fn of(world: &World<'_, StickTable>) -> Left
         requires count { length world.now.visitors ≡ 4 }
         requires tables { length world.now.setup.tables ≡ 1 }
         requires shards { world.now.setup.shards ≡ 1 }
     {
         Left {
-            out: out(alloc, world, 0),
+            out: out(world, 0),
             held: held(world, 0),
             first: admitted(world, HOSTS, 1),
             second: admitted(world, HOSTS, 2),
@@ -125,9 +124,9 @@ fn lead<R: Print + AllocGlobal>(rt: &R, world: &mut World<'_, StickTable>) -> io
     for (place, turn) in TURNS.iter().enumerate() {
         let number = turn.0 % 4;
         let moment = place as u64 % 1_000 * 10;
-        let here = world.run(rt.alloc(), &[(number, moment)]);
+        let here = go_on(rt.alloc(), world, number, moment);
         refused = refused.saturating_add(here);
-        let left = Left::of(rt.alloc(), world);
+        let left = Left::of(world);
         left.report(rt, number, here)?;
         is_right = is_right && left.is_within() && (refused > 0 || left.is_of(*turn));
     }
@@ -146,7 +145,7 @@ fn main(rt: HostRuntime) -> io::Result<ExitCode> {
         visit(HOSTS[2]),
         visit(HOSTS[3]),
     ];
-    let Ok(mut world) = World::<StickTable>::new(alloc, &setup, &visits) else {
+    let Ok(mut world) = open::<StickTable>(alloc, &setup, &visits) else {
         println!(rt; "out of memory")?;
         return Ok(ExitCode::SUCCESS);
     };

@@ -3,7 +3,7 @@
 
 ghost use Rattle.std.specs.Prelude.{◌≡◌, ◌≤◌, ◌<◌, ◌^◌, length};
 
-use crate::counts::{admitted, held, out, visit};
+use crate::counts::{admitted, go_on, held, open, out, phase, visit};
 use crate::setups::limiting;
 use admit_core::Phase;
 use pooled_table::StickTable;
@@ -42,11 +42,11 @@ static TOGETHER: [Turn; 20] = [
 ];
 
 /// Whether a connection has come to a phase, where that is told.
-fn has_come_to<T: Table>(world: &World<'_, T>, number: u32, phase: Option<Phase>) -> bool
+fn has_come_to<T: Table>(world: &World<'_, T>, number: u32, wanted: Option<Phase>) -> bool
     requires { number < length world.now.visitors }
 {
-    match phase {
-        Some(phase) => world.phase(number) == phase,
+    match wanted {
+        Some(wanted) => phase(world, number) == wanted,
         None => true,
     }
 }
@@ -59,10 +59,10 @@ fn goes_as_told<T: Table>(alloc: Global, world: &mut World<'_, T>, turns: &[Turn
 {
     for (number, moment, wanted, phase) in turns {
         let number = *number % 3;
-        if world.run(alloc, &[(number, *moment % 1_000)]) != 0 {
+        if go_on(alloc, world, number, *moment % 1_000) != 0 {
             return false;
         }
-        if out(alloc, world, 0) != Some(*wanted) || !has_come_to(world, number, *phase) {
+        if out(world, 0) != Some(*wanted) || !has_come_to(world, number, *phase) {
             return false;
         }
     }
@@ -75,7 +75,7 @@ fn three_go_as_told<T: Table>(alloc: Global, turns: &[Turn]) -> bool {
         return false;
     };
     let visits = [visit(1), visit(1), visit(1)];
-    let Ok(mut world) = World::<T>::new(alloc, &setup, &visits) else {
+    let Ok(mut world) = open::<T>(alloc, &setup, &visits) else {
         return false;
     };
     goes_as_told(alloc, &mut world, turns)
@@ -101,12 +101,12 @@ fn host(random: &mut Random) -> u8 {
 }
 
 /// Whether a shard has as many references out as the four connections hold.
-fn is_balanced(alloc: Global, world: &World<'_, StickTable>, shard: u32) -> bool
+fn is_balanced(world: &World<'_, StickTable>, shard: u32) -> bool
     requires count { length world.now.visitors ≡ 4 }
     requires table { length world.now.setup.tables ≡ 1 }
     requires shard { shard < world.now.setup.shards }
 {
-    out(alloc, world, shard) == Some(held(world, shard))
+    out(world, shard) == Some(held(world, shard))
 }
 
 /// Whether no more than the limit of each host are admitted.
@@ -132,7 +132,7 @@ fn wanders(
     for turn in 0..count {
         let number = random.below(4);
         let moment = u64::from(turn % 10 + random.below(990));
-        refused = refused.saturating_add(world.run(alloc, &[(number, moment)]));
+        refused = refused.saturating_add(go_on(alloc, world, number, moment));
     }
     refused == 0
 }
@@ -153,8 +153,8 @@ fn stays_within(
 {
     wanders(alloc, random, world, count)
         && is_within(world, trial)
-        && is_balanced(alloc, world, 0)
-        && is_balanced(alloc, world, 1)
+        && is_balanced(world, 0)
+        && is_balanced(world, 1)
 }
 
 /// Whether a world of four connections from two hosts keeps to its limit after eight elements, and after twelve more.
@@ -170,7 +170,7 @@ fn keeps_to_the_limit(alloc: Global, random: &mut Random) -> bool {
         visit(hosts[2]),
         visit(hosts[3]),
     ];
-    let Ok(mut world) = World::<StickTable>::new(alloc, &setup, &visits) else {
+    let Ok(mut world) = open::<StickTable>(alloc, &setup, &visits) else {
         return false;
     };
     let trial = Trial { hosts, limit };
