@@ -1,0 +1,22 @@
+//! Tests of what serves: connections between clients and servers of this machine, on threads that share a table, and
+//! commands of clients of a Unix socket. No contract can say what sockets and threads do.
+#![tactic(auto)]
+
+#[cfg(test)]
+mod binding;
+#[cfg(test)]
+mod commands;
+#[cfg(test)]
+mod connections;
+#[cfg(test)]
+mod gates;
+#[cfg(test)]
+mod peers;
+#[cfg(test)]
+mod setups;
+#[cfg(test)]
+mod sites;
+#[cfg(test)]
+mod tables;
+#[cfg(test)]
+mod visitors;

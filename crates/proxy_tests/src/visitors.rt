@@ -1,0 +1,149 @@
+//! Clients of a command socket, one after the other, and the service that answers them.
+
+use crate::setups::spec;
+use crate::tables::named;
+use command_socket::{Served, bind_socket, serve_clients, wake};
+use moments::StoppedClock;
+use shard_book::Books;
+use std::alloc::Global;
+use std::fs::{self, Files};
+use std::io::{Read, Write};
+use std::net::{Net, Shutdown};
+use std::os::unix::net::{UnixListener, UnixStream};
+use std::sync::Wait;
+use std::sync::atomic::{AtomicBool, Ordering};
+use std::thread;
+use std::thread::{Scope, Threads};
+use std::time::Clock;
+use stick_table::PlainTable;
+use table_cli::CommandService;
+
+/// A service of the table `t`.
+type Service = CommandService<Books<PlainTable>, StoppedClock>;
+
+/// A service of the empty table `t`, at the moment 5,000.
+fn service(alloc: Global) -> Option<Service> {
+    let Ok(spec) = spec(alloc) else {
+        return None;
+    };
+    let Ok(books) = Books::new(alloc, spec, 1) else {
+        return None;
+    };
+    let Ok(tables) = named(alloc, books) else {
+        return None;
+    };
+    Some(CommandService::new(alloc, tables, StoppedClock::at(5_000)))
+}
+
+/// What a client does.
+#[derive(Clone, Copy)]
+pub enum Visit<'a> {
+    /// It sends a text, shuts its writing side, and gets that answer and the end.
+    Asks(&'a [u8], &'a [u8]),
+    /// It sends a text, reads one byte of its answer, and is gone.
+    Vanishes(&'a [u8]),
+}
+
+/// Whether a client is answered so.
+fn is_answered(mut stream: &UnixStream, alloc: Global, text: &[u8], wanted: &[u8]) -> bool {
+    if stream.write_all(text).is_err() || stream.shutdown(Shutdown::Write).is_err() {
+        return false;
+    }
+    let mut got = Vec::new(alloc);
+    match stream.read_to_end(&mut got) {
+        Ok(_) => got.as_slice() == wanted,
+        Err(_) => false,
+    }
+}
+
+/// Whether a client gets the first byte of its answer.
+fn is_begun(mut stream: &UnixStream, text: &[u8]) -> bool {
+    let mut first = [0u8; 1];
+    stream.write_all(text).is_ok() && stream.read_exact(&mut first).is_ok()
+}
+
+/// Whether a client comes, and gets what it is to get.
+fn comes(rt: &impl Net, alloc: Global, path: &str, visit: Visit<'_>) -> bool {
+    let Ok(stream) = UnixStream::connect(rt, path) else {
+        return false;
+    };
+    match visit {
+        Visit::Asks(text, wanted) => is_answered(&stream, alloc, text, wanted),
+        Visit::Vanishes(text) => is_begun(&stream, text),
+    }
+}
+
+/// Whether all these clients come, each once the one before is gone.
+fn all_come(rt: &impl Net, alloc: Global, path: &str, visits: &[Visit<'_>]) -> bool {
+    for visit in visits {
+        if !comes(rt, alloc, path, *visit) {
+            return false;
+        }
+    }
+    true
+}
+
+/// What is shared by the thread that serves and the one that visits.
+#[derive(Drop)]
+struct Place<'a, R> {
+    rt: &'a R,
+    alloc: Global,
+    path: &'a str,
+    listener: UnixListener,
+    stop: AtomicBool,
+}
+
+/// Serves these clients on a thread, and ends it behind the last. What it says, where all got what they were to get.
+fn serve_visits<'s, E, R: Net + Threads + Wait + Clock + Sync>(
+    scope: &Scope<'s, E>,
+    place: &'s Place<'_, R>,
+    service: &'s mut Service,
+    visits: &[Visit<'_>],
+) -> Option<Served> {
+    let Ok(serving) = scope.spawn(move || serve_clients(
+        place.rt,
+        &place.listener,
+        service,
+        &place.stop,
+    )) else {
+        return None;
+    };
+    let have_come = all_come(place.rt, place.alloc, place.path, visits);
+    place.stop.store(true, Ordering::SeqCst);
+    let is_woken = wake(place.rt, place.path).is_ok();
+    let served = serving.join(place.rt);
+    if have_come && is_woken {
+        Some(served)
+    } else {
+        None
+    }
+}
+
+/// What a service on a socket at a path says of these clients, where all got what they were to get. The file is gone
+/// then.
+pub fn served<R: Net + Files + Threads + Wait + Clock + Sync>(
+    rt: &R,
+    alloc: Global,
+    path: &str,
+    visits: &[Visit<'_>],
+) -> Option<Served> {
+    let Ok(listener) = bind_socket(rt, path) else {
+        return None;
+    };
+    let place = Place {
+        rt,
+        alloc,
+        path,
+        listener,
+        stop: AtomicBool::new(false),
+    };
+    let mut service = service(alloc)?;
+    let (place, lent) = (&place, &mut service);
+    let served = thread::scope(thread::scope_env(), rt, |scope| {
+        serve_visits(scope, place, lent, visits)
+    });
+    match fs::remove_file(rt, path) {
+        Ok(()) => served,
+        Err(_) => None,
+    }
+}
