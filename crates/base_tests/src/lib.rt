@@ -1,10 +1,17 @@
-//! Tests of the small bases: ports in memory and streams, words and lines of text, rates over a period, and stored data.
+//! Tests of the small bases: ports in memory and streams, words and lines of text, rates over a period, stored data, keys and
+//! addresses.
 #![tactic(auto)]
 
 #[cfg(test)]
 mod acts;
 #[cfg(test)]
+mod addresses;
+#[cfg(test)]
+mod conversions;
+#[cfg(test)]
 mod data;
+#[cfg(test)]
+mod keys;
 #[cfg(test)]
 mod lines;
 #[cfg(test)]

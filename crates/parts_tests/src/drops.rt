@@ -1,7 +1,7 @@
 //! Each value that is given to a pool is dropped once: by who gets it back, or at the end of the pool.
-ghost use Rattle.std.specs.Prelude.{◌≤◌, ◌<◌};
 
-use entry_pool::{Handle, Pool};
+use crate::numbered::Numbered;
+use entry_pool::Handle;
 use random_numbers::Random;
 use std::alloc::{AllocError, Global};
 use std::cell::Cell;
@@ -23,11 +23,9 @@ impl Drop for Counted {
 /// A pool, the handles that it gave, and how often each value was dropped that it was given.
 #[derive(Drop)]
 struct Watched {
-    pool: Pool<Counted>,
+    pool: Numbered<Counted>,
     handles: Vec<Handle>,
     drops: Vec<Rc<Cell<u32>>>,
-    generation: u64,
-    ghost behind: { pool.newest ≤ generation },
 }
 
 /// How many values were dropped so often.
@@ -42,27 +40,11 @@ fn dropped(drops: &[Rc<Cell<u32>>], times: u32) -> usize {
 }
 
 impl Watched {
-    fn new(alloc: Global, capacity: u32) -> Result<Watched, AllocError>
-        requires positive { 0 < capacity }
-        requires small { capacity ≤ 100 }
-    {
-        Ok(Watched {
-            pool: Pool::new(alloc, capacity)?,
-            handles: Vec::new(alloc),
-            drops: Vec::new(alloc),
-            generation: 0,
-        })
-    }
-
     /// Gives the pool a value, which comes back and is dropped where the pool is full.
     fn insert(&mut self, alloc: Global) -> Result<(), AllocError> {
-        let Some(generation) = self.generation.checked_add(1) else {
-            return Ok(());
-        };
         let drops = Rc::new(alloc, Cell::new(0u32))?;
         self.drops.push(drops.clone()?)?;
-        self.generation = generation;
-        if let Ok(handle) = self.pool.insert(Counted { drops }, generation) {
+        if let Ok(handle) = self.pool.insert(Counted { drops }) {
             self.handles.push(handle)?;
         }
         Ok(())
@@ -87,7 +69,11 @@ impl Watched {
 #[test]
 fn each_value_is_dropped_once(rt: HostRuntime) -> Result<(), Fail> {
     let mut random = Random::new(4);
-    let mut watched = Watched::new(rt.alloc(), 20)?;
+    let mut watched = Watched {
+        pool: Numbered::new(rt.alloc(), 20)?,
+        handles: Vec::new(rt.alloc()),
+        drops: Vec::new(rt.alloc()),
+    };
     for _turn in 0..1000 {
         watched.insert(rt.alloc())?;
         assert!(rt; watched.are_dropped_once());
@@ -98,7 +84,6 @@ fn each_value_is_dropped_once(rt: HostRuntime) -> Result<(), Fail> {
         pool,
         handles: _,
         drops,
-        generation: _,
     } = watched;
     assert!(rt; pool.len() > 0);
     drop(pool);

@@ -5,6 +5,12 @@
 #[cfg(test)]
 mod drops;
 #[cfg(test)]
+mod listed;
+#[cfg(test)]
+mod marked;
+#[cfg(test)]
+mod numbered;
+#[cfg(test)]
 mod random_index;
 #[cfg(test)]
 mod random_order;

@@ -1,7 +1,7 @@
 //! A pool beside a plain list of what its slots hold, over random calls.
-ghost use Rattle.std.specs.Prelude.{◌≤◌};
 
-use entry_pool::{Handle, Pool};
+use crate::numbered::Numbered;
+use entry_pool::Handle;
 use random_numbers::Random;
 use std::test::Fail;
 
@@ -19,12 +19,10 @@ struct Live {
 /// A pool, what each of its slots should hold, the last handles that were removed, and how often it was full.
 #[derive(Drop)]
 struct Compared {
-    pool: Pool<u32>,
-    generation: u64,
+    pool: Numbered<u32>,
     slots: [Option<Live>; 40],
     removed: [Handle; 16],
     refusals: u32,
-    ghost behind: { pool.newest ≤ generation },
 }
 
 impl Compared {
@@ -56,23 +54,23 @@ impl Compared {
         let slot = random.below(SLOTS + 2);
         let generation = match self.at(slot) {
             Some(live) if random.below(4) > 0 => live.generation,
-            _ => self.generation.saturating_sub(u64::from(random.below(100))),
+            _ => self
+                .pool
+                .generation()
+                .saturating_sub(u64::from(random.below(100))),
         };
         Handle { slot, generation }
     }
 
     fn insert(&mut self, value: u32) -> bool {
-        let Some(generation) = self.generation.checked_add(1) else {
-            return false;
-        };
         let was_full = self.live_count() == 40;
-        self.generation = generation;
-        match self.pool.insert(value, generation) {
+        match self.pool.insert(value) {
             Err(back) => {
                 self.refusals = self.refusals.saturating_add(1);
                 was_full && back == value
             }
             Ok(handle) => {
+                let generation = self.pool.generation();
                 let was_free = handle.slot < SLOTS && self.at(handle.slot).is_none();
                 self.set(handle.slot, Some(Live { generation, value }));
                 !was_full && was_free && handle.generation == generation
@@ -84,30 +82,18 @@ impl Compared {
         let wanted = self.find(handle);
         if wanted.is_some() {
             self.set(handle.slot, None);
-            self.removed[(self.generation % 16) as usize] = handle;
+            self.removed[(self.pool.generation() % 16) as usize] = handle;
         }
         self.pool.remove(handle) == wanted
     }
 
     fn write(&mut self, handle: Handle, value: u32) -> bool {
+        let generation = handle.generation;
         let wanted = self.find(handle);
         if wanted.is_some() {
-            self.set(
-                handle.slot,
-                Some(Live {
-                    generation: handle.generation,
-                    value,
-                }),
-            );
+            self.set(handle.slot, Some(Live { generation, value }));
         }
-        match self.pool.get_mut(handle) {
-            Some(place) => {
-                let before = *place;
-                *place = value;
-                wanted == Some(before)
-            }
-            None => wanted.is_none(),
-        }
+        self.pool.write(handle, value) == wanted
     }
 
     fn read(&self, handle: Handle) -> bool {
@@ -142,8 +128,7 @@ impl Compared {
 fn a_pool_is_a_plain_list(rt: HostRuntime) -> Result<(), Fail> {
     let mut random = Random::new(1);
     let mut compared = Compared {
-        pool: Pool::new(rt.alloc(), SLOTS)?,
-        generation: 0,
+        pool: Numbered::new(rt.alloc(), SLOTS)?,
         slots: [None; 40],
         removed: [Handle {
             slot: 0,

@@ -1,8 +1,8 @@
 //! How an index spreads keys over chains, which no contract says: by its seed.
-ghost use Rattle.std.specs.Prelude.{◌≡◌, ◌<◌, map, is_some, vec_len};
 
+use crate::marked::Marked;
 use core::hash::keyed_hasher;
-use key_index::{Handle, Index};
+use key_index::Handle;
 use std::alloc::{AllocError, Global};
 use std::hash::Hasher;
 use std::test::Fail;
@@ -36,56 +36,22 @@ fn keys_of_one_chain(alloc: Global) -> Result<Vec<StickKey>, AllocError> {
     Ok(keys)
 }
 
-/// An index, and which of its slots have a key.
-#[derive(Drop)]
-struct Filled {
-    index: Index,
-    used: Vec<bool>,
-    ghost marked: { map is_some index.slots ≡ used.items },
-    ghost sized: { vec_len used ≡ 512 },
-}
-
-impl Filled {
-    fn new(alloc: Global, seed: u64) -> Result<Filled, AllocError> {
-        Ok(Filled {
-            index: Index::new(alloc, SLOTS, seed)?,
-            used: Vec::from_elem(alloc, false, SLOTS as usize)?,
-        })
-    }
-
-    /// Puts a key that is absent into a slot that has none.
-    fn put(&mut self, key: StickKey, handle: Handle)
-        requires { handle.slot < SLOTS }
-    {
-        if self.used[handle.slot as usize] {
-            return;
-        }
-        match self.index.get(&key) {
-            Some(_) => {}
-            None => {
-                self.used[handle.slot as usize] = true;
-                self.index.insert(key, handle);
+/// How many of these keys an index has, each asked twenty times.
+fn count(index: &Marked, keys: &[StickKey]) -> u32 {
+    let mut found = 0u32;
+    for _ in 0..20usize {
+        for key in keys {
+            if index.get(key).is_some() {
+                found = found.saturating_add(1);
             }
         }
     }
-
-    /// How many of these keys it has, each asked twenty times.
-    fn count(&self, keys: &[StickKey]) -> u32 {
-        let mut found = 0u32;
-        for _ in 0..20usize {
-            for key in keys {
-                if self.index.get(key).is_some() {
-                    found = found.saturating_add(1);
-                }
-            }
-        }
-        found
-    }
+    found
 }
 
 /// The index of these keys by a seed.
-fn fill(alloc: Global, keys: &[StickKey], seed: u64) -> Result<Filled, AllocError> {
-    let mut filled = Filled::new(alloc, seed)?;
+fn fill(alloc: Global, keys: &[StickKey], seed: u64) -> Result<Marked, AllocError> {
+    let mut filled = Marked::new(alloc, SLOTS, seed)?;
     for (place, key) in keys.iter().enumerate() {
         let slot = (place % SLOTS as usize) as u32;
         filled.put(
@@ -100,11 +66,11 @@ fn fill(alloc: Global, keys: &[StickKey], seed: u64) -> Result<Filled, AllocErro
 }
 
 /// The shortest of five times in which an index finds these keys.
-fn time_of(rt: &HostRuntime, filled: &Filled, keys: &[StickKey]) -> Result<Duration, Fail> {
+fn time_of(rt: &HostRuntime, filled: &Marked, keys: &[StickKey]) -> Result<Duration, Fail> {
     let mut shortest = Duration::MAX;
     for _ in 0..5usize {
         let start = Instant::now(rt)?;
-        let found = filled.count(keys);
+        let found = count(filled, keys);
         let passed = start.elapsed(rt)?;
         if found != 20 * SLOTS {
             return Err(Fail::from("a key is missing"));

@@ -1,29 +1,100 @@
 //! The parts on a few worked values.
-use entry_pool::{Handle, Pool};
-use expiry_order::Order;
-use key_index::Index;
+
+use crate::listed::Listed;
+use crate::marked::Marked;
+use crate::numbered::Numbered;
+use entry_pool::Handle;
 use std::alloc::{AllocError, Global};
 use std::test::Fail;
 use stick_key::{KeyType, StickKey, read_key};
 
+/// What is done to a pool, by the places of the handles that it gave.
+#[derive(Clone, Copy)]
+enum Deed {
+    Insert(char),
+    Remove(usize),
+    Get(usize),
+    Write(usize, char),
+}
+
+/// What is done to a pool of two slots, and the value that comes back.
+static DEEDS: [(Deed, Option<char>); 13] = [
+    (Deed::Insert('a'), None),
+    (Deed::Insert('b'), None),
+    (Deed::Insert('c'), Some('c')),
+    (Deed::Remove(0), Some('a')),
+    (Deed::Remove(0), None),
+    (Deed::Insert('c'), None),
+    (Deed::Get(0), None),
+    (Deed::Get(1), Some('b')),
+    (Deed::Get(2), Some('c')),
+    (Deed::Write(1, 'd'), Some('b')),
+    (Deed::Get(1), Some('d')),
+    (Deed::Write(0, 'e'), None),
+    (Deed::Get(2), Some('c')),
+];
+
+/// A pool, and the handles that it gave.
+#[derive(Drop)]
+struct Handled {
+    pool: Numbered<char>,
+    handles: Vec<Handle>,
+}
+
+impl Handled {
+    fn insert(&mut self, value: char) -> Result<Option<char>, AllocError> {
+        match self.pool.insert(value) {
+            Ok(handle) => {
+                self.handles.push(handle)?;
+                Ok(None)
+            }
+            Err(back) => Ok(Some(back)),
+        }
+    }
+
+    /// The handle of a place; of none there is one that finds nothing.
+    fn handle(&self, place: usize) -> Handle {
+        self.handles.get(place).copied().unwrap_or(Handle {
+            slot: 0,
+            generation: 0,
+        })
+    }
+
+    fn remove(&mut self, place: usize) -> Option<char> {
+        let handle = self.handle(place);
+        self.pool.remove(handle)
+    }
+
+    fn get(&self, place: usize) -> Option<char> {
+        self.pool.get(self.handle(place)).copied()
+    }
+
+    fn write(&mut self, place: usize, value: char) -> Option<char> {
+        let handle = self.handle(place);
+        self.pool.write(handle, value)
+    }
+
+    /// Does a deed, and gives what comes back.
+    fn perform(&mut self, deed: Deed) -> Result<Option<char>, AllocError> {
+        match deed {
+            Deed::Insert(value) => self.insert(value),
+            Deed::Remove(place) => Ok(self.remove(place)),
+            Deed::Get(place) => Ok(self.get(place)),
+            Deed::Write(place, value) => Ok(self.write(place, value)),
+        }
+    }
+}
+
 #[test]
 fn a_removed_handle_finds_no_later_value(rt: HostRuntime) -> Result<(), Fail> {
-    let mut pool = Pool::new(rt.alloc(), 2)?;
-    let first = pool.insert('a', 1).ok().ok_or("full")?;
-    let second = pool.insert('b', 2).ok().ok_or("full")?;
-    assert_eq!(rt; pool.insert('c', 3), Err('c'));
-    assert_eq!(rt; pool.remove(first), Some('a'));
-    assert_eq!(rt; pool.remove(first), None);
-    let third = pool.insert('c', 3).ok().ok_or("full")?;
-    assert_eq!(rt; pool.get(first).copied(), None);
-    assert_eq!(rt; pool.get(second).copied(), Some('b'));
-    assert_eq!(rt; pool.get(third).copied(), Some('c'));
-    if let Some(value) = pool.get_mut(second) {
-        *value = 'd';
+    let mut handled = Handled {
+        pool: Numbered::new(rt.alloc(), 2)?,
+        handles: Vec::new(rt.alloc()),
+    };
+    for (deed, back) in DEEDS.iter() {
+        assert_eq!(rt; handled.perform(*deed)?, *back);
     }
-    assert_eq!(rt; pool.get(second).copied(), Some('d'));
-    assert!(rt; pool.get_mut(first).is_none());
-    assert_eq!(rt; (pool.len(), pool.capacity()), (2, 2));
+    assert_eq!(rt; (handled.pool.len(), handled.pool.capacity()), (2, 2));
     Ok(())
 }
 
@@ -35,44 +106,61 @@ fn key(alloc: Global, address: &[u8]) -> Result<StickKey, AllocError> {
     }
 }
 
+/// The handle of the first key, and of the second.
+const FIRST: Handle = Handle {
+    slot: 0,
+    generation: 7,
+};
+
+const SECOND: Handle = Handle {
+    slot: 1,
+    generation: 8,
+};
+
+/// Whether an index has these handles for the two keys.
+fn has(index: &Marked, keys: &[StickKey; 2], handles: [Option<Handle>; 2]) -> bool {
+    let [first, second] = keys;
+    [index.get(first), index.get(second)] == handles
+}
+
+/// Whether an index has this key, of IPv4, and this handle in a slot.
+fn holds(index: &Marked, slot: u32, address: &[u8; 4], handle: Handle) -> bool {
+    match index.key_of(slot) {
+        Some(key) => key.bytes() == address.as_slice() && index.handle_of(slot) == Some(handle),
+        None => false,
+    }
+}
+
+/// Whether a key is taken out of the first slot, and it is this one.
+fn is_taken(index: &mut Marked, address: &[u8; 4]) -> bool {
+    match index.take(FIRST.slot) {
+        Some(key) => key.bytes() == address.as_slice() && index.get(&key).is_none(),
+        None => false,
+    }
+}
+
 #[test]
 fn a_removed_key_is_not_found(rt: HostRuntime) -> Result<(), Fail> {
-    let mut index = Index::new(rt.alloc(), 2, 0)?;
-    let first = Handle {
-        slot: 0,
-        generation: 7,
-    };
-    let second = Handle {
-        slot: 1,
-        generation: 8,
-    };
-    index.insert(key(rt.alloc(), b"10.0.0.1")?, first);
-    let sought = key(rt.alloc(), b"10.0.0.2")?;
-    assert_eq!(rt; index.get(&sought), None);
-    match index.get(&sought) {
-        None => index.insert(sought, second),
-        Some(_) => return Ok(()),
-    }
-    assert_eq!(rt; index.get(&key(rt.alloc(), b"10.0.0.1")?), Some(first));
-    assert_eq!(rt; index.get(&key(rt.alloc(), b"10.0.0.2")?), Some(second));
-    assert_eq!(rt; index.key_of(1).bytes(), [10, 0, 0, 2].as_slice());
-    assert_eq!(rt; index.handle_of(1), second);
-    let removed = index.remove_slot(0);
-    assert_eq!(rt; removed.bytes(), [10, 0, 0, 1].as_slice());
-    assert_eq!(rt; index.get(&removed), None);
-    assert_eq!(rt; index.get(&key(rt.alloc(), b"10.0.0.2")?), Some(second));
+    let mut index = Marked::new(rt.alloc(), 2, 0)?;
+    let keys = [key(rt.alloc(), b"10.0.0.1")?, key(rt.alloc(), b"10.0.0.2")?];
+    assert!(rt; index.put(key(rt.alloc(), b"10.0.0.1")?, FIRST));
+    assert!(rt; has(&index, &keys, [Some(FIRST), None]));
+    assert!(rt; index.put(key(rt.alloc(), b"10.0.0.2")?, SECOND));
+    assert!(rt; has(&index, &keys, [Some(FIRST), Some(SECOND)]));
+    assert!(rt; holds(&index, 1, &[10, 0, 0, 2], SECOND));
+    assert!(rt; is_taken(&mut index, &[10, 0, 0, 1]));
+    assert!(rt; has(&index, &keys, [None, Some(SECOND)]));
     Ok(())
 }
 
 #[test]
 fn a_slot_leaves_the_middle(rt: HostRuntime) -> Result<(), Fail> {
-    let mut order = Order::new(rt.alloc(), 4)?;
-    order.push_back(3);
-    order.push_back(1);
-    order.push_back(2);
-    order.remove(1);
-    assert_eq!(rt; order.front(), Some(3));
-    assert_eq!(rt; order.after(3), Some(2));
-    assert_eq!(rt; order.after(2), None);
+    let mut listed = Listed::new(rt.alloc(), 4)?;
+    for slot in [3, 1, 2, 1] {
+        listed.toggle(slot)?;
+    }
+    assert_eq!(rt; listed.front(), Some(3));
+    assert_eq!(rt; listed.after(3), Some(2));
+    assert_eq!(rt; listed.after(2), None);
     Ok(())
 }

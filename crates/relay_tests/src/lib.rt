@@ -1,5 +1,10 @@
-//! Tests of a direction of a connection: what is carried, and how it ends.
+//! Tests of a direction of a connection, over ports in memory, and of connections between sockets of this machine: what is
+//! carried, and how it ends.
 #![tactic(auto)]
 
+#[cfg(test)]
+mod connections;
+#[cfg(test)]
+mod peers;
 #[cfg(test)]
 mod pumps;

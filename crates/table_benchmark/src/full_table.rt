@@ -110,8 +110,26 @@ impl<T: Table> FullTable<T> {
         }
     }
 
+    /// Asks for the row of a key.
+    fn get(&mut self, number: u32) -> Result<u64, AllocError> {
+        let event = Event::Get(0, key(self.alloc, number)?);
+        Ok(self.step(&event))
+    }
+
+    /// Puts a value at a key.
+    fn put(&mut self, number: u32) -> Result<u64, AllocError> {
+        let event = put(self.alloc, number)?;
+        Ok(self.step(&event))
+    }
+
+    /// Puts a value at a key that was never there.
+    fn renew(&mut self) -> Result<u64, AllocError> {
+        self.newest = self.newest.wrapping_add(1);
+        self.put(self.newest)
+    }
+
     /// The ticket of a reference to a key.
-    fn track(&mut self, number: u32) -> Result<Option<Ticket>, AllocError> {
+    fn ticket(&mut self, number: u32) -> Result<Option<Ticket>, AllocError> {
         let event = Event::Track(0, key(self.alloc, number)?);
         Ok(match self.table.step(&event) {
             Ok(Reply::Tracked { ticket, .. }) => Some(ticket),
@@ -119,36 +137,50 @@ impl<T: Table> FullTable<T> {
         })
     }
 
+    fn release(&mut self, ticket: Ticket) -> u64 {
+        self.step(&Event::Release(0, ticket))
+    }
+
+    fn count(&mut self, ticket: Ticket) -> u64 {
+        self.step(&Event::Count(0, ticket, Act::IncGpc0))
+    }
+
+    fn look(&mut self, ticket: Ticket) -> u64 {
+        self.step(&Event::Look(0, ticket))
+    }
+
+    fn expire(&mut self) -> u64 {
+        self.step(&Event::Expire(0))
+    }
+
+    /// Takes a reference to a key, and gives it back.
+    fn track(&mut self, number: u32) -> Result<u64, AllocError> {
+        match self.ticket(number)? {
+            Some(ticket) => Ok(self.release(ticket)),
+            None => Ok(1),
+        }
+    }
+
+    /// Takes a reference to a key, counts and looks by it, and gives it back.
+    fn connect(&mut self, number: u32) -> Result<u64, AllocError> {
+        let Some(ticket) = self.ticket(number)? else {
+            return Ok(1);
+        };
+        let counted = self.count(ticket);
+        let looked = self.look(ticket);
+        let released = self.release(ticket);
+        Ok(counted.saturating_add(looked).saturating_add(released))
+    }
+
     /// A work on the entry of a key; answers how many events were refused.
     fn work(&mut self, work: Work, number: u32) -> Result<u64, AllocError> {
         match work {
-            Work::Get => {
-                let event = Event::Get(0, key(self.alloc, number)?);
-                Ok(self.step(&event))
-            }
-            Work::Put => {
-                let event = put(self.alloc, number)?;
-                Ok(self.step(&event))
-            }
-            Work::Renew => {
-                self.newest = self.newest.wrapping_add(1);
-                let event = put(self.alloc, self.newest)?;
-                Ok(self.step(&event))
-            }
-            Work::Track => match self.track(number)? {
-                Some(ticket) => Ok(self.step(&Event::Release(0, ticket))),
-                None => Ok(1),
-            },
-            Work::Connect => match self.track(number)? {
-                Some(ticket) => {
-                    let counted = self.step(&Event::Count(0, ticket, Act::IncGpc0));
-                    let looked = self.step(&Event::Look(0, ticket));
-                    let released = self.step(&Event::Release(0, ticket));
-                    Ok(counted.saturating_add(looked).saturating_add(released))
-                }
-                None => Ok(1),
-            },
-            Work::Expire => Ok(self.step(&Event::Expire(0))),
+            Work::Get => self.get(number),
+            Work::Put => self.put(number),
+            Work::Renew => self.renew(),
+            Work::Track => self.track(number),
+            Work::Connect => self.connect(number),
+            Work::Expire => Ok(self.expire()),
         }
     }
 

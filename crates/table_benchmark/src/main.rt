@@ -1,69 +1,50 @@
-//! Times the events of a table that is full. It is run by hand, with the kind of table, how many entries it has, and how
-//! many rounds there are.
+//! Times the events of a table that is full, the parts of the pooled table, and the reading and the printing of keys. It is
+//! run by hand, with what is timed, how many entries a table has, and how many rounds there are.
 #![tactic(auto)]
 
+mod full_index;
+mod full_order;
+mod full_pool;
 mod full_table;
+mod keys;
+mod parts;
+mod random;
+mod tables;
 
-ghost use Rattle.std.specs.Prelude.{◌≤◌, ◌^◌};
-
-use full_table::{FullTable, Work};
+use keys::print_key_times;
+use parts::print_part_times;
 use pooled_table::StickTable;
-use random_numbers::Random;
-use std::alloc::Global;
 use std::io::Print;
-use std::rt::Clock;
-use std::time::{Duration, Instant};
 use std::{env, io};
-use stick_table::{PlainTable, Table};
+use stick_table::PlainTable;
+use tables::print_table_times;
 
-/// Prints the least time of five runs, in tenths of a nanosecond for each round, and how many events were refused.
-fn print_time<T: Table, R: Clock + Print>(
-    rt: &R,
-    full: &mut FullTable<T>,
-    name: &str,
-    work: Work,
-    count: u32,
-) -> io::Result<()> {
-    let mut random = Random::new(1);
-    let mut least = u128::MAX;
-    let mut refused: u64 = 0;
-    for _run in 0..5usize {
-        let start = Instant::now(rt)?;
-        refused = refused.saturating_add(full.run(work, &mut random, count)?);
-        let time: Duration = start.elapsed(rt)?;
-        least = least.min(time.as_nanos());
-    }
-    let tenths = least.saturating_mul(10) / u128::from(count.max(1));
-    println!(rt;
-        "{name}: {}.{} ns ({refused} refused)",
-        tenths / 10,
-        tenths % 10
-    )
+/// What is timed.
+#[derive(Clone, Copy)]
+enum Subject {
+    Plain,
+    Pooled,
+    Parts,
+    Keys,
 }
 
-static WORKS: [(&str, Work); 6] = [
-    ("get", Work::Get),
-    ("put on an entry", Work::Put),
-    ("track, release", Work::Track),
-    ("track, count, look, release", Work::Connect),
-    ("expire", Work::Expire),
-    ("put on a new key, the oldest purged", Work::Renew),
-];
-
-/// Prints the times of a table of this size.
-fn print_times<T: Table, R: Clock + Print>(
-    rt: &R,
-    alloc: Global,
-    size: u32,
-    count: u32,
-) -> io::Result<()>
-    requires { (1 ≤ size) × (size ≤ 2 ^ 30) }
-{
-    let mut full = FullTable::<T>::new(alloc, size)?;
-    for (name, work) in WORKS.iter() {
-        print_time(rt, &mut full, name, *work, count)?;
+/// What a word of the command line asks for.
+fn subject_of(word: &str) -> Option<Subject> {
+    match word {
+        "plain" => Some(Subject::Plain),
+        "pooled" => Some(Subject::Pooled),
+        "parts" => Some(Subject::Parts),
+        "keys" => Some(Subject::Keys),
+        _ => None,
     }
-    Ok(())
+}
+
+/// What the first word of the command line asks for.
+fn asked_for(rt: &HostRuntime) -> io::Result<Option<Subject>> {
+    Ok(match env::args(rt)?.nth(1) {
+        Some(word) => subject_of(word.as_str()),
+        None => None,
+    })
 }
 
 /// The number that a word of the command line is.
@@ -74,22 +55,33 @@ fn number_of(rt: &HostRuntime, place: usize) -> io::Result<Option<u32>> {
     })
 }
 
-/// Whether the first word of the command line asks for a plain table.
-fn is_plain(rt: &HostRuntime) -> io::Result<bool> {
-    Ok(match env::args(rt)?.nth(1) {
-        Some(word) => word.as_str() == "plain",
-        None => false,
-    })
+fn print_usage(rt: &HostRuntime) -> io::Result<()> {
+    println!(rt; "usage: table_benchmark plain|pooled SIZE COUNT, or parts|keys COUNT")
+}
+
+/// Times what is asked for, by the numbers of the command line.
+fn print_times(
+    rt: &HostRuntime,
+    subject: Subject,
+    first: u32,
+    second: Option<u32>,
+) -> io::Result<()> {
+    match (subject, second) {
+        (Subject::Plain, Some(count)) if 1 <= first && first <= 1 << 30 => {
+            print_table_times::<PlainTable, HostRuntime>(rt, rt.alloc(), first, count)
+        }
+        (Subject::Pooled, Some(count)) if 1 <= first && first <= 1 << 30 => {
+            print_table_times::<StickTable, HostRuntime>(rt, rt.alloc(), first, count)
+        }
+        (Subject::Parts, None) => print_part_times(rt, rt.alloc(), first),
+        (Subject::Keys, None) => print_key_times(rt, rt.alloc(), first),
+        _ => print_usage(rt),
+    }
 }
 
 fn main(rt: HostRuntime) -> io::Result<()> {
-    match (number_of(&rt, 2)?, number_of(&rt, 3)?) {
-        (Some(size), Some(count)) if 1 <= size && size <= 1 << 30 => {
-            if is_plain(&rt)? {
-                return print_times::<PlainTable, HostRuntime>(&rt, rt.alloc(), size, count);
-            }
-            print_times::<StickTable, HostRuntime>(&rt, rt.alloc(), size, count)
-        }
-        _ => println!(rt; "usage: table_benchmark plain|pooled SIZE COUNT"),
+    match (asked_for(&rt)?, number_of(&rt, 2)?) {
+        (Some(subject), Some(first)) => print_times(&rt, subject, first, number_of(&rt, 3)?),
+        _ => print_usage(&rt),
     }
 }

@@ -1,0 +1,105 @@
+//! Keys made of samples, as the manual has them.
+
+use crate::keys::prints;
+use std::alloc::Global;
+use std::test::Fail;
+use stick_key::{Bytes, KeyFault, KeyType, Sample, StickKey, convert};
+
+/// What a key is made of; a text is here.
+#[derive(Clone, Copy)]
+enum Given {
+    V4([u8; 4]),
+    V6([u8; 16]),
+    Number(u32),
+    Text(&'static str),
+}
+
+/// The sample that is given.
+fn sample_of(alloc: Global, given: Given) -> Result<Sample, KeyFault> {
+    match given {
+        Given::V4(address) => Ok(Sample::V4(address)),
+        Given::V6(address) => Ok(Sample::V6(address)),
+        Given::Number(number) => Ok(Sample::Number(number)),
+        Given::Text(text) => Ok(Sample::Text(Bytes::from_slice(alloc, text.as_bytes())?)),
+    }
+}
+
+/// The key of a sample.
+fn converted(alloc: Global, sample: &Sample, kind: KeyType) -> Result<Option<StickKey>, KeyFault> {
+    convert(alloc, sample, kind)
+}
+
+/// Whether what is given has a key of this kind that is printed so, or none.
+fn converts(
+    alloc: Global,
+    given: Given,
+    kind: KeyType,
+    printed: Option<&str>,
+) -> Result<bool, KeyFault> {
+    let sample = sample_of(alloc, given)?;
+    Ok(match (converted(alloc, &sample, kind)?, printed) {
+        (Some(key), Some(printed)) => prints(alloc, kind, &key, printed),
+        (None, None) => true,
+        _ => false,
+    })
+}
+
+/// An IPv4 address.
+const PLAIN: Given = Given::V4([10, 0, 0, 1]);
+
+/// The same, as IPv6 has it.
+const MAPPED: Given = Given::V6([0, 0, 0, 0, 0, 0, 0, 0, 0, 0, 0xff, 0xff, 10, 0, 0, 1]);
+
+/// An IPv6 address.
+const WIDE: Given = Given::V6([0x20, 1, 0x0d, 0xb8, 0, 0, 0, 0, 0, 0, 0, 0, 0, 0, 0, 1]);
+
+const NUMBER: Given = Given::Number(80);
+
+const TEXT: Given = Given::Text("10.0.0.1");
+
+/// What is given, and its key of a kind, if it has one.
+type Conversion = (Given, KeyType, Option<&'static str>);
+
+static CONVERSIONS: [Conversion; 9] = [
+    (PLAIN, KeyType::Ip, Some("10.0.0.1")),
+    (PLAIN, KeyType::Ipv6, Some("::ffff:10.0.0.1")),
+    (PLAIN, KeyType::Text(4), Some("10.0")),
+    (PLAIN, KeyType::Integer, None),
+    (MAPPED, KeyType::Ip, Some("10.0.0.1")),
+    (WIDE, KeyType::Ipv6, Some("2001:db8::1")),
+    (WIDE, KeyType::Text(32), Some("2001:db8::1")),
+    (WIDE, KeyType::Ip, None),
+    (WIDE, KeyType::Integer, None),
+];
+
+static MORE_CONVERSIONS: [Conversion; 7] = [
+    (NUMBER, KeyType::Integer, Some("80")),
+    (NUMBER, KeyType::Text(1), Some("8")),
+    (NUMBER, KeyType::Ip, None),
+    (NUMBER, KeyType::Ipv6, None),
+    (TEXT, KeyType::Text(3), Some("10.")),
+    (TEXT, KeyType::Ip, None),
+    (Given::Text(""), KeyType::Text(32), None),
+];
+
+#[test]
+fn conversions(rt: HostRuntime) -> Result<(), Fail> {
+    for (given, kind, printed) in CONVERSIONS.iter() {
+        assert!(rt;
+            converts(rt.alloc(), *given, *kind, *printed)?,
+            "{printed:?}"
+        );
+    }
+    Ok(())
+}
+
+#[test]
+fn more_conversions(rt: HostRuntime) -> Result<(), Fail> {
+    for (given, kind, printed) in MORE_CONVERSIONS.iter() {
+        assert!(rt;
+            converts(rt.alloc(), *given, *kind, *printed)?,
+            "{printed:?}"
+        );
+    }
+    Ok(())
+}
