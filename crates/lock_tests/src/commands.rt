@@ -1,10 +1,10 @@
 //! Commands on tables that threads share, asked by one seat, and on tables that one thread has.
 
-ghost use Rattle.std.specs.Prelude.{◌≡◌, IfOk};
-
-use crate::tables::track;
+use crate::books::{Sums, holds};
+use crate::tables::Desk;
+use crate::threads::open_two;
 use byte_ports::MemorySink;
-use drawn_calls::{books_of, spec};
+use drawn_calls::spec;
 use moments::StoppedClock;
 use sequence::{NoMemory, Sequence};
 use shard_book::{Books, Keeper, Named};
@@ -14,7 +14,7 @@ use std::alloc::Global;
 use std::sync::Wait;
 use std::test::Fail;
 use stick_table::PlainTable;
-use table_cli::answer;
+use table_cli::{CliFault, answer};
 
 /// A command line at a moment in ms, and its answer.
 type Answered = (u32, &'static [u8], &'static [u8]);
@@ -56,22 +56,39 @@ static LINES: [Answered; 9] = [
     ),
 ];
 
-/// Whether the lines are answered so, one after another, on a table.
-fn are_answered<K: Keeper>(
+/// What a line at a moment in ms is answered.
+fn answer_of<K: Keeper>(
     alloc: Global,
     tables: &mut [Named<K>],
-    lines: &[Answered],
-) -> Result<bool, NoMemory> {
-    for (moment, line, wanted) in lines {
-        let mut clock = StoppedClock::at(u64::from(*moment));
-        let mut writer = MemorySink::new(alloc, 1_000, None);
-        if answer(alloc, tables, &mut clock, line, &mut writer).is_err()
-            || writer.written() != *wanted
-        {
-            return Ok(false);
+    moment: u32,
+    line: &[u8],
+) -> Result<MemorySink, CliFault> {
+    let mut clock = StoppedClock::at(u64::from(moment));
+    let mut writer = MemorySink::new(alloc, 1_000, None);
+    answer(alloc, tables, &mut clock, line, &mut writer)?;
+    Ok(writer)
+}
+
+/// Whether a line is answered so.
+fn is_answered<K: Keeper>(
+    alloc: Global,
+    tables: &mut [Named<K>],
+    (moment, line, wanted): Answered,
+) -> bool {
+    match answer_of(alloc, tables, moment, line) {
+        Ok(writer) => writer.written() == wanted,
+        Err(_) => false,
+    }
+}
+
+/// Whether the lines are answered so, one after another, on a table.
+fn are_answered<K: Keeper>(alloc: Global, tables: &mut [Named<K>], lines: &[Answered]) -> bool {
+    for line in lines {
+        if !is_answered(alloc, tables, *line) {
+            return false;
         }
     }
-    Ok(true)
+    true
 }
 
 /// The tables of a line's service: one, named n.
@@ -82,52 +99,85 @@ fn named<K: Keeper + Drop>(alloc: Global, keeper: K) -> Result<Vec<Named<K>>, No
     Ok(tables)
 }
 
+/// A table of 12 entries in two shards that one thread has.
+fn open_books(alloc: Global) -> Result<Books<PlainTable>, NoMemory> {
+    Books::new(alloc, spec(alloc, 12, 4, 1_000)?, 2)
+}
+
+/// The service of such a table.
+fn serve_books(alloc: Global) -> Result<Vec<Named<Books<PlainTable>>>, NoMemory> {
+    named(alloc, open_books(alloc)?)
+}
+
+/// Whether one thread's table is answered so.
+fn are_books_answered(alloc: Global) -> bool {
+    match serve_books(alloc) {
+        Ok(mut tables) => are_answered(alloc, &mut tables, &LINES),
+        Err(_) => false,
+    }
+}
+
 #[test]
 fn one_thread_is_answered(rt: HostRuntime) -> Result<(), Fail> {
-    let alloc = rt.alloc();
-    let books = Books::<PlainTable>::new(alloc, spec(alloc, 12, 4, 1_000)?, 2)?;
-    let mut tables = named(alloc, books)?;
-    assert!(rt; are_answered(alloc, &mut tables, &LINES)?);
+    assert!(rt; are_books_answered(rt.alloc()));
     Ok(())
 }
 
-/// A table of 12 entries in two shards, and two seats of it.
-fn open(alloc: Global) -> Result<(Shards<PlainTable>, Seat, Seat), NoMemory>
-    ensures { IfOk result (λ opened. opened.0.shards ≡ 2) }
-{
-    let (table, mut seats) = Shards::new(alloc, spec(alloc, 12, 4, 1_000)?, 2, 2, false)?;
-    match (seats.pop(), seats.pop()) {
-        (Some(second), Some(first)) => Ok((table, first, second)),
-        _ => Err(NoMemory),
+/// Whether a seat's lines were answered so, and how many events of each shard the seat made.
+fn made_by<R: Wait>(
+    mut tables: Vec<Named<Seated<'_, PlainTable, R>>>,
+    are_answered: bool,
+) -> Option<(bool, u64, u64)> {
+    match tables.pop() {
+        Some(table) => {
+            let seat = table.keeper.into_seat();
+            Some((are_answered, seat.calls(0), seat.calls(1)))
+        }
+        None => None,
     }
 }
 
 /// Has a seat's lines answered; answers whether they were answered so, and how many events of each shard the seat made.
-fn calls_made(
-    rt: &impl Wait,
+fn calls_made<R: Wait>(
+    rt: &R,
     alloc: Global,
     table: &Shards<PlainTable>,
     seat: Seat,
     lines: &[Answered],
-) -> Result<(bool, u64, u64), NoMemory> {
-    let mut tables = named(alloc, Seated::new(table, rt, seat))?;
-    let is_answered = are_answered(alloc, &mut tables, lines)?;
-    let Some(table) = tables.pop() else {
-        return Err(NoMemory);
+) -> Option<(bool, u64, u64)> {
+    match named(alloc, Seated::new(table, rt, seat)) {
+        Ok(mut tables) => {
+            let are_answered = are_answered(alloc, &mut tables, lines);
+            made_by(tables, are_answered)
+        }
+        Err(_) => None,
+    }
+}
+
+/// What the books hold when the lines are answered.
+fn sums(events: u64) -> Sums {
+    Sums {
+        sizes: (6, 6),
+        events: (events, 0),
+        calls: events as usize,
+        references: 0,
+        is_new: true,
+    }
+}
+
+/// Whether a seat of a new table is answered so. Keys 5, 7 and 9 lie on the first shard, key 6 on the second.
+fn is_seat_answered(rt: &impl Wait, alloc: Global) -> bool {
+    let Ok((desk, seat)) = open_two(alloc) else {
+        return false;
     };
-    let seat = table.keeper.into_seat();
-    Ok((is_answered, seat.calls(0), seat.calls(1)))
+    let made = calls_made(rt, alloc, &desk.table, seat, &LINES);
+    let holds = holds(desk, &[sums(8), sums(6)]);
+    made == Some((true, 8, 6)) && holds
 }
 
 #[test]
 fn a_seat_is_answered_the_same(rt: HostRuntime) -> Result<(), Fail> {
-    let alloc = rt.alloc();
-    let (table, seat, _) = open(alloc)?;
-    // Keys 5, 7 and 9 lie on the first shard, key 6 on the second.
-    assert!(rt; calls_made(&rt, alloc, &table, seat, &LINES)? == (true, 8, 6));
-    let books = books_of(alloc, table)?;
-    let counts = books.iter().map(|book| book.events());
-    assert!(rt; counts.eq([8u64, 6].iter().copied()));
+    assert!(rt; is_seat_answered(&rt, rt.alloc()));
     Ok(())
 }
 
@@ -146,24 +196,60 @@ static TRACKED: [Answered; 2] = [
     ),
 ];
 
+/// What a seat is answered of a table where another has tracked the key of 6.
+fn is_shown(rt: &impl Wait, alloc: Global) -> Option<(bool, u64, u64)> {
+    let Ok((mut desk, seat)) = open_two(alloc) else {
+        return None;
+    };
+    match desk.track(rt, 6) {
+        Ok(_) => calls_made(rt, alloc, &desk.table, seat, &TRACKED),
+        Err(_) => None,
+    }
+}
+
 #[test]
 fn a_seat_is_shown_what_another_has_done(rt: HostRuntime) -> Result<(), Fail> {
-    let alloc = rt.alloc();
-    let (table, seat, mut other) = open(alloc)?;
-    let (_held, _row) = track(&rt, alloc, &table, &mut other, 6)?;
-    assert!(rt; calls_made(&rt, alloc, &table, seat, &TRACKED)? == (true, 1, 2));
+    assert!(rt; is_shown(&rt, rt.alloc()) == Some((true, 1, 2)));
     Ok(())
 }
 
 /// What a seat is answered of a table that has counted less than it has seen.
 static BEHIND: [Answered; 1] = [(0, b"show table n", b"Table unavailable.\n\n")];
 
+/// The seat alone.
+fn seat_of(desk: Desk) -> Seat {
+    let Desk {
+        alloc: _,
+        table: _,
+        seat,
+    } = desk;
+    seat
+}
+
+/// A seat that has tracked the key of 5 in a table.
+fn seat_of_another(rt: &impl Wait, alloc: Global) -> Option<Seat> {
+    let Ok(mut desk) = Desk::open(alloc, 2, false) else {
+        return None;
+    };
+    match desk.track(rt, 5) {
+        Ok(_) => Some(seat_of(desk)),
+        Err(_) => None,
+    }
+}
+
+/// What the seat of another table is answered.
+fn is_behind(rt: &impl Wait, alloc: Global) -> Option<(bool, u64, u64)> {
+    let Some(seat) = seat_of_another(rt, alloc) else {
+        return None;
+    };
+    match Desk::open(alloc, 2, false) {
+        Ok(fresh) => calls_made(rt, alloc, &fresh.table, seat, &BEHIND),
+        Err(_) => None,
+    }
+}
+
 #[test]
 fn a_table_that_is_behind_is_unavailable(rt: HostRuntime) -> Result<(), Fail> {
-    let alloc = rt.alloc();
-    let (table, mut seat, _) = open(alloc)?;
-    let (_held, _row) = track(&rt, alloc, &table, &mut seat, 5)?;
-    let (fresh, _, _) = open(alloc)?;
-    assert!(rt; calls_made(&rt, alloc, &fresh, seat, &BEHIND)? == (true, 1, 0));
+    assert!(rt; is_behind(&rt, rt.alloc()) == Some((true, 1, 0)));
     Ok(())
 }

@@ -1,8 +1,6 @@
 //! A shard that is held, and calls beside it.
 
-ghost use Rattle.std.specs.Prelude.{◌<◌};
-
-use drawn_calls::spec;
+use crate::tables::{Ask, Desk, Said, place, say};
 use shard_locks::Shards;
 use shard_seats::Seat;
 use std::alloc::{AllocError, Global};
@@ -13,7 +11,7 @@ use std::test::Fail;
 use std::thread;
 use std::thread::Threads;
 use std::time::Duration;
-use stick_table::{Event, PlainTable};
+use stick_table::PlainTable;
 
 /// What one thread tells the other.
 #[derive(Drop)]
@@ -37,13 +35,6 @@ fn is_set<R: Clock>(rt: &R, flag: &AtomicBool, ms: u32) -> bool {
     flag.load(Ordering::SeqCst)
 }
 
-/// The shard of a number, of which there are as many as the table has.
-fn place(table: &Shards<PlainTable>, number: u32) -> u32
-    ensures { result < table.now.shards }
-{
-    number % table.shards()
-}
-
 /// Holds shard 0 until the call was answered, so many ms at most.
 fn hold<R: Wait + Clock>(rt: &R, table: &Shards<PlainTable>, flags: &Flags, ms: u32) {
     table.hold(rt, place(table, 0), || {
@@ -57,15 +48,36 @@ fn hold<R: Wait + Clock>(rt: &R, table: &Shards<PlainTable>, flags: &Flags, ms: 
 /// Calls a shard once shard 0 is held.
 fn call<R: Wait + Clock>(
     rt: &R,
+    alloc: Global,
     table: &Shards<PlainTable>,
     seat: &mut Seat,
     shard: u32,
     flags: &Flags,
 ) {
-    let shard = place(table, shard);
-    if is_set(rt, &flags.held, 10_000) && table.call(rt, seat, shard, Event::Expire(0)).is_ok() {
+    if is_set(rt, &flags.held, 10_000)
+        && say(rt, alloc, table, seat, shard, Ask::Expire(0)) == Said::Expired(0)
+    {
         flags.answered.store(true, Ordering::SeqCst);
     }
+}
+
+/// Holds shard 0 in another thread, and calls a shard.
+fn hold_and_call<R: Threads + Wait + Clock + Sync>(
+    rt: &R,
+    desk: &mut Desk,
+    shard: u32,
+    ms: u32,
+    flags: &Flags,
+) -> Result<(), AllocError> {
+    let alloc = desk.alloc;
+    let table = &desk.table;
+    let seat = &mut desk.seat;
+    thread::scope(thread::scope_env(), rt, |scope| -> Result<(), AllocError> {
+        let holder = scope.spawn(|| hold(rt, table, flags, ms))?;
+        call(rt, alloc, table, seat, shard, flags);
+        holder.join(rt);
+        Ok(())
+    })
 }
 
 /// Whether shard 0 was held, a call of a shard was answered, and the holder saw that.
@@ -74,43 +86,28 @@ fn call_beside<R: Threads + Wait + Clock + Sync>(
     alloc: Global,
     shard: u32,
     ms: u32,
-) -> Result<(bool, bool, bool), AllocError>
-    requires { shard < 2 }
-{
-    let (table, mut seats) = Shards::<PlainTable>::new(
-        alloc,
-        spec(alloc, 10, 4, 1_000)?,
-        2,
-        1,
-        false,
-    )?;
-    let Some(mut seat) = seats.pop() else {
-        return Err(AllocError);
+) -> Option<(bool, bool, bool)> {
+    let Ok(mut desk) = Desk::open(alloc, 2, false) else {
+        return None;
     };
     let flags = Flags {
         held: AtomicBool::new(false),
         answered: AtomicBool::new(false),
         seen: AtomicBool::new(false),
     };
-    thread::scope(thread::scope_env(), rt, |scope| -> Result<(), AllocError> {
-        let holder = scope.spawn(|| hold(rt, &table, &flags, ms))?;
-        call(rt, &table, &mut seat, shard, &flags);
-        holder.join(rt);
-        Ok(())
-    })?;
-    Ok((
-        flags.held.into_inner(),
-        flags.answered.into_inner(),
-        flags.seen.into_inner(),
-    ))
+    match hold_and_call(rt, &mut desk, shard, ms, &flags) {
+        Ok(()) => Some((
+            flags.held.load(Ordering::SeqCst),
+            flags.answered.load(Ordering::SeqCst),
+            flags.seen.load(Ordering::SeqCst),
+        )),
+        Err(_) => None,
+    }
 }
 
 #[test]
 fn a_call_waits_for_the_lock_of_its_own_shard_alone(rt: HostRuntime) -> Result<(), Fail> {
-    assert_eq!(rt;
-        call_beside(&rt, rt.alloc(), 1, 10_000)?,
-        (true, true, true)
-    );
-    assert_eq!(rt; call_beside(&rt, rt.alloc(), 0, 300)?, (true, true, false));
+    assert!(rt; call_beside(&rt, rt.alloc(), 1, 10_000) == Some((true, true, true)));
+    assert!(rt; call_beside(&rt, rt.alloc(), 0, 300) == Some((true, true, false)));
     Ok(())
 }

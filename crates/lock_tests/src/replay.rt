@@ -8,7 +8,17 @@ use sequence::{NoMemory, Sequence};
 use shard_book::{Book, Recorded};
 use shard_seats::Receipt;
 use std::alloc::Global;
-use stick_table::{Refusal, Reply, Stored, Table, redo_all};
+use stick_table::{PlainTable, Refusal, Reply, Stored, Table, redo_all};
+
+/// A call of a record, without its seat.
+fn stored_call(call: &Recorded) -> Result<Stored, NoMemory>
+    ensures { IfOk result (λ stored. stored ≡ call.now.stored) }
+{
+    Ok(Stored {
+        event: call.stored.event.copy()?,
+        slot: call.stored.slot,
+    })
+}
 
 /// The calls of a record, without their seats.
 fn stored_calls(alloc: Global, calls: &[Recorded]) -> Result<Vec<Stored>, NoMemory>
@@ -16,17 +26,13 @@ fn stored_calls(alloc: Global, calls: &[Recorded]) -> Result<Vec<Stored>, NoMemo
 {
     let mut stored = Vec::new(alloc);
     for call in calls {
-        let event = call.stored.event.copy()?;
-        stored.push(Stored {
-            event,
-            slot: call.stored.slot,
-        })?;
+        stored.push(stored_call(call)?)?;
     }
     Ok(stored)
 }
 
 /// The replies to the calls of a book's record, made again on a plain copy of its base.
-pub fn replies_of<T: Table>(alloc: Global, book: &Book<T>) -> Result<Sequence<Reply>, Refusal> {
+pub fn replies_of(alloc: Global, book: &Book<PlainTable>) -> Result<Sequence<Reply>, Refusal> {
     let calls = stored_calls(alloc, book.calls())?;
     let mut base = book.base().to_plain()?;
     redo_all(alloc, &mut base, &calls)
@@ -49,6 +55,20 @@ fn next_note(notes: &[Receipt], shard: u32, from: usize) -> usize {
     notes.len()
 }
 
+/// Whether there is a note at a place, and it is that of a call of a shard.
+fn is_noted_at(
+    notes: &[Receipt],
+    place: usize,
+    shard: u32,
+    call: &Recorded,
+    reply: Option<&Reply>,
+) -> bool {
+    match (notes.get(place), reply) {
+        (Some(note), Some(reply)) => is_noted(note, shard, call, reply),
+        _ => false,
+    }
+}
+
 /// Whether a seat noted of a shard just the calls that the shard's record has of it, each with its reply.
 pub fn is_told(
     calls: &[Recorded],
@@ -63,12 +83,10 @@ pub fn is_told(
         if call.seat != seat {
             continue;
         }
-        match (notes.get(place), replies.get(index)) {
-            (Some(note), Some(reply)) if is_noted(note, shard, call, reply) => {
-                place = next_note(notes, shard, place.saturating_add(1));
-            }
-            _ => return false,
+        if !is_noted_at(notes, place, shard, call, replies.get(index)) {
+            return false;
         }
+        place = next_note(notes, shard, place.saturating_add(1));
     }
     place == notes.len()
 }

@@ -1,142 +1,140 @@
 //! Shards whose records begin again, and references that outlast it.
 
-ghost use Rattle.std.specs.Prelude.{◌≤◌, ◌<◌};
-
-use crate::tables::{gets, is_released, open, track};
-use drawn_calls::{books_of, key};
-use sequence::Sequence;
-use shard_book::Book;
-use shard_locks::Shards;
-use shard_seats::Seat;
+use crate::books::{Sums, holds, holds_entries};
+use crate::calls::{counts_of, row};
+use crate::tables::{Ask, Desk, Said};
 use std::alloc::Global;
 use std::sync::Wait;
 use std::test::Fail;
-use stick_key::shard_of;
-use stick_table::{Cell, Event, Filter, PlainTable, Refusal, Reply, Table};
-use stored_data::Datum;
 
-/// Sets gpc0 of the key of a number to 3.
-fn put(
-    rt: &impl Wait,
-    alloc: Global,
-    table: &Shards<PlainTable>,
-    seat: &mut Seat,
-    number: u32,
-) -> Result<bool, Refusal> {
-    let pair = Cell {
-        datum: Datum::Gpc0,
-        value: 3,
+/// Whether three rolls of a record of two calls are as they have to: one that wants a call more, one that wants one, and
+/// one at once again.
+fn roll_as(rt: &impl Wait, desk: &Desk, wanted: (bool, bool, bool)) -> bool {
+    desk.roll(rt, 3) == Said::Rolled(wanted.0)
+        && desk.roll(rt, 1) == Said::Rolled(wanted.1)
+        && desk.roll(rt, 1) == Said::Rolled(wanted.2)
+}
+
+/// Whether a reference of the key of 2 outlasts the rolls, and so does what was put into the key of 1.
+fn outlast(rt: &impl Wait, desk: &mut Desk) -> bool {
+    match desk.track(rt, 2) {
+        Ok((held, _shown)) => {
+            roll_as(rt, desk, (false, true, false))
+                && desk.say(rt, 0, Ask::Get(1, 0)) == row(0, 500, 3)
+                && desk.release(rt, held, 0).is_ok()
+        }
+        Err(_) => false,
+    }
+}
+
+/// Whether a new table keeps its entries and references over a roll: its book has counted four events and its base two,
+/// with two entries of which one is tracked.
+fn are_kept(rt: &impl Wait, alloc: Global) -> bool {
+    let wanted = Sums {
+        sizes: (12, 12),
+        events: (4, 2),
+        calls: 2,
+        references: 1,
+        is_new: false,
     };
-    let pairs = Sequence::from_slice(alloc, &[pair])?;
-    let key = key(alloc, number)?;
-    let shard = shard_of(&key, table.shards());
-    let reply = table.call(rt, seat, shard, Event::Put(0, key, pairs))?;
-    Ok(matches!(reply, Reply::Written { created } if created))
-}
-
-/// What three rolls of a record of two calls say: one that wants a call more, one that wants one, and one at once again.
-fn rolls(rt: &impl Wait, table: &Shards<PlainTable>) -> Result<(bool, bool, bool), Refusal>
-    requires { 1 ≤ table.now.shards }
-{
-    Ok((
-        table.roll(rt, 0, 3)?,
-        table.roll(rt, 0, 1)?,
-        table.roll(rt, 0, 1)?,
-    ))
-}
-
-/// Whether a book's base has counted two events and lists two entries of which one is tracked, and its record has two calls.
-fn is_rolled(book: &Book<PlainTable>) -> Result<bool, Refusal> {
-    let mut base = book.base().to_plain()?;
-    let listed = base.step(&Event::List(0, Filter::Everything))?;
-    Ok(
-        matches!(listed, Reply::Rows { used, .. } if used == 2)
-            && book.base().events() == 2
-            && book.base().tickets().len() == 1
-            && book.calls().len() == 2
-            && book.events() == 4,
-    )
-}
-
-/// Whether the book of a table in one shard has such a base.
-fn has_rolled(alloc: Global, table: Shards<PlainTable>) -> Result<bool, Refusal> {
-    let books = books_of(alloc, table)?;
-    match books.as_slice() {
-        [book] => is_rolled(book),
-        _ => Ok(false),
+    match Desk::open(alloc, 1, false) {
+        Ok(mut desk) => {
+            let is_put = desk.say(rt, 0, Ask::Put(1)) == Said::Written(true);
+            let is_kept = outlast(rt, &mut desk);
+            let holds = holds_entries(desk, wanted, 2);
+            is_put && is_kept && holds
+        }
+        Err(_) => false,
     }
 }
 
 #[test]
 fn a_roll_keeps_entries_and_references(rt: HostRuntime) -> Result<(), Fail> {
-    let alloc = rt.alloc();
-    let (table, mut seat) = open(alloc, 1, false)?;
-    assert!(rt; put(&rt, alloc, &table, &mut seat, 1)?);
-    let (reference, _row) = track(&rt, alloc, &table, &mut seat, 2)?;
-    let rolled = rolls(&rt, &table);
-    let got = gets(&rt, alloc, &table, &mut seat, 1, (0, 0, 500, 3));
-    let released = is_released(&rt, &table, &mut seat, reference, 0);
-    assert!(rt; rolled? == (false, true, false));
-    assert!(rt; got? && released);
-    assert!(rt; has_rolled(alloc, table)?);
+    assert!(rt; are_kept(&rt, rt.alloc()));
     Ok(())
+}
+
+/// Whether two keys are put and no roll is done.
+fn is_not_rolled(rt: &impl Wait, desk: &mut Desk) -> bool {
+    desk.say(rt, 0, Ask::Put(1)) == Said::Written(true)
+        && desk.say(rt, 0, Ask::Put(2)) == Said::Written(true)
+        && roll_as(rt, desk, (false, false, false))
+}
+
+/// Whether that is so of a new table with receipts, whose book then has two calls since the empty table.
+fn stays(rt: &impl Wait, alloc: Global) -> bool {
+    let wanted = Sums {
+        sizes: (12, 12),
+        events: (2, 0),
+        calls: 2,
+        references: 0,
+        is_new: true,
+    };
+    match Desk::open(alloc, 1, true) {
+        Ok(mut desk) => {
+            let is_not_rolled = is_not_rolled(rt, &mut desk);
+            let holds = holds(desk, &[wanted]);
+            is_not_rolled && holds
+        }
+        Err(_) => false,
+    }
 }
 
 #[test]
 fn a_record_with_receipts_is_not_rolled(rt: HostRuntime) -> Result<(), Fail> {
-    let alloc = rt.alloc();
-    let (table, mut seat) = open(alloc, 1, true)?;
-    assert!(rt; put(&rt, alloc, &table, &mut seat, 1)? && put(&rt, alloc, &table, &mut seat, 2)?);
-    assert!(rt; rolls(&rt, &table)? == (false, false, false));
-    let books = books_of(alloc, table)?;
-    assert!(rt;
-        books
-            .iter()
-            .all(|book| book.base().is_new() && book.calls().len() == 2)
-    );
+    assert!(rt; stays(&rt, rt.alloc()));
     Ok(())
 }
 
 // ---- a hundred calls between two rolls
 
-/// Gets the row of the key of 1 so many times; answers how often it shows one reference.
-fn get_often(
-    rt: &impl Wait,
-    alloc: Global,
-    table: &Shards<PlainTable>,
-    seat: &mut Seat,
-    times: u32,
-) -> Result<u32, Refusal> {
-    let mut shown = 0u32;
+/// Whether the row of the key of 1 shows one reference, so many times.
+fn are_shown(rt: &impl Wait, desk: &mut Desk, times: u32) -> bool {
     for _ in 0..times {
-        if gets(rt, alloc, table, seat, 1, (0, 1, 500, 0))? {
-            shown = shown.saturating_add(1);
+        if desk.say(rt, 0, Ask::Get(1, 0)) != row(1, 500, 0) {
+            return false;
         }
     }
-    Ok(shown)
+    true
 }
 
-/// Whether a book's base has counted so many events and has so many references, and its record so many calls.
-fn is_recorded(book: &Book<PlainTable>, events: u64, references: usize, calls: usize) -> bool {
-    book.base().events() == events
-        && book.base().tickets().len() == references
-        && book.calls().len() == calls
+/// Tracks two keys, rolls, gets a row a hundred times, gives both references back and rolls again; answers whether all
+/// was done so.
+fn roll_around_references(rt: &impl Wait, desk: &mut Desk) -> bool {
+    match (desk.track(rt, 1), desk.track(rt, 2)) {
+        (Ok((first, _)), Ok((second, _))) => {
+            desk.roll(rt, 2) == Said::Rolled(true)
+                && are_shown(rt, desk, 100)
+                && desk.release(rt, second, 0).is_ok()
+                && desk.release(rt, first, 0).is_ok()
+                && desk.roll(rt, 102) == Said::Rolled(true)
+                && counts_of(&desk.seat, 0) == (104, 104)
+        }
+        _ => false,
+    }
+}
+
+/// Whether that is so of a new table, whose book then has 104 events in its base, and no reference.
+fn all_outlast(rt: &impl Wait, alloc: Global) -> bool {
+    let wanted = Sums {
+        sizes: (12, 12),
+        events: (104, 104),
+        calls: 0,
+        references: 0,
+        is_new: false,
+    };
+    match Desk::open(alloc, 1, false) {
+        Ok(mut desk) => {
+            let is_rolled = roll_around_references(rt, &mut desk);
+            let holds = holds(desk, &[wanted]);
+            is_rolled && holds
+        }
+        Err(_) => false,
+    }
 }
 
 #[test]
 fn references_outlast_a_roll(rt: HostRuntime) -> Result<(), Fail> {
-    let alloc = rt.alloc();
-    let (table, mut seat) = open(alloc, 1, false)?;
-    let (first, _) = track(&rt, alloc, &table, &mut seat, 1)?;
-    let (second, _) = track(&rt, alloc, &table, &mut seat, 2)?;
-    let rolled = table.roll(&rt, 0, 2);
-    let shown = get_often(&rt, alloc, &table, &mut seat, 100);
-    let released = is_released(&rt, &table, &mut seat, second, 0)
-        && is_released(&rt, &table, &mut seat, first, 0);
-    assert!(rt; rolled? && shown? == 100 && released);
-    assert!(rt; table.roll(&rt, 0, 102)?);
-    let books = books_of(alloc, table)?;
-    assert!(rt; books.iter().all(|book| is_recorded(book, 104, 0, 0)));
-    assert!(rt; (seat.calls(0), seat.seen(0)) == (104, 104));
+    assert!(rt; all_outlast(&rt, rt.alloc()));
     Ok(())
 }

@@ -2,8 +2,11 @@
 
 ghost use Rattle.std.specs.Prelude.{◌<◌};
 
+use crate::books::events_of;
 use crate::replay::{is_told, replies_of};
+use crate::tables::Desk;
 use drawn_calls::{Caller, Drawing, books_of, spec};
+use sequence::{NoMemory, Sequence};
 use shard_book::Book;
 use shard_locks::Shards;
 use shard_seats::{Receipt, Seat};
@@ -12,7 +15,7 @@ use std::sync::Wait;
 use std::test::Fail;
 use std::thread;
 use std::thread::Threads;
-use stick_table::{PlainTable, Refusal};
+use stick_table::{PlainTable, Refusal, Reply};
 
 /// How many calls each thread makes.
 const CALLS: u32 = 1_000;
@@ -71,25 +74,44 @@ fn call_from_two<R: Threads + Wait + Sync>(
     )
 }
 
-/// Whether a book's record says just what both seats noted of its shard, since the empty table.
+/// Whether the record of a shard says just what a seat noted of it.
+fn is_agreed(
+    book: &Book<PlainTable>,
+    replies: &Sequence<Reply>,
+    shard: u32,
+    noted: &Noted,
+) -> bool {
+    is_told(
+        book.calls(),
+        replies.as_slice(),
+        shard,
+        noted.seat.number(),
+        &noted.notes,
+    )
+}
+
+/// Whether a book's record says just what both seats noted of its shard, since the empty table, and has as many calls
+/// as the seats have counted.
 fn agrees(
     alloc: Global,
     book: &Book<PlainTable>,
     shard: u32,
     noted: &[Noted; 2],
-) -> Result<bool, Refusal> {
+) -> Result<bool, Refusal>
+    requires { shard < 64 }
+{
+    let [first, second] = noted;
     let replies = replies_of(alloc, book)?;
-    for one in noted {
-        let number = one.seat.number();
-        if !is_told(book.calls(), replies.as_slice(), shard, number, &one.notes) {
-            return Ok(false);
-        }
-    }
-    Ok(book.base().is_new())
+    Ok(
+        is_agreed(book, &replies, shard, first)
+            && is_agreed(book, &replies, shard, second)
+            && book.base().is_new()
+            && events_of(book) == both_calls(noted, shard),
+    )
 }
 
 /// How many calls of a shard both seats have counted.
-fn calls_of(noted: &[Noted; 2], shard: u32) -> u64
+fn both_calls(noted: &[Noted; 2], shard: u32) -> u64
     requires { shard < 64 }
 {
     let [first, second] = noted;
@@ -99,7 +121,7 @@ fn calls_of(noted: &[Noted; 2], shard: u32) -> u64
         .saturating_add(second.seat.calls(shard))
 }
 
-/// Whether both books agree with what was noted, and have as many calls as the seats have counted.
+/// Whether both books agree with what was noted, and have all calls.
 fn all_agree(
     alloc: Global,
     books: &[Book<PlainTable>],
@@ -111,20 +133,29 @@ fn all_agree(
     Ok(
         agrees(alloc, first, 0, noted)?
             && agrees(alloc, second, 1, noted)?
-            && first.events() == calls_of(noted, 0)
-            && second.events() == calls_of(noted, 1)
-            && first.events().saturating_add(second.events()) == 2 * u64::from(CALLS),
+            && events_of(first).saturating_add(events_of(second)) == 2 * u64::from(CALLS),
     )
+}
+
+/// A table of 12 entries in two shards, and two of its seats.
+pub fn open_two(alloc: Global) -> Result<(Desk, Seat), NoMemory> {
+    let spec = spec(alloc, 12, 5, 1 << 62)?;
+    let (table, mut seats) = Shards::new(alloc, spec, 2, 2, false)?;
+    match (seats.pop(), seats.pop()) {
+        (Some(seat), Some(first)) => Ok((Desk { alloc, table, seat }, first)),
+        _ => Err(NoMemory),
+    }
 }
 
 /// Whether the records of two shards say just what the seats of two threads were told.
 fn two_agree<R: Threads + Wait + Sync>(rt: &R, alloc: Global) -> Result<bool, Refusal> {
-    let spec = spec(alloc, 12, 5, 1 << 62)?;
-    let (table, mut seats) = Shards::<PlainTable>::new(alloc, spec, 2, 2, false)?;
-    let (Some(second), Some(first)) = (seats.pop(), seats.pop()) else {
-        return Ok(false);
-    };
-    let noted = call_from_two(rt, alloc, &table, first, second)?;
+    let (desk, first) = open_two(alloc)?;
+    let Desk {
+        alloc: _,
+        table,
+        seat,
+    } = desk;
+    let noted = call_from_two(rt, alloc, &table, first, seat)?;
     let books = books_of(alloc, table)?;
     all_agree(alloc, &books, &noted)
 }
