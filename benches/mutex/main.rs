@@ -1,18 +1,18 @@
-//! What a lock takes in Rust: the rounds of `lock_benchmark` with a `Mutex` of std's in the place of each shard's lock, and
-//! the same rounds with none, by as many threads, of as many locks. A round takes the lock of a payload as large as a
-//! shard's book, and counts in it.
+//! What a lock takes in Rust: the rounds of `lock_benchmark` with a `Mutex` of std's in the place of each shard's lock,
+//! and the same rounds with none, by as many threads, of as many locks. A round takes the lock of a payload as large as
+//! a shard's book, and counts in it.
 //!
 //!     rustc -O --edition 2024 benches/mutex/main.rs -o /tmp/mutex && /tmp/mutex 1000000
 //!
-//! Prints, as `lock_benchmark` does, the least of five times for a round in ns, of the thread that took longest each time:
-//! without the lock, and with it.
+//! Prints, as `lock_benchmark` does, the least of five times for a round in ns, of the thread that took longest each
+//! time: without the lock, and with it.
 
 use std::hint::black_box;
 use std::sync::Mutex;
 use std::time::{Duration, Instant};
 
-/// The bytes of a shard's book.
-const BYTES: usize = 1_024;
+/// The bytes of a shard's book of a pooled table.
+const BYTES: usize = 568;
 
 /// How many keys each thread has of its own: its rounds go over their locks in turn.
 const KEYS: u32 = 16;
