@@ -4,9 +4,11 @@ ghost use Rattle.command_socket.specs.Clients.{ServesClients, Visit, state_of};
 
 use crate::Served;
 use byte_ports::{Sink, Source, StreamSink, StreamSource};
+use gathered_writes::{FlushingSource, GatheringSink, SharedSink, flush_shared};
 use moments::Clock;
 use shard_book::Keeper;
-use std::os::unix::net::UnixListener;
+use std::cell::RefCell;
+use std::os::unix::net::{UnixListener, UnixStream};
 use std::sync::Wait;
 use std::sync::atomic::{AtomicBool, Ordering};
 use std::time::Duration;
@@ -26,6 +28,20 @@ fn serve_client<K: Keeper, C: Clock, R: Source, W: Sink>(
         Ok(count) => count,
         Err(fault) => fault.done,
     }
+}
+
+/// Answers the lines of a client on a stream. The answers to what came with one read are written together, before the
+/// next read could wait; a client that has gone needs the last ones no more.
+fn serve_stream<K: Keeper, C: Clock>(service: &mut CommandService<K, C>, stream: &UnixStream) -> u64
+    ensures { Visit K.answers K.refuses C.shows (state_of K.table K.parts K.state C.state service.old.tables.items service.old.clock) result
+        (state_of K.table K.parts K.state C.state service.new.tables.items service.new.clock) }
+{
+    let gathered = RefCell::new(GatheringSink::new(StreamSink::new(stream)));
+    let mut reader = FlushingSource::new(StreamSource::new(stream), &gathered);
+    let mut writer = SharedSink::new(&gathered);
+    let commands = serve_client(service, &mut reader, &mut writer);
+    let _ = flush_shared(&gathered);
+    commands
 }
 
 /// Serves the clients of a socket, one after the other, until `stop` is set; it is looked at when a client has connected,
@@ -56,9 +72,7 @@ pub fn serve_clients<K: Keeper, C: Clock, R: Wait + time::Clock>(
             thread::sleep(rt, Duration::from_millis(10));
             continue;
         };
-        let mut reader = StreamSource::new(&stream);
-        let mut writer = StreamSink::new(&stream);
-        served.note_client(serve_client(service, &mut reader, &mut writer));
+        served.note_client(serve_stream(service, &stream));
         if stop.load(Ordering::SeqCst) {
             return served;
         }
