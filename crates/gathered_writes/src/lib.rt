@@ -4,8 +4,10 @@
 //! are the two ends of a conversation that share one: what was written comes before the next read.
 #![tactic(auto)]
 
+mod flushing_source;
 mod gathering_sink;
-mod shared;
+mod shared_sink;
 
+pub use flushing_source::{FlushingSource, flush_shared};
 pub use gathering_sink::{GatheringSink, ROOM};
-pub use shared::{FlushingSource, SharedSink, flush_shared};
+pub use shared_sink::SharedSink;
