@@ -1,5 +1,5 @@
-//! Tests of the small bases: ports in memory and streams, words and lines of text, rates over a period, stored data, keys and
-//! addresses.
+//! Tests of the small bases: ports in memory and streams, gathered writes, words and lines of text, rates over a period, stored
+//! data, keys and addresses.
 #![tactic(auto)]
 
 #[cfg(test)]
@@ -10,6 +10,8 @@ mod addresses;
 mod conversions;
 #[cfg(test)]
 mod data;
+#[cfg(test)]
+mod gathering;
 #[cfg(test)]
 mod keys;
 #[cfg(test)]

@@ -11,6 +11,8 @@ mod connections;
 #[cfg(test)]
 mod gates;
 #[cfg(test)]
+mod gathered;
+#[cfg(test)]
 mod peers;
 #[cfg(test)]
 mod setups;

@@ -14,7 +14,7 @@ use std::sync::Wait;
 use std::sync::atomic::{AtomicBool, Ordering};
 use std::thread;
 use std::thread::{Scope, Threads};
-use std::time::Clock;
+use std::time::{Clock, Duration};
 use stick_table::PlainTable;
 use table_cli::CommandService;
 
@@ -42,6 +42,8 @@ pub enum Visit<'a> {
     Asks(&'a [u8], &'a [u8]),
     /// It sends a text, reads one byte of its answer, and is gone.
     Vanishes(&'a [u8]),
+    /// It sends a text, each byte by a write of its own, and gets that answer while its writing side is open.
+    Drips(&'a [u8], &'a [u8]),
 }
 
 /// Whether a client is answered so.
@@ -62,6 +64,27 @@ fn is_begun(mut stream: &UnixStream, text: &[u8]) -> bool {
     stream.write_all(text).is_ok() && stream.read_exact(&mut first).is_ok()
 }
 
+/// The most bytes of the answer to a client that drips.
+const DRIPPED: usize = 256;
+
+/// Whether a client that waits for its answer gets that one, within 20 s.
+fn is_answered_at_once(mut stream: &UnixStream, text: &[u8], wanted: &[u8]) -> bool {
+    for byte in text {
+        if stream.write_all(&[*byte]).is_err() {
+            return false;
+        }
+    }
+    let mut got = [0u8; DRIPPED];
+    let Some(room) = got.get_mut(..wanted.len()) else {
+        return false;
+    };
+    stream
+        .set_read_timeout(Some(Duration::from_secs(20)))
+        .is_ok()
+        && stream.read_exact(room).is_ok()
+        && *room == *wanted
+}
+
 /// Whether a client comes, and gets what it is to get.
 fn comes(rt: &impl Net, alloc: Global, path: &str, visit: Visit<'_>) -> bool {
     let Ok(stream) = UnixStream::connect(rt, path) else {
@@ -70,6 +93,7 @@ fn comes(rt: &impl Net, alloc: Global, path: &str, visit: Visit<'_>) -> bool {
     match visit {
         Visit::Asks(text, wanted) => is_answered(&stream, alloc, text, wanted),
         Visit::Vanishes(text) => is_begun(&stream, text),
+        Visit::Drips(text, wanted) => is_answered_at_once(&stream, text, wanted),
     }
 }
 
