@@ -4,11 +4,8 @@ ghost use Rattle.std.specs.Prelude.{◌≡◌, ◌≤◌, ◌<◌, ◌++◌, [],
 ghost use Rattle.byte_ports.specs.Bytes.{Grows, IsOneMore};
 ghost use Rattle.gathered_writes.specs.Gathering.{gathered};
 
-use arrayvec::ArrayVec;
+use crate::held_bytes::HeldBytes;
 use byte_ports::{Failed, Sink, write_all};
-
-/// How many bytes are gathered at most.
-pub const ROOM: usize = 16_384;
 
 /// Gathers bytes, up to `ROOM` of them, for a sink behind it, which gets them once there is no more room or when
 /// `flush` is called, in their order. Contracts see what it has taken: what that sink has taken, and what is gathered.
@@ -16,21 +13,21 @@ pub const ROOM: usize = 16_384;
 #[derive(Drop)]
 pub struct GatheringSink<W> {
     inner: W,
-    held: ArrayVec<u8, ROOM>,
+    held: HeldBytes,
     // How many of the bytes that are held the sink behind has taken, where it then failed.
     sent: usize,
-    ghost within: { sent ≤ length held.items },
+    ghost within: { sent ≤ length held },
 }
 
 impl<W: Sink> GatheringSink<W> {
     /// Nothing is gathered for this sink yet.
     pub fn new(inner: W) -> Self
         ensures inner { result.inner ≡ inner }
-        ensures empty { gathered result.held.items result.sent ≡ [] }
+        ensures empty { gathered result.held result.sent ≡ [] }
     {
         GatheringSink {
             inner,
-            held: ArrayVec::new(),
+            held: HeldBytes::new(),
             sent: 0,
         }
     }
@@ -45,15 +42,15 @@ impl<W: Sink> GatheringSink<W> {
     /// The sink behind has taken all that was gathered. `Failed` comes where it failed; what it has not taken then is
     /// still gathered.
     pub fn flush(&mut self) -> Result<(), Failed>
-        ensures kept { Grows W.tells (W.written self.old.inner ++ gathered self.old.held.items self.old.sent) (W.written self.new.inner ++ gathered self.new.held.items self.new.sent) [] }
-        ensures empty { OnOk result (gathered self.new.held.items self.new.sent ≡ []) }
+        ensures kept { Grows W.tells (W.written self.old.inner ++ gathered self.old.held self.old.sent) (W.written self.new.inner ++ gathered self.new.held self.new.sent) [] }
+        ensures empty { OnOk result (gathered self.new.held self.new.sent ≡ []) }
         ensures ok { OnOk result (W.failures self.new.inner ≡ W.failures self.old.inner) }
         ensures err { OnErr result (IsOneMore (W.failures self.old.inner) (W.failures self.new.inner)) }
     {
         match write_all(&mut self.inner, &self.held.as_slice()[self.sent..]) {
             Ok(()) => {
                 self.sent = 0;
-                self.held.clear();
+                self.held.truncate(0);
                 Ok(())
             }
             Err(stopped) => {
@@ -67,10 +64,10 @@ impl<W: Sink> GatheringSink<W> {
     fn pass(&mut self, bytes: &[u8]) -> Result<usize, Failed>
         ensures bound { IfOk result (λ count. count ≤ length bytes.now) }
         ensures some { 0 < length bytes.now → IfOk result (λ count. 0 < count) }
-        ensures bytes { IfOk result (λ count. Grows W.tells (W.written self.old.inner ++ gathered self.old.held.items self.old.sent) (W.written self.new.inner ++ gathered self.new.held.items self.new.sent) (take count bytes.now)) }
+        ensures bytes { IfOk result (λ count. Grows W.tells (W.written self.old.inner ++ gathered self.old.held self.old.sent) (W.written self.new.inner ++ gathered self.new.held self.new.sent) (take count bytes.now)) }
         ensures ok { OnOk result (W.failures self.new.inner ≡ W.failures self.old.inner) }
         ensures err { OnErr result (IsOneMore (W.failures self.old.inner) (W.failures self.new.inner)) }
-        ensures kept { OnErr result (Grows W.tells (W.written self.old.inner ++ gathered self.old.held.items self.old.sent) (W.written self.new.inner ++ gathered self.new.held.items self.new.sent) []) }
+        ensures kept { OnErr result (Grows W.tells (W.written self.old.inner ++ gathered self.old.held self.old.sent) (W.written self.new.inner ++ gathered self.new.held self.new.sent) []) }
     {
         match self.flush() {
             Ok(()) => {}
@@ -88,7 +85,7 @@ impl<W: Sink> Sink for GatheringSink<W> {
 
     ghost tells = { W.tells };
 
-    ghost written = { λ sink. W.written sink.inner ++ gathered sink.held.items sink.sent };
+    ghost written = { λ sink. W.written sink.inner ++ gathered sink.held sink.sent };
 
     ghost failures = { λ sink. W.failures sink.inner };
 

@@ -6,8 +6,10 @@
 
 mod flushing_source;
 mod gathering_sink;
+mod held_bytes;
 mod shared_sink;
 
 pub use flushing_source::{FlushingSource, flush_shared};
-pub use gathering_sink::{GatheringSink, ROOM};
+pub use gathering_sink::GatheringSink;
+pub use held_bytes::ROOM;
 pub use shared_sink::SharedSink;
