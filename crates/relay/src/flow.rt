@@ -1,6 +1,6 @@
 //! One direction of a connection as a state, whose steps are one read or one write each.
 
-ghost use Rattle.std.specs.Prelude.{◌≡◌, ◌<◌, ◌≤◌, ◌↔◌, [], length, IsTrue, OnOk, OnErr, IfErr, IfOk};
+ghost use Rattle.std.specs.Prelude.{◌≡◌, ◌+◌, ◌-◌, ◌<◌, ◌≤◌, ◌↔◌, [], length, IsTrue, OnOk, OnErr, IfErr, IfOk};
 ghost use Rattle.byte_ports.specs.Bytes.{Grows, IsOneMore};
 ghost use Rattle.relay.specs.FlowState.{HasRead, HasStopped, HasWritten, Keeps, fresh, from_its_start, kept};
 ghost use Rattle.relay.specs.Halts.{HasCounted};
@@ -70,7 +70,8 @@ impl Flow {
 
     /// Whether bytes that were read wait to be written.
     pub fn keeps(&self) -> bool
-        ensures { IsTrue result ↔ Keeps self.now }
+        ensures kept { IsTrue result ↔ Keeps self.now }
+        ensures sum { self.now.written + (self.now.end - self.now.start) ≡ self.now.read }
     {
         self.start < self.end
     }
@@ -147,6 +148,7 @@ impl Flow {
         ensures calm { OnOk result (R.failures reader.new ≡ R.failures reader.old) }
         ensures paused { IfErr result (HasPaused R.tells (R.left reader.old) (R.left reader.new) (R.failures reader.old) (R.failures reader.new) self.old.reads) }
         ensures err { OnErr result (self.new ≡ self.old) }
+        ensures turns { self.new.reads ≤ self.new.read }
     {
         if self.reads == MAX_TURNS {
             return Err(Step::Failed(Cause::Read));

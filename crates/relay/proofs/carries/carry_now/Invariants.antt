@@ -4,8 +4,8 @@ use Rattle.relay.specs.Passage.{HasMoved, passage}
 use Rattle.relay.proofs.carries.carry_now.Given as goal
 
 -- all that was read is written, and nothing failed
-abbrev pub invariant-loop-_read : goal.invariant-loop-_read
-invariant-loop-_read g l =
+abbrev pub invariant-loop-read : goal.invariant-loop-read
+invariant-loop-read g l =
     let R = g.R.ReadySource in
     let W = g.W.ReadySink in
     record {
