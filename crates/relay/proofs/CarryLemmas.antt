@@ -1,5 +1,5 @@
 -- What steps of a direction, one after another, have carried.
-use Rattle.std.proofs.Common.{refl, sym, ap, subst, ◌∙◌, ◌≡◌, ◌<◌, ◌≤◌, ◌+◌, ◌-◌, ◌^◌, ◌⊎◌, inl, inr, ℕ, List, [], ◌∷◌, ◌++◌, length, take, drop, append-nil, arith, length-append}
+use Rattle.std.proofs.Common.{refl, sym, ap, subst, ◌∙◌, ◌≡◌, ◌≤◌, ◌+◌, ◌-◌, ◌^◌, ◌⊎◌, inl, inr, ℕ, List, [], ◌++◌, length, take, drop, append-nil, arith, length-append}
 use Rattle.std.proofs.lemmas.List.{drop-drop, drop-take, length-take-le, take_all}
 use Rattle.std.proofs.Math.Seq.{take-append-add}
 use Rattle.byte_ports.specs.Bytes.{Grows, IsAtEnd, IsOneMore, Takes}

@@ -1,12 +1,12 @@
 -- Moves of a direction, one after another.
-use Rattle.std.proofs.Common.{refl, sym, ap, subst, ◌∙◌, ◌≡◌, ◌<◌, ◌≤◌, ◌+◌, ◌-◌, ◌*◌, ◌^◌, ◌⊎◌, inl, inr, Bool, false, ℕ, zero, suc, List, [], ◌∷◌, ◌++◌, length, take, drop, append-nil, append_assoc, arith, length-append, length-drop}
-use Rattle.std.proofs.lemmas.List.{length-take-le, take_all, take-append-drop}
+use Rattle.std.proofs.Common.{refl, sym, ap, subst, ◌∙◌, ◌≡◌, ◌<◌, ◌≤◌, ◌+◌, ◌-◌, ◌*◌, ◌^◌, ◌⊎◌, inl, inr, Bool, false, ℕ, zero, suc, List, [], ◌++◌, length, take, drop, append-nil, append_assoc, arith, length-append, length-drop}
+use Rattle.std.proofs.lemmas.List.{length-take-le, take-append-drop}
 use Rattle.std.proofs.Math.Seq.{drop-nil, take-nil}
-use Rattle.byte_ports.specs.Bytes.{Grows, IsOneMore, Takes}
+use Rattle.byte_ports.specs.Bytes.{IsOneMore, Takes}
 use Rattle.byte_ports.proofs.Pieces.{grown_twice, taken_twice}
-use Rattle.relay.specs.FlowState.{FlowState, HasRead, HasWritten, Keeps, from_its_start, kept}
+use Rattle.relay.specs.FlowState.{FlowState, HasRead, HasWritten, Keeps, kept}
 use Rattle.relay.specs.Passage.{HasMoved, Passage, passage, with_rest}
-use Rattle.relay.specs.Turns.{DirectionState, HasFailed, HasPaused, HasTurned, IsDirection, KeepsAt, Leaves}
+use Rattle.relay.specs.Turns.{DirectionState, HasFailed, HasPaused, HasTurned, IsDirection, Leaves}
 use Rattle.relay.specs.declared.steps.Cause.{Cause}
 use Rattle.relay.specs.declared.steps.Cause.TheVariants.{Memory, Read, Write}
 use Rattle.relay.specs.declared.steps.Step.{Step}
@@ -185,12 +185,6 @@ paused_failed told left left-after failures then reads read writer (Failed Read)
 paused_failed told left left-after failures then reads read writer (Failed Write) turns why = elim why [ ]
 paused_failed told left left-after failures then reads read writer (Failed Memory) turns why = elim why [ ]
 
--- what has failed since devices counted the same
-pub failed_since : (step : Step) (read reader now-reader reader-then writer now-writer writer-then : ℕ) → now-reader ≡ reader → now-writer ≡ writer → HasFailed step read now-reader reader-then now-writer writer-then
-    → HasFailed step read reader reader-then writer writer-then
-failed_since step read reader now-reader reader-then writer now-writer writer-then same-reader same-writer failed =
-    subst (λ n. HasFailed step read n reader-then writer writer-then) same-reader (subst (λ n. HasFailed step read now-reader reader-then n writer-then) same-writer failed)
-
 -- ---- turns
 
 -- a turn that stops with bytes that the writer left in a buffer, which are kept there
@@ -198,17 +192,6 @@ pub turned_here : (tells told : Type 0) (left left-after written written-after :
     → HasMoved tells left left-after told written written-after old (passage flow buffer) → HasTurned tells left left-after told written written-after old (passage flow buffer) WaitsToWrite
 turned_here tells told left left-after written written-after old flow buffer keeps room moved =
     record { unwritten = kept flow buffer; leaves = (omega (arith, keeps, length_kept flow buffer (λ _. room)), refl); moved = moved }
-
--- the same, where they are moved to a buffer of their own
-pub turned_kept : (tells told : Type 0) (left left-after written written-after : List ℕ) (old : Passage) (flow new : FlowState) (buffer rest : List ℕ) → Keeps flow → flow.end ≤ length buffer
-    → rest ≡ kept flow buffer → new ≡ from_its_start flow
-    → HasMoved tells left left-after told written written-after old (passage flow buffer) → HasTurned tells left left-after told written written-after old (passage new rest) WaitsToWrite
-turned_kept tells told left left-after written written-after old flow new buffer rest keeps room is moves moved =
-    let long : length (kept flow buffer) ≡ flow.end - flow.start = length_kept flow buffer (λ _. room) in
-    let whole : take (flow.end - flow.start) (kept flow buffer) ≡ kept flow buffer = take_all (flow.end - flow.start) (kept flow buffer) (omega (arith, long)) in
-    let at : (flow.end - flow.start) - 0 ≡ flow.end - flow.start = omega arith in
-    subst (λ (f : FlowState). HasTurned tells left left-after told written written-after old (passage f rest) WaitsToWrite) (sym moves)
-    (record { unwritten = kept flow buffer; leaves = (omega (arith, keeps, long), ap (λ n. take n rest) at ∙ ap (λ l. take (flow.end - flow.start) l) is ∙ whole); moved = moved })
 
 -- a turn that stops with bytes that are lost
 pub turned_lost : (tells told : Type 0) (left left-after written written-after : List ℕ) (old : Passage) (flow : FlowState) (buffer rest : List ℕ) (cause : Cause) → (cause ≡ Read → ⊥) → Keeps flow → flow.end ≤ length buffer
@@ -226,25 +209,6 @@ turned_lost tells told left left-after written written-after old flow buffer res
     lost Read other = elim (other refl) [ ]
     lost Write other = (some, none)
     lost Memory other = (some, none)
-
--- a turn that stops otherwise
-pub turned_carried : (tells told : Type 0) (left left-after written written-after : List ℕ) (old : Passage) (flow : FlowState) (buffer rest : List ℕ) (step : Step) → (step ≡ WaitsToWrite → ⊥) → KeepsAt step flow
-    → (Keeps flow → flow.end ≤ length buffer) → rest ≡ []
-    → HasMoved tells left left-after told written written-after old (passage flow buffer) → HasTurned tells left left-after told written written-after old (passage flow rest) step
-turned_carried tells told left left-after written written-after old flow buffer rest step other keeps room is moved =
-    record { unwritten = kept flow buffer; leaves = all step other keeps; moved = moved }
-  where
-    gone : kept flow rest ≡ []
-    gone = ap (λ l. kept flow l) is ∙ kept_of_nothing flow
-
-    all : (step : Step) → (step ≡ WaitsToWrite → ⊥) → KeepsAt step flow → Leaves step (kept flow buffer) (kept flow rest)
-    all WaitsToRead other keeps = (kept_none flow buffer keeps, gone)
-    all WaitsToWrite other keeps = elim (other refl) [ ]
-    all Yields other keeps = (kept_none flow buffer keeps, gone)
-    all Ended other keeps = (kept_none flow buffer keeps, gone)
-    all (Failed Read) other keeps = (kept_none flow buffer keeps, gone)
-    all (Failed Write) other keeps = (omega (arith, keeps, length_kept flow buffer room), gone)
-    all (Failed Memory) other keeps = elim keeps [ ]
 
 -- a move before a turn
 pub turned_after : (tells told : Type 0) (left mid-left left-after written mid-written written-after : List ℕ) (old now new : Passage) (step : Step)

@@ -1,11 +1,10 @@
 -- What a turn of a direction tells, and what it leaves.
-use Rattle.std.specs.Prelude.{◌≡◌, ◌<◌, ◌≤◌, ◌+◌, ◌^◌, ◌⊎◌, ℕ, Bool, true, false, List, [], length}
+use Rattle.std.specs.Prelude.{◌≡◌, ◌<◌, ◌≤◌, ◌^◌, ◌⊎◌, ℕ, Bool, true, false, List, [], length}
 use Rattle.byte_ports.specs.Bytes.{IsAtEnd, IsOneMore, Takes}
 use Rattle.relay.specs.FlowState.{FlowState, Keeps}
 use Rattle.relay.specs.Passage.{HasMoved, Passage, nothing, with_rest}
 use Rattle.relay.specs.declared.halts.Halt.{Halt}
 use Rattle.relay.specs.declared.halts.Halt.TheVariants as halts
-use Rattle.relay.specs.declared.steps.Cause.{Cause}
 use Rattle.relay.specs.declared.steps.Cause.TheVariants.{Memory, Read, Write}
 use Rattle.relay.specs.declared.steps.Step.{Step}
 use Rattle.relay.specs.declared.steps.Step.TheVariants.{Ended, Failed, WaitsToRead, WaitsToWrite, Yields}

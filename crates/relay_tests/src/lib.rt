@@ -8,3 +8,7 @@ mod connections;
 mod peers;
 #[cfg(test)]
 mod pumps;
+#[cfg(test)]
+mod ready_ports;
+#[cfg(test)]
+mod turns;
