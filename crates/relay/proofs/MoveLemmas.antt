@@ -6,7 +6,7 @@ use Rattle.byte_ports.specs.Bytes.{IsOneMore, Takes}
 use Rattle.byte_ports.proofs.Pieces.{grown_twice, taken_twice}
 use Rattle.relay.specs.FlowState.{FlowState, HasRead, HasWritten, Keeps, kept}
 use Rattle.relay.specs.Passage.{HasMoved, Passage, passage, with_rest}
-use Rattle.relay.specs.Turns.{DirectionState, HasFailed, HasPaused, HasTurned, IsDirection, Leaves}
+use Rattle.relay.specs.Turns.{DirectionState, HasFailed, HasPaused, HasTurned, IsDirection, Leaves, is_last}
 use Rattle.relay.specs.declared.steps.Cause.{Cause}
 use Rattle.relay.specs.declared.steps.Cause.TheVariants.{Memory, Read, Write}
 use Rattle.relay.specs.declared.steps.Step.{Step}
@@ -219,6 +219,19 @@ turned_after tells told left mid-left left-after written mid-written written-aft
   leaves = turned.leaves;
   moved = moved_twice tells told left mid-left left-after written mid-written written-after old now (with_rest new turned.unwritten) first turned.moved;
 }
+
+-- a turn that isn't the last
+pub goes_on : (tells told : Type 0) (left left-after written written-after : List ℕ) (old new : Passage) (step : Step)
+    → HasTurned tells left left-after told written written-after old new step → is_last step ≡ false → HasMoved tells left left-after told written written-after old new
+goes_on tells told left left-after written written-after old new step turned going =
+    subst (λ (rest : List ℕ). HasMoved tells left left-after told written written-after old (with_rest new rest)) (all step turned.leaves going) turned.moved
+  where
+    all : (step : Step) → Leaves step turned.unwritten new.rest → is_last step ≡ false → turned.unwritten ≡ new.rest
+    all WaitsToRead leaves going = leaves.0 ∙ sym leaves.1
+    all WaitsToWrite leaves going = sym leaves.1
+    all Yields leaves going = leaves.0 ∙ sym leaves.1
+    all Ended leaves going = cc
+    all (Failed cause) leaves going = cc
 
 -- what a direction that goes on has read is what it has written and what waits
 pub going_sum : (flow : FlowState) (rest : List ℕ) (over : Bool) (now : DirectionState) → record { passage = passage flow rest; over = over } ≡ now → IsDirection flow rest over

@@ -46,6 +46,12 @@ pub record HasTurned (tells : Type 0) (left-before left-after : List ℕ) (told 
   pub leaves : Leaves step unwritten new.rest
   pub moved : HasMoved tells left-before left-after told written-before written-after old (with_rest new unwritten)
 
+-- a turn behind which another may follow is a move, and loses nothing
+abbrev pub GoesOnLaw : Type 0 → Type 0 → Type 0
+GoesOnLaw tells told = (left left-after written written-after : List ℕ) (old new : Passage) (step : Step)
+    → HasTurned tells left left-after told written written-after old new step → is_last step ≡ false
+    → HasMoved tells left left-after told written written-after old new
+
 -- exactly the device that is said to have failed did, once; the reader may also have given bytes 2^40 times in all
 abbrev pub HasFailed : Step → ℕ → ℕ → ℕ → ℕ → ℕ → Type 0
 HasFailed WaitsToRead read reader reader-then writer writer-then = (reader-then ≡ reader) × (writer-then ≡ writer)

@@ -2,6 +2,7 @@
 //! that does nothing.
 
 ghost use Rattle.relay.specs.Passage.{JoinLaw, PrefixLaw};
+ghost use Rattle.relay.specs.Turns.{GoesOnLaw};
 
 use crate::ready::{ReadySink, ReadySource};
 
@@ -13,4 +14,9 @@ pub fn join<R: ReadySource, W: ReadySink>()
 /// What was written since a direction began is the first part of what was read, and all of it where nothing waits.
 pub fn prefix<R: ReadySource, W: ReadySink>()
     ensures { PrefixLaw R.tells W.tells }
+{}
+
+/// A turn that isn't the last is a move: nothing is lost.
+pub fn goes_on<R: ReadySource, W: ReadySink>()
+    ensures { GoesOnLaw R.tells W.tells }
 {}

@@ -11,4 +11,6 @@ mod pumps;
 #[cfg(test)]
 mod ready_ports;
 #[cfg(test)]
+mod ready_sockets;
+#[cfg(test)]
 mod turns;

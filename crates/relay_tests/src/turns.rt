@@ -1,10 +1,8 @@
 //! What turns of a direction carry, in every order in which its devices are ready, and where one fails.
 
-ghost use Rattle.std.specs.Prelude.{◌<◌, ◌≤◌, length};
-
 use crate::ready_ports::Answer::{Bytes, Fails, NotNow};
 use crate::ready_ports::{Answer, ListedReader, ListedWriter};
-use relay::{Cause, Direction, Step};
+use relay::{Cause, Direction, ReadySink, ReadySource, Step};
 use std::alloc::{AllocError, Global};
 use std::test::Fail;
 
@@ -13,9 +11,9 @@ const TURNS: u32 = 40_000;
 
 /// How a direction is turned.
 #[derive(Clone, Copy)]
-struct Pace {
-    reads: u32,
-    until_end: bool,
+pub struct Pace {
+    pub reads: u32,
+    pub until_end: bool,
 }
 
 /// What came of all turns: the last step, and how many bytes were read and written.
@@ -27,7 +25,7 @@ struct Outcome {
 }
 
 /// A reader of a text.
-fn reader<'a>(text: &'a [u8], answers: &'a [Answer]) -> ListedReader<'a> {
+pub fn reader<'a>(text: &'a [u8], answers: &'a [Answer]) -> ListedReader<'a> {
     ListedReader {
         left: text,
         answers,
@@ -36,7 +34,7 @@ fn reader<'a>(text: &'a [u8], answers: &'a [Answer]) -> ListedReader<'a> {
 }
 
 /// A writer that wants a text.
-fn writer<'a>(text: &'a [u8], answers: &'a [Answer]) -> ListedWriter<'a> {
+pub fn writer<'a>(text: &'a [u8], answers: &'a [Answer]) -> ListedWriter<'a> {
     ListedWriter {
         wanted: text,
         taken: 0,
@@ -47,10 +45,10 @@ fn writer<'a>(text: &'a [u8], answers: &'a [Answer]) -> ListedWriter<'a> {
 }
 
 /// One turn, where one may follow.
-fn turn(
+pub fn turn<R: ReadySource, W: ReadySink>(
     direction: &mut Direction,
-    from: &mut ListedReader<'_>,
-    to: &mut ListedWriter<'_>,
+    from: &mut R,
+    to: &mut W,
     buffer: &mut [u8],
     pace: Pace,
 ) -> Option<Step> {
