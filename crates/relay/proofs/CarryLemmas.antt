@@ -1,5 +1,5 @@
 -- What steps of a direction, one after another, have carried.
-use Rattle.std.proofs.Common.{refl, sym, ap, subst, ◌∙◌, ◌≡◌, ◌<◌, ◌≤◌, ◌+◌, ◌-◌, ◌^◌, ◌⊎◌, inl, inr, ℕ, List, [], ◌∷◌, ◌++◌, length, take, drop, append-nil, arith, length-append}
+use Rattle.std.proofs.Common.{refl, sym, ap, subst, ◌∙◌, ◌≡◌, ◌≤◌, ◌+◌, ◌-◌, ◌^◌, ◌⊎◌, inl, inr, ℕ, List, [], ◌++◌, length, take, drop, append-nil, arith, length-append}
 use Rattle.std.proofs.lemmas.List.{drop-drop, drop-take, length-take-le, take_all}
 use Rattle.std.proofs.Math.Seq.{take-append-add}
 use Rattle.byte_ports.specs.Bytes.{Grows, IsAtEnd, IsOneMore, Takes}
@@ -14,7 +14,7 @@ abbrev forward : FlowState → ℕ → ℕ → FlowState
 forward flow written start = record { reads = flow.reads; read = flow.read; written = written; start = start; end = flow.end }
 
 -- what is kept behind the first bytes of what was kept
-kept_behind : (start end count : ℕ) (buffer : List ℕ) → count ≤ end - start → take (end - (start + count)) (drop (start + count) buffer) ≡ drop count (take (end - start) (drop start buffer))
+pub kept_behind : (start end count : ℕ) (buffer : List ℕ) → count ≤ end - start → take (end - (start + count)) (drop (start + count) buffer) ≡ drop count (take (end - start) (drop start buffer))
 kept_behind start end count buffer within =
     let more : count + (end - (start + count)) ≡ end - start = omega (arith, within) in
     ap (λ bytes. take (end - (start + count)) bytes) (sym (drop-drop count start buffer))
@@ -84,7 +84,7 @@ whole_none tells left told written flow is =
     })
 
 -- what was read is kept whole
-kept_whole : (count : ℕ) (buffer : List ℕ) (flow : FlowState) → flow.start ≡ 0 → flow.end ≡ count → kept flow buffer ≡ take count buffer
+pub kept_whole : (count : ℕ) (buffer : List ℕ) (flow : FlowState) → flow.start ≡ 0 → flow.end ≡ count → kept flow buffer ≡ take count buffer
 kept_whole count buffer flow start end = ap (λ s. take (flow.end - s) (drop s buffer)) start ∙ ap (λ (n : ℕ). take n buffer) (omega (arith, end))
 
 -- a read, and a write of the first of its bytes

@@ -23,14 +23,18 @@ Keeps flow = flow.start < flow.end
 abbrev pub kept : FlowState → List ℕ → List ℕ
 kept flow buffer = take (flow.end - flow.start) (drop flow.start buffer)
 
--- what was read is what was written and what is kept, and each read gave 1 to 8,192 bytes
+-- the same flow, where what it keeps lies at the start of its buffer
+abbrev pub from_its_start : FlowState → FlowState
+from_its_start flow = record { reads = flow.reads; read = flow.read; written = flow.written; start = 0; end = flow.end - flow.start }
+
+-- what was read is what was written and what is kept, and each read gave 1 to 65,536 bytes
 pub record IsFlow (flow : FlowState) : Type 0 where
   pub order : flow.start ≤ flow.end
-  pub room : flow.end ≤ 8192
+  pub room : flow.end ≤ 65536
   pub sum : flow.written + (flow.end - flow.start) ≡ flow.read
   pub turns : flow.reads ≤ 2 ^ 40
   pub some : flow.reads ≤ flow.read
-  pub most : flow.read ≤ 8192 * flow.reads
+  pub most : flow.read ≤ 65536 * flow.reads
 
 -- one read gave bytes, and the buffer keeps them
 pub record HasRead (told : Type 0) (before after : List ℕ) (old : FlowState) (buffer : List ℕ) (new : FlowState) : Type 0 where

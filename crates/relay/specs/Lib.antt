@@ -1,2 +1,5 @@
 pub mod Carried
 pub mod FlowState
+pub mod Halts
+pub mod Passage
+pub mod Turns

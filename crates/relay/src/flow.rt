@@ -1,8 +1,10 @@
 //! One direction of a connection as a state, whose steps are one read or one write each.
 
-ghost use Rattle.std.specs.Prelude.{◌≡◌, ◌<◌, ◌≤◌, ◌↔◌, [], length, IsTrue, OnOk, OnErr, IfErr};
+ghost use Rattle.std.specs.Prelude.{◌≡◌, ◌+◌, ◌-◌, ◌<◌, ◌≤◌, ◌↔◌, [], length, IsTrue, OnOk, OnErr, IfErr};
 ghost use Rattle.byte_ports.specs.Bytes.{Grows, IsOneMore};
 ghost use Rattle.relay.specs.FlowState.{HasRead, HasStopped, HasWritten, Keeps, fresh};
+
+mod now;
 
 use crate::Ending;
 use byte_ports::{Failed, Sink, Source};
@@ -65,7 +67,8 @@ impl Flow {
 
     /// Whether bytes that were read wait to be written.
     pub fn keeps(&self) -> bool
-        ensures { IsTrue result ↔ Keeps self.now }
+        ensures kept { IsTrue result ↔ Keeps self.now }
+        ensures sum { self.now.written + (self.now.end - self.now.start) ≡ self.now.read }
     {
         self.start < self.end
     }
@@ -75,7 +78,7 @@ impl Flow {
     pub fn fill<R: Source>(&mut self, reader: &mut R, buffer: &mut [u8]) -> Result<(), Ending>
         requires empty { ¬ Keeps self.old }
         requires some { 0 < length buffer.old }
-        requires room { length buffer.old ≤ 8192 }
+        requires room { length buffer.old ≤ 65536 }
         ensures ok { OnOk result (HasRead R.tells (R.left reader.old) (R.left reader.new) self.old buffer.new self.new) }
         ensures calm { OnOk result (R.failures reader.new ≡ R.failures reader.old) }
         ensures stopped { IfErr result (HasStopped R.tells (R.left reader.old) (R.left reader.new) (R.failures reader.old) (R.failures reader.new) self.old.reads) }

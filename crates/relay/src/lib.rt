@@ -1,8 +1,23 @@
-//! Carrying bytes from a reader to a writer, as one direction of a connection does.
+//! Carrying bytes from a reader to a writer, as one direction of a connection does: `pump` over ports that wait, and turns
+//! of a `Direction` over ports that don't.
 #![tactic(auto)]
 
+mod carries;
+mod direction;
 mod flow;
+mod halts;
+pub mod laws;
 mod pumping;
+mod ready;
+mod ready_reader;
+mod ready_writer;
+mod steps;
 
+pub use direction::Direction;
 pub use flow::{Flow, MAX_TURNS, ROOM};
+pub use halts::Halt;
 pub use pumping::{Ending, PumpEnd, pump};
+pub use ready::{ReadySink, ReadySource};
+pub use ready_reader::ReadyReader;
+pub use ready_writer::ReadyWriter;
+pub use steps::{Cause, Step};

@@ -8,3 +8,9 @@ mod connections;
 mod peers;
 #[cfg(test)]
 mod pumps;
+#[cfg(test)]
+mod ready_ports;
+#[cfg(test)]
+mod ready_sockets;
+#[cfg(test)]
+mod turns;
