@@ -1,0 +1,98 @@
+//! One end of a connection.
+
+ghost use Rattle.std.specs.Prelude.{◌≡◌, ◌↔◌, IsTrue};
+ghost use Rattle.socket_link.specs.Silence.{IsSilent};
+ghost use Rattle.socket_link.specs.Tokens.{token};
+
+use mio::net::TcpStream;
+use mio::{Interest, Registry, Token};
+use std::io;
+
+/// One of the ends of a connection.
+#[derive(Clone, Copy, Debug, PartialEq, Eq)]
+pub enum Side {
+    Client,
+    Server,
+}
+
+impl Side {
+    /// The token of this end of a connection with a number, which is below 2^62.
+    pub(crate) fn token(self, number: usize) -> Token
+        ensures { result ≡ token self number }
+    {
+        let both = number.wrapping_mul(2);
+        match self {
+            Side::Client => Token(both),
+            Side::Server => Token(both.wrapping_add(1)),
+        }
+    }
+
+    /// Which end of which connection a token is of.
+    pub(crate) fn of(token: Token) -> (usize, Side) {
+        let side = if token.0.is_multiple_of(2) {
+            Side::Client
+        } else {
+            Side::Server
+        };
+        (token.0 / 2, side)
+    }
+}
+
+/// An end of a connection: its socket, and what is known of it.
+#[derive(Drop)]
+pub(crate) struct End {
+    pub(crate) socket: TcpStream,
+    /// Whether it is watched for room, beside bytes.
+    watches_room: bool,
+    /// When something passed last, in ms.
+    pub(crate) heard: u64,
+}
+
+impl End {
+    /// An end whose socket isn't watched yet, at a moment in ms.
+    pub(crate) fn new(socket: TcpStream, moment: u64) -> End
+        ensures heard { result.heard ≡ moment }
+    {
+        // Bytes are sent on as they come. A socket that is gone can't be told so, and needs no telling.
+        let _ = socket.set_nodelay(true);
+        End {
+            socket,
+            watches_room: false,
+            heard: moment,
+        }
+    }
+
+    /// Has the socket reported where there are bytes.
+    pub(crate) fn watch(&mut self, registry: &Registry, token: Token) -> io::Result<()> {
+        registry.register(&mut self.socket, token, Interest::READABLE)
+    }
+
+    /// Has the socket reported where there is room, too.
+    pub(crate) fn watch_room(&mut self, registry: &Registry, token: Token) -> io::Result<()> {
+        if self.watches_room {
+            return Ok(());
+        }
+        self.watches_room = true;
+        self.watch_again(registry, token)
+    }
+
+    /// Has the socket reported anew, also where it was before and nothing has changed.
+    pub(crate) fn watch_again(&mut self, registry: &Registry, token: Token) -> io::Result<()> {
+        let interest = if self.watches_room {
+            Interest::READABLE | Interest::WRITABLE
+        } else {
+            Interest::READABLE
+        };
+        registry.reregister(&mut self.socket, token, interest)
+    }
+
+    /// Whether nothing has passed here for so long, at a moment in ms.
+    pub(crate) fn is_silent_for(&self, moment: u64, limit: Option<u64>) -> bool
+        ensures { IsTrue result ↔ IsSilent self.now.heard moment limit }
+    {
+        match limit {
+            Some(limit) => moment.saturating_sub(self.heard) >= limit,
+            None => false,
+        }
+    }
+}

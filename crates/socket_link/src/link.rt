@@ -1,0 +1,199 @@
+//! A connection between two sockets.
+
+use crate::end::{End, Side};
+use crate::way::Way;
+use crate::{Buffer, Timeouts};
+use mio::Registry;
+use mio::event::Event;
+use mio::net::TcpStream;
+use relay::Step;
+use std::alloc::Global;
+use std::io;
+use std::net::{Net, SocketAddr};
+
+/// What is reported of a connection.
+#[derive(Clone, Copy, Debug, PartialEq, Eq)]
+pub struct Ready {
+    /// The connection's number.
+    pub number: usize,
+    pub side: Side,
+    /// Whether its peer sends no more than what can be read already.
+    pub has_ended: bool,
+}
+
+impl Ready {
+    /// What an event reports.
+    pub fn of(event: &Event) -> Ready {
+        let (number, side) = Side::of(event.token());
+        Ready {
+            number,
+            side,
+            has_ended: event.is_read_closed(),
+        }
+    }
+}
+
+/// Both sockets of a connection, and both directions between them. Dropping it closes both.
+#[derive(Drop)]
+pub struct Link {
+    client: End,
+    server: End,
+    there: Way,
+    back: Way,
+    /// Whether the server is known to have accepted the connection.
+    is_accepted: bool,
+}
+
+impl Link {
+    /// Begins to connect a client to its server, at a moment in ms. None where that fails at once.
+    pub fn open<R: Net>(
+        rt: &R,
+        alloc: Global,
+        client: TcpStream,
+        server: SocketAddr,
+        moment: u64,
+    ) -> Option<Link> {
+        let server = TcpStream::connect(rt, server).ok()?;
+        Some(Link {
+            client: End::new(client, moment),
+            server: End::new(server, moment),
+            there: Way::new(alloc),
+            back: Way::new(alloc),
+            is_accepted: false,
+        })
+    }
+
+    /// Has both sockets reported as those of the connection with this number, and moves what is there already. Whether
+    /// it goes on.
+    pub fn start(
+        &mut self,
+        registry: &Registry,
+        number: usize,
+        moment: u64,
+        buffer: &mut Buffer,
+    ) -> bool {
+        self.carry_there(moment, buffer);
+        if self.is_over() {
+            return false;
+        }
+        self.watch(registry, number).is_ok() && self.watch_on(registry, number).is_ok()
+    }
+
+    /// Moves what can be moved now that a socket is ready. Whether it goes on.
+    pub fn turn(
+        &mut self,
+        registry: &Registry,
+        ready: Ready,
+        moment: u64,
+        buffer: &mut Buffer,
+    ) -> bool {
+        match ready.side {
+            Side::Client => self.turn_client(ready.has_ended, moment, buffer),
+            Side::Server => self.turn_server(ready.has_ended, moment, buffer),
+        }
+        !self.is_over() && self.watch_on(registry, ready.number).is_ok()
+    }
+
+    /// The client is ready: it may have sent something, or have room for what is kept.
+    fn turn_client(&mut self, has_ended: bool, moment: u64, buffer: &mut Buffer) {
+        if has_ended {
+            self.there.has_ended = true;
+        }
+        self.carry_there(moment, buffer);
+        if self.back.step == Step::WaitsToWrite {
+            self.carry_back(moment, buffer);
+        }
+    }
+
+    /// The server is ready: it may have sent something, or have room for what is kept.
+    fn turn_server(&mut self, has_ended: bool, moment: u64, buffer: &mut Buffer) {
+        if has_ended {
+            self.back.has_ended = true;
+        }
+        self.carry_back(moment, buffer);
+        if self.there.step == Step::WaitsToWrite {
+            self.carry_there(moment, buffer);
+        }
+    }
+
+    fn carry_there(&mut self, moment: u64, buffer: &mut Buffer) {
+        let was_ended = self.there.step == Step::Ended;
+        self.there
+            .turn(&mut self.client, &mut self.server, moment, buffer);
+        // Closing says the same to both.
+        if !was_ended && self.there.step == Step::Ended && self.back.step != Step::Ended {
+            self.there.hand_on(&self.server);
+        }
+    }
+
+    fn carry_back(&mut self, moment: u64, buffer: &mut Buffer) {
+        let was_ended = self.back.step == Step::Ended;
+        self.back
+            .turn(&mut self.server, &mut self.client, moment, buffer);
+        if !was_ended && self.back.step == Step::Ended && self.there.step != Step::Ended {
+            self.back.hand_on(&self.client);
+        }
+    }
+
+    /// Whether both directions have ended, or one has failed.
+    fn is_over(&self) -> bool {
+        match (self.there.step, self.back.step) {
+            (Step::Failed(_), _) | (_, Step::Failed(_)) => true,
+            (Step::Ended, Step::Ended) => true,
+            _ => false,
+        }
+    }
+
+    fn watch(&mut self, registry: &Registry, number: usize) -> io::Result<()> {
+        self.client.watch(registry, Side::Client.token(number))?;
+        self.server.watch(registry, Side::Server.token(number))
+    }
+
+    /// Has the sockets reported for which a direction waits, or which has more to do.
+    fn watch_on(&mut self, registry: &Registry, number: usize) -> io::Result<()> {
+        let (client, server) = (Side::Client.token(number), Side::Server.token(number));
+        match self.there.step {
+            Step::WaitsToWrite => self.server.watch_room(registry, server)?,
+            Step::Yields => self.client.watch_again(registry, client)?,
+            _ => {}
+        }
+        match self.back.step {
+            Step::WaitsToWrite => self.client.watch_room(registry, client),
+            Step::Yields => self.server.watch_again(registry, server),
+            _ => Ok(()),
+        }
+    }
+
+    /// Whether the server has accepted the connection.
+    fn is_accepted(&mut self) -> bool {
+        if !self.is_accepted {
+            self.is_accepted = self.has_passed() || self.server.socket.peer_addr().is_ok();
+        }
+        self.is_accepted
+    }
+
+    /// Whether a byte or an end has passed to or from the server.
+    fn has_passed(&self) -> bool {
+        self.there.direction.written() > 0
+            || self.back.direction.read() > 0
+            || self.back.step == Step::Ended
+    }
+
+    /// Whether a peer has been silent for longer than it may, at a moment in ms.
+    pub fn is_late(&mut self, moment: u64, timeouts: &Timeouts) -> bool {
+        if !self.is_accepted() {
+            return self.server.is_silent_for(moment, Some(timeouts.connect));
+        }
+        self.client.is_silent_for(moment, timeouts.client)
+            || self.server.is_silent_for(moment, timeouts.server)
+    }
+
+    /// How many bytes came in and went out: those that were read of the client, and those that were written to it. None where
+    /// the server took and gave nothing.
+    pub fn bytes(&self) -> (u64, u64) {
+        if !self.has_passed() {
+            return (0, 0);
+        }
+        (self.there.direction.read(), self.back.direction.written())
+    }
+}

@@ -1,0 +1,55 @@
+//! One direction of a connection between two sockets.
+
+use crate::Buffer;
+use crate::end::End;
+use relay::{Direction, ReadyReader, ReadyWriter, Step};
+use std::alloc::Global;
+use std::net::Shutdown;
+
+/// How many reads a direction makes in one turn at most, before other connections have theirs.
+const READS: u32 = 16;
+
+/// A direction, and how far it is.
+#[derive(Drop)]
+pub(crate) struct Way {
+    pub(crate) direction: Direction,
+    pub(crate) step: Step,
+    /// Whether its sender is known to send no more than what can be read already.
+    pub(crate) has_ended: bool,
+}
+
+impl Way {
+    pub(crate) fn new(alloc: Global) -> Way {
+        Way {
+            direction: Direction::new(alloc),
+            step: Step::WaitsToRead,
+            has_ended: false,
+        }
+    }
+
+    /// Moves what can be moved now. Something that passes is heard at both ends, at this moment in ms.
+    pub(crate) fn turn(&mut self, from: &mut End, to: &mut End, moment: u64, buffer: &mut Buffer) {
+        if self.direction.is_over() {
+            return;
+        }
+        let (read, written) = (self.direction.read(), self.direction.written());
+        let mut reader = ReadyReader::new(&from.socket);
+        let mut writer = ReadyWriter::new(&to.socket);
+        let bytes = buffer.bytes.as_mut_slice();
+        self.step = self
+            .direction
+            .turn(&mut reader, &mut writer, bytes, READS, self.has_ended);
+        if self.direction.read() != read {
+            from.heard = moment;
+        }
+        if self.direction.written() != written {
+            to.heard = moment;
+        }
+    }
+
+    /// Hands its end on: the receiver sees it too, and may still send.
+    pub(crate) fn hand_on(&self, to: &End) {
+        // A socket that is gone already can't be shut, and needs no shutting.
+        let _ = to.socket.shutdown(Shutdown::Write);
+    }
+}
