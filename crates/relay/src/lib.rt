@@ -9,8 +9,7 @@ mod halts;
 pub mod laws;
 mod pumping;
 mod ready;
-mod ready_reader;
-mod ready_writer;
+mod ready_stream;
 mod steps;
 
 pub use direction::Direction;
@@ -18,6 +17,5 @@ pub use flow::{Flow, MAX_TURNS, ROOM};
 pub use halts::Halt;
 pub use pumping::{Ending, PumpEnd, pump};
 pub use ready::{ReadySink, ReadySource};
-pub use ready_reader::ReadyReader;
-pub use ready_writer::ReadyWriter;
+pub use ready_stream::ReadyStream;
 pub use steps::{Cause, Step};

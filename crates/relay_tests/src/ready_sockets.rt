@@ -2,7 +2,7 @@
 
 use crate::peers::pair;
 use crate::turns::{Pace, reader, turn, writer};
-use relay::{Direction, ReadyReader, ReadyWriter, Step};
+use relay::{Direction, ReadyStream, Step};
 use std::alloc::{AllocError, Global};
 use std::net::{Net, Shutdown, TcpListener, TcpStream};
 use std::test::Fail;
@@ -33,8 +33,8 @@ fn carry(
     buffer: &mut [u8],
 ) -> Option<Carried> {
     let (mut sends, mut receives) = (Direction::new(alloc), Direction::new(alloc));
-    let (mut from, mut out) = (reader(text, &[]), ReadyWriter::new(near));
-    let (mut input, mut to) = (ReadyReader::new(far), writer(text, &[]));
+    let (mut from, mut out) = (reader(text, &[]), ReadyStream::new(near));
+    let (mut input, mut to) = (ReadyStream::new(far), writer(text, &[]));
     let mut carried = Carried {
         waits_to_write: 0,
         waits_to_read: 0,

@@ -2,7 +2,7 @@
 
 use crate::Buffer;
 use crate::end::End;
-use relay::{Direction, ReadyReader, ReadyWriter, Step};
+use relay::{Direction, ReadyStream, Step};
 use std::alloc::Global;
 use std::net::Shutdown;
 
@@ -33,8 +33,8 @@ impl Way {
             return;
         }
         let (read, written) = (self.direction.read(), self.direction.written());
-        let mut reader = ReadyReader::new(&from.socket);
-        let mut writer = ReadyWriter::new(&to.socket);
+        let mut reader = ReadyStream::new(&from.socket);
+        let mut writer = ReadyStream::new(&to.socket);
         let bytes = buffer.bytes.as_mut_slice();
         self.step = self
             .direction
