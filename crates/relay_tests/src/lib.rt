@@ -5,6 +5,14 @@
 #[cfg(test)]
 mod connections;
 #[cfg(test)]
+mod full_links;
+#[cfg(test)]
+mod late_links;
+#[cfg(test)]
+mod leads;
+#[cfg(test)]
+mod links;
+#[cfg(test)]
 mod peers;
 #[cfg(test)]
 mod pumps;
@@ -12,5 +20,7 @@ mod pumps;
 mod ready_ports;
 #[cfg(test)]
 mod ready_sockets;
+#[cfg(test)]
+mod ready_streams;
 #[cfg(test)]
 mod turns;

@@ -1,2 +1,4 @@
+pub mod Links
 pub mod Silence
 pub mod Tokens
+pub mod Ways

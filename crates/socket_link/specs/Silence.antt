@@ -1,7 +1,11 @@
 -- How long nothing has passed.
-use Rattle.std.specs.Prelude.{ℕ, ◌-◌, ◌≤◌, Option, Some, None}
+use Rattle.std.specs.Prelude.{ℕ, ◌-◌, Bool, false, nat_le, Option, Some, None, if◌then◌else◌}
 
--- at this moment in ms, nothing has passed since then for as long as is allowed, or longer; never, where nothing is said
-abbrev pub IsSilent : ℕ → ℕ → Option ℕ → Type 0
-IsSilent heard moment None = ⊥
-IsSilent heard moment (Some limit) = limit ≤ moment - heard
+-- whether, at this moment in ms, nothing has passed since then for as long as is allowed, or longer; never, where nothing is said
+abbrev pub is_silent : ℕ → ℕ → Option ℕ → Bool
+is_silent heard moment None = false
+is_silent heard moment (Some limit) = nat_le limit (moment - heard)
+
+-- when something passed last: now, where something does
+abbrev pub heard_last : Bool → ℕ → ℕ → ℕ
+heard_last passes moment heard = if passes then moment else heard

@@ -1,8 +1,8 @@
 //! One end of a connection.
 
-ghost use Rattle.std.specs.Prelude.{◌≡◌, ◌↔◌, IsTrue};
-ghost use Rattle.socket_link.specs.Silence.{IsSilent};
-ghost use Rattle.socket_link.specs.Tokens.{token};
+ghost use Rattle.std.specs.Prelude.{◌≡◌, true};
+ghost use Rattle.socket_link.specs.Silence.{heard_last, is_silent};
+ghost use Rattle.socket_link.specs.Tokens.{Tells, number_of, side_of, token};
 
 use mio::net::TcpStream;
 use mio::{Interest, Registry, Token};
@@ -16,7 +16,7 @@ pub enum Side {
 }
 
 impl Side {
-    /// The token of this end of a connection with a number, which is below 2^62.
+    /// The token of this end of a connection with a number, which is below 2^63.
     pub(crate) fn token(self, number: usize) -> Token
         ensures { result ≡ token self number }
     {
@@ -28,7 +28,10 @@ impl Side {
     }
 
     /// Which end of which connection a token is of.
-    pub(crate) fn of(token: Token) -> (usize, Side) {
+    pub(crate) fn of(token: Token) -> (usize, Side)
+        ensures exact { result ≡ (number_of token, side_of token) }
+        ensures tells { Tells token result.0 result.1 }
+    {
         let side = if token.0.is_multiple_of(2) {
             Side::Client
         } else {
@@ -52,6 +55,7 @@ impl End {
     /// An end whose socket isn't watched yet, at a moment in ms.
     pub(crate) fn new(socket: TcpStream, moment: u64) -> End
         ensures heard { result.heard ≡ moment }
+        ensures socket { result.socket ≡ socket }
     {
         // Bytes are sent on as they come. A socket that is gone can't be told so, and needs no telling.
         let _ = socket.set_nodelay(true);
@@ -63,12 +67,16 @@ impl End {
     }
 
     /// Has the socket reported where there are bytes.
-    pub(crate) fn watch(&mut self, registry: &Registry, token: Token) -> io::Result<()> {
+    pub(crate) fn watch(&mut self, registry: &Registry, token: Token) -> io::Result<()>
+        ensures same { self.new ≡ self.old }
+    {
         registry.register(&mut self.socket, token, Interest::READABLE)
     }
 
     /// Has the socket reported where there is room, too.
-    pub(crate) fn watch_room(&mut self, registry: &Registry, token: Token) -> io::Result<()> {
+    pub(crate) fn watch_room(&mut self, registry: &Registry, token: Token) -> io::Result<()>
+        ensures room { self.new ≡ record self.old { watches_room = true } }
+    {
         if self.watches_room {
             return Ok(());
         }
@@ -77,7 +85,9 @@ impl End {
     }
 
     /// Has the socket reported anew, also where it was before and nothing has changed.
-    pub(crate) fn watch_again(&mut self, registry: &Registry, token: Token) -> io::Result<()> {
+    pub(crate) fn watch_again(&mut self, registry: &Registry, token: Token) -> io::Result<()>
+        ensures same { self.new ≡ self.old }
+    {
         let interest = if self.watches_room {
             Interest::READABLE | Interest::WRITABLE
         } else {
@@ -86,9 +96,18 @@ impl End {
         registry.reregister(&mut self.socket, token, interest)
     }
 
+    /// Something passes here at a moment in ms, or nothing does.
+    pub(crate) fn hear(&mut self, passes: bool, moment: u64)
+        ensures { self.new ≡ record self.old { heard = heard_last passes moment self.old.heard } }
+    {
+        if passes {
+            self.heard = moment;
+        }
+    }
+
     /// Whether nothing has passed here for so long, at a moment in ms.
     pub(crate) fn is_silent_for(&self, moment: u64, limit: Option<u64>) -> bool
-        ensures { IsTrue result ↔ IsSilent self.now.heard moment limit }
+        ensures { result ≡ is_silent self.now.heard moment limit }
     {
         match limit {
             Some(limit) => moment.saturating_sub(self.heard) >= limit,

@@ -1,5 +1,12 @@
 //! A connection between two sockets.
 
+ghost use Rattle.std.specs.Prelude.{◌≡◌, ◌≢◌, ◌||◌, true, false, IfSome, IsTrue};
+ghost use Rattle.mio.specs.Event.{event_token, is_read_closed};
+ghost use Rattle.socket_link.specs.Links.{AdvancesIfItWaited, IsHeard, bytes, ended_also, has_passed, is_late, is_over, must_be_accepted, opened, way_from, way_to};
+ghost use Rattle.socket_link.specs.Silence.{heard_last};
+ghost use Rattle.socket_link.specs.Tokens.{Tells, number_of, side_of};
+ghost use Rattle.socket_link.specs.Ways.{Advances, has_read, has_written};
+
 use crate::end::{End, Side};
 use crate::way::Way;
 use crate::{Buffer, Timeouts};
@@ -9,6 +16,7 @@ use mio::net::TcpStream;
 use relay::Step;
 use std::alloc::Global;
 use std::io;
+use std::marker::Model;
 use std::net::{Net, SocketAddr};
 
 /// What is reported of a connection.
@@ -23,7 +31,12 @@ pub struct Ready {
 
 impl Ready {
     /// What an event reports.
-    pub fn of(event: &Event) -> Ready {
+    pub fn of(event: &Event) -> Ready
+        ensures number { result.number ≡ number_of (event_token event.now) }
+        ensures side { result.side ≡ side_of (event_token event.now) }
+        ensures tells { Tells (event_token event.now) result.number result.side }
+        ensures ended { result.has_ended ≡ is_read_closed event.now }
+    {
         let (number, side) = Side::of(event.token());
         Ready {
             number,
@@ -44,6 +57,14 @@ pub struct Link {
     is_accepted: bool,
 }
 
+impl Model for Link {
+    ghost use Rattle.socket_link.specs.Links.{LinkState};
+
+    ghost Value = { LinkState };
+
+    ghost view = { λ link. record { there = link.there; back = link.back; client = link.client.heard; server = link.server.heard; accepted = link.is_accepted } };
+}
+
 impl Link {
     /// Begins to connect a client to its server, at a moment in ms. None where that fails at once.
     pub fn open<R: Net>(
@@ -52,7 +73,9 @@ impl Link {
         client: TcpStream,
         server: SocketAddr,
         moment: u64,
-    ) -> Option<Link> {
+    ) -> Option<Link>
+        ensures { IfSome result (λ link. link ≡ opened moment) }
+    {
         let server = TcpStream::connect(rt, server).ok()?;
         Some(Link {
             client: End::new(client, moment),
@@ -71,7 +94,12 @@ impl Link {
         number: usize,
         moment: u64,
         buffer: &mut Buffer,
-    ) -> bool {
+    ) -> bool
+        ensures there { Advances self.old.there self.new.there }
+        ensures back { self.new.back ≡ self.old.back }
+        ensures heard { IsHeard moment self.old self.new }
+        ensures going { IsTrue result → is_over self.new ≡ false }
+    {
         self.carry_there(moment, buffer);
         if self.is_over() {
             return false;
@@ -86,7 +114,12 @@ impl Link {
         ready: Ready,
         moment: u64,
         buffer: &mut Buffer,
-    ) -> bool {
+    ) -> bool
+        ensures from { Advances (ended_also (way_from ready.side self.old) ready.has_ended) (way_from ready.side self.new) }
+        ensures to { AdvancesIfItWaited (way_to ready.side self.old) (way_to ready.side self.new) }
+        ensures heard { IsHeard moment self.old self.new }
+        ensures going { IsTrue result → is_over self.new ≡ false }
+    {
         match ready.side {
             Side::Client => self.turn_client(ready.has_ended, moment, buffer),
             Side::Server => self.turn_server(ready.has_ended, moment, buffer),
@@ -95,10 +128,12 @@ impl Link {
     }
 
     /// The client is ready: it may have sent something, or have room for what is kept.
-    fn turn_client(&mut self, has_ended: bool, moment: u64, buffer: &mut Buffer) {
-        if has_ended {
-            self.there.has_ended = true;
-        }
+    fn turn_client(&mut self, has_ended: bool, moment: u64, buffer: &mut Buffer)
+        ensures there { Advances (ended_also self.old.there has_ended) self.new.there }
+        ensures back { AdvancesIfItWaited self.old.back self.new.back }
+        ensures heard { IsHeard moment self.old self.new }
+    {
+        self.there.has_ended = self.there.has_ended || has_ended;
         self.carry_there(moment, buffer);
         if self.back.step == Step::WaitsToWrite {
             self.carry_back(moment, buffer);
@@ -106,17 +141,23 @@ impl Link {
     }
 
     /// The server is ready: it may have sent something, or have room for what is kept.
-    fn turn_server(&mut self, has_ended: bool, moment: u64, buffer: &mut Buffer) {
-        if has_ended {
-            self.back.has_ended = true;
-        }
+    fn turn_server(&mut self, has_ended: bool, moment: u64, buffer: &mut Buffer)
+        ensures back { Advances (ended_also self.old.back has_ended) self.new.back }
+        ensures there { AdvancesIfItWaited self.old.there self.new.there }
+        ensures heard { IsHeard moment self.old self.new }
+    {
+        self.back.has_ended = self.back.has_ended || has_ended;
         self.carry_back(moment, buffer);
         if self.there.step == Step::WaitsToWrite {
             self.carry_there(moment, buffer);
         }
     }
 
-    fn carry_there(&mut self, moment: u64, buffer: &mut Buffer) {
+    fn carry_there(&mut self, moment: u64, buffer: &mut Buffer)
+        ensures there { Advances self.old.there self.new.there }
+        ensures back { self.new.back ≡ self.old.back }
+        ensures heard { IsHeard moment self.old self.new }
+    {
         let was_ended = self.there.step == Step::Ended;
         self.there
             .turn(&mut self.client, &mut self.server, moment, buffer);
@@ -126,7 +167,11 @@ impl Link {
         }
     }
 
-    fn carry_back(&mut self, moment: u64, buffer: &mut Buffer) {
+    fn carry_back(&mut self, moment: u64, buffer: &mut Buffer)
+        ensures back { Advances self.old.back self.new.back }
+        ensures there { self.new.there ≡ self.old.there }
+        ensures heard { IsHeard moment self.old self.new }
+    {
         let was_ended = self.back.step == Step::Ended;
         self.back
             .turn(&mut self.server, &mut self.client, moment, buffer);
@@ -136,7 +181,9 @@ impl Link {
     }
 
     /// Whether both directions have ended, or one has failed.
-    fn is_over(&self) -> bool {
+    fn is_over(&self) -> bool
+        ensures { result ≡ is_over self.now }
+    {
         match (self.there.step, self.back.step) {
             (Step::Failed(_), _) | (_, Step::Failed(_)) => true,
             (Step::Ended, Step::Ended) => true,
@@ -144,13 +191,17 @@ impl Link {
         }
     }
 
-    fn watch(&mut self, registry: &Registry, number: usize) -> io::Result<()> {
+    fn watch(&mut self, registry: &Registry, number: usize) -> io::Result<()>
+        ensures same { self.new ≡ self.old }
+    {
         self.client.watch(registry, Side::Client.token(number))?;
         self.server.watch(registry, Side::Server.token(number))
     }
 
     /// Has the sockets reported for which a direction waits, or which has more to do.
-    fn watch_on(&mut self, registry: &Registry, number: usize) -> io::Result<()> {
+    fn watch_on(&mut self, registry: &Registry, number: usize) -> io::Result<()>
+        ensures same { self.new ≡ self.old }
+    {
         let (client, server) = (Side::Client.token(number), Side::Server.token(number));
         match self.there.step {
             Step::WaitsToWrite => self.server.watch_room(registry, server)?,
@@ -165,7 +216,10 @@ impl Link {
     }
 
     /// Whether the server has accepted the connection.
-    fn is_accepted(&mut self) -> bool {
+    fn is_accepted(&mut self) -> bool
+        ensures same { self.new ≡ record self.old { accepted = result } }
+        ensures known { must_be_accepted self.old ≡ true → result ≡ true }
+    {
         if !self.is_accepted {
             self.is_accepted = self.has_passed() || self.server.socket.peer_addr().is_ok();
         }
@@ -173,14 +227,20 @@ impl Link {
     }
 
     /// Whether a byte or an end has passed to or from the server.
-    fn has_passed(&self) -> bool {
+    fn has_passed(&self) -> bool
+        ensures { result ≡ has_passed self.now }
+    {
         self.there.direction.written() > 0
             || self.back.direction.read() > 0
             || self.back.step == Step::Ended
     }
 
     /// Whether a peer has been silent for longer than it may, at a moment in ms.
-    pub fn is_late(&mut self, moment: u64, timeouts: &Timeouts) -> bool {
+    pub fn is_late(&mut self, moment: u64, timeouts: &Timeouts) -> bool
+        ensures late { result ≡ is_late self.new moment timeouts.now }
+        ensures same { self.new ≡ record self.old { accepted = self.new.accepted } }
+        ensures known { must_be_accepted self.old ≡ true → self.new.accepted ≡ true }
+    {
         if !self.is_accepted() {
             return self.server.is_silent_for(moment, Some(timeouts.connect));
         }
@@ -190,7 +250,9 @@ impl Link {
 
     /// How many bytes came in and went out: those that were read of the client, and those that were written to it. None where
     /// the server took and gave nothing.
-    pub fn bytes(&self) -> (u64, u64) {
+    pub fn bytes(&self) -> (u64, u64)
+        ensures { result ≡ bytes self.now }
+    {
         if !self.has_passed() {
             return (0, 0);
         }

@@ -19,7 +19,13 @@ pub(crate) struct Way {
 }
 
 impl Way {
-    pub(crate) fn new(alloc: Global) -> Way {
+    ghost use Rattle.std.specs.Prelude.{◌≡◌};
+    ghost use Rattle.socket_link.specs.Silence.{heard_last};
+    ghost use Rattle.socket_link.specs.Ways.{Advances, has_read, has_written, unbegun_way};
+
+    pub(crate) fn new(alloc: Global) -> Way
+        ensures { result ≡ unbegun_way }
+    {
         Way {
             direction: Direction::new(alloc),
             step: Step::WaitsToRead,
@@ -28,23 +34,30 @@ impl Way {
     }
 
     /// Moves what can be moved now. Something that passes is heard at both ends, at this moment in ms.
-    pub(crate) fn turn(&mut self, from: &mut End, to: &mut End, moment: u64, buffer: &mut Buffer) {
+    pub(crate) fn turn(&mut self, from: &mut End, to: &mut End, moment: u64, buffer: &mut Buffer)
+        ensures advances { Advances self.old self.new }
+        ensures from { from.new ≡ record from.old { heard = heard_last (has_read self.old self.new) moment from.old.heard } }
+        ensures to { to.new ≡ record to.old { heard = heard_last (has_written self.old self.new) moment to.old.heard } }
+    {
+        let (read, written) = (self.direction.read(), self.direction.written());
+        self.carry(from, to, buffer);
+        from.hear(self.direction.read() > read, moment);
+        to.hear(self.direction.written() > written, moment);
+    }
+
+    /// Moves what can be moved now.
+    fn carry(&mut self, from: &End, to: &End, buffer: &mut Buffer)
+        ensures { Advances self.old self.new }
+    {
         if self.direction.is_over() {
             return;
         }
-        let (read, written) = (self.direction.read(), self.direction.written());
         let mut reader = ReadyStream::new(&from.socket);
         let mut writer = ReadyStream::new(&to.socket);
         let bytes = buffer.bytes.as_mut_slice();
         self.step = self
             .direction
             .turn(&mut reader, &mut writer, bytes, READS, self.has_ended);
-        if self.direction.read() != read {
-            from.heard = moment;
-        }
-        if self.direction.written() != written {
-            to.heard = moment;
-        }
     }
 
     /// Hands its end on: the receiver sees it too, and may still send.

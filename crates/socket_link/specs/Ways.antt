@@ -1,0 +1,27 @@
+-- What a turn does to one direction of a connection between sockets.
+use Rattle.std.specs.Prelude.{◌≡◌, ◌+◌, ◌≤◌, Bool, true, false, [], nat_lt}
+use Rattle.relay.specs.Turns.{HasTurned, is_last, unbegun}
+use Rattle.relay.specs.declared.steps.Step.TheVariants.{WaitsToRead, Yields}
+use Rattle.socket_link.specs.declared.way.Way.{Way}
+
+-- nothing has passed, and the sender isn't known to send no more
+abbrev pub unbegun_way : Way
+unbegun_way = record { direction = unbegun; step = WaitsToRead; has_ended = false }
+
+-- one that is over stays as it is; the others read at most 16 times 65,536 bytes, and 16 at least where they have more to do. Of what sockets hold no contract tells
+pub record Advances (old new : Way) : Type 0 where
+  pub over : old.direction.over ≡ true → new ≡ old
+  pub turned : old.direction.over ≡ false → HasTurned ⊥ [] [] ⊥ [] [] old.direction.passage new.direction.passage new.step
+  pub last : old.direction.over ≡ false → new.direction.over ≡ is_last new.step
+  pub yields : old.direction.over ≡ false → new.step ≡ Yields → old.direction.passage.read + 16 ≤ new.direction.passage.read
+  pub most : new.direction.passage.read ≤ old.direction.passage.read + 1048576
+  pub read : old.direction.passage.read ≤ new.direction.passage.read
+  pub written : old.direction.passage.written ≤ new.direction.passage.written
+  pub has_ended : new.has_ended ≡ old.has_ended
+
+-- whether more was read, and whether more was written
+abbrev pub has_read : Way → Way → Bool
+has_read old new = nat_lt old.direction.passage.read new.direction.passage.read
+
+abbrev pub has_written : Way → Way → Bool
+has_written old new = nat_lt old.direction.passage.written new.direction.passage.written
