@@ -21,27 +21,29 @@ pub record LinkState : Type 0 where
 abbrev pub opened : ℕ → LinkState
 opened moment = record { there = unbegun_way; back = unbegun_way; client = moment; server = moment; accepted = false }
 
-abbrev pub has_ended : Step → Bool
-has_ended WaitsToRead = false
-has_ended WaitsToWrite = false
-has_ended Yields = false
-has_ended Ended = true
-has_ended (Failed cause) = false
+-- all came and was written
+abbrev pub is_end : Step → Bool
+is_end WaitsToRead = false
+is_end WaitsToWrite = false
+is_end Yields = false
+is_end Ended = true
+is_end (Failed cause) = false
 
-abbrev pub has_failed : Step → Bool
-has_failed WaitsToRead = false
-has_failed WaitsToWrite = false
-has_failed Yields = false
-has_failed Ended = false
-has_failed (Failed cause) = true
+-- nothing goes on, as a socket failed or memory was short
+abbrev pub is_failure : Step → Bool
+is_failure WaitsToRead = false
+is_failure WaitsToWrite = false
+is_failure Yields = false
+is_failure Ended = false
+is_failure (Failed cause) = true
 
 -- whether nothing more passes: both directions have ended, or one has failed
 abbrev pub is_over : LinkState → Bool
-is_over link = has_failed link.there.step || has_failed link.back.step || (has_ended link.there.step && has_ended link.back.step)
+is_over link = is_failure link.there.step || is_failure link.back.step || (is_end link.there.step && is_end link.back.step)
 
 -- whether a byte or an end has passed to or from the server
 abbrev pub has_passed : LinkState → Bool
-has_passed link = nat_lt 0 link.there.direction.passage.written || nat_lt 0 link.back.direction.passage.read || has_ended link.back.step
+has_passed link = nat_lt 0 link.there.direction.passage.written || nat_lt 0 link.back.direction.passage.read || is_end link.back.step
 
 -- whether the server must have accepted the connection
 abbrev pub must_be_accepted : LinkState → Bool

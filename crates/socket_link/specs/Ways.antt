@@ -1,12 +1,30 @@
 -- What a turn does to one direction of a connection between sockets.
-use Rattle.std.specs.Prelude.{◌≡◌, ◌+◌, ◌≤◌, Bool, true, false, [], nat_lt}
+use Rattle.std.specs.Prelude.{◌≡◌, ◌+◌, ◌≤◌, Bool, true, false, [], length, nat_lt}
+use Rattle.relay.specs.Passage.{Passage}
 use Rattle.relay.specs.Turns.{HasTurned, is_last, unbegun}
-use Rattle.relay.specs.declared.steps.Step.TheVariants.{WaitsToRead, Yields}
+use Rattle.relay.specs.declared.steps.Cause.TheVariants.{Memory, Read, Write}
+use Rattle.relay.specs.declared.steps.Step.{Step}
+use Rattle.relay.specs.declared.steps.Step.TheVariants.{Ended, Failed, WaitsToRead, WaitsToWrite, Yields}
 use Rattle.socket_link.specs.declared.way.Way.{Way}
 
 -- nothing has passed, and the sender isn't known to send no more
 abbrev pub unbegun_way : Way
 unbegun_way = record { direction = unbegun; step = WaitsToRead; has_ended = false }
+
+-- what was read of the sender is what was written to the receiver and what waits for room; where one of them failed, or there was no memory, what was not written is lost
+abbrev pub Accounts : Passage → Step → Type 0
+Accounts passage WaitsToRead = (passage.written ≡ passage.read) × (passage.rest ≡ [])
+Accounts passage WaitsToWrite = passage.written + length passage.rest ≡ passage.read
+Accounts passage Yields = (passage.written ≡ passage.read) × (passage.rest ≡ [])
+Accounts passage Ended = (passage.written ≡ passage.read) × (passage.rest ≡ [])
+Accounts passage (Failed Read) = (passage.written ≡ passage.read) × (passage.rest ≡ [])
+Accounts passage (Failed Write) = passage.rest ≡ []
+Accounts passage (Failed Memory) = passage.rest ≡ []
+
+-- how far it is, and whether it is over, agree with what has passed
+pub record IsWay (way : Way) : Type 0 where
+  pub accounts : Accounts way.direction.passage way.step
+  pub over : way.direction.over ≡ is_last way.step
 
 -- one that is over stays as it is; the others read at most 16 times 65,536 bytes, and 16 at least where they have more to do. Of what sockets hold no contract tells
 pub record Advances (old new : Way) : Type 0 where

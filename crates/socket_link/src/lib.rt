@@ -1,7 +1,8 @@
 //! The two sockets of a connection, none of which waits, and what goes between them.
 //!
-//! What sockets give and take no contract can say. What a link counts is what its directions say; `relay` says what
-//! they carry.
+//! The contracts say what a link counts, when it was heard last, when it is late and when it is over, and that in each
+//! direction what was read is what was written and what waits. What sockets give and take, and whether they are reported, no
+//! contract can say: a link whose sockets are never ready meets its contracts too.
 #![tactic(auto)]
 
 mod buffer;

@@ -5,7 +5,7 @@ ghost use Rattle.mio.specs.Event.{event_token, is_read_closed};
 ghost use Rattle.socket_link.specs.Links.{AdvancesIfItWaited, IsHeard, bytes, ended_also, has_passed, is_late, is_over, must_be_accepted, opened, way_from, way_to};
 ghost use Rattle.socket_link.specs.Silence.{heard_last};
 ghost use Rattle.socket_link.specs.Tokens.{Tells, number_of, side_of};
-ghost use Rattle.socket_link.specs.Ways.{Advances, has_read, has_written};
+ghost use Rattle.socket_link.specs.Ways.{Advances, IsWay};
 
 use crate::end::{End, Side};
 use crate::way::Way;
@@ -59,14 +59,17 @@ pub struct Link {
 
 impl Model for Link {
     ghost use Rattle.socket_link.specs.Links.{LinkState};
+    ghost use Rattle.socket_link.specs.Ways.{IsWay};
 
     ghost Value = { LinkState };
 
     ghost view = { λ link. record { there = link.there; back = link.back; client = link.client.heard; server = link.server.heard; accepted = link.is_accepted } };
+
+    ghost invariant = { λ link. IsWay link.there × IsWay link.back };
 }
 
 impl Link {
-    /// Begins to connect a client to its server, at a moment in ms. None where that fails at once.
+    /// Begins to connect a client to its server, at a moment in ms. None where the system says at once that it can't.
     pub fn open<R: Net>(
         rt: &R,
         alloc: Global,
@@ -86,8 +89,8 @@ impl Link {
         })
     }
 
-    /// Has both sockets reported as those of the connection with this number, and moves what is there already. Whether
-    /// it goes on.
+    /// Has both sockets reported as those of the connection with this number, which is below 2^63, and moves what the client
+    /// has sent already. Whether it goes on: not where it is over, or the system refuses to report a socket.
     pub fn start(
         &mut self,
         registry: &Registry,
@@ -107,7 +110,9 @@ impl Link {
         self.watch(registry, number).is_ok() && self.watch_on(registry, number).is_ok()
     }
 
-    /// Moves what can be moved now that a socket is ready. Whether it goes on.
+    /// Moves what can be moved now that a socket is ready: what its peer has sent, and what waited for room there. Whether it
+    /// goes on: not where it is over, or the system refuses to report a socket. How much a socket gives or takes is the
+    /// system's to say: one that isn't ready moves nothing.
     pub fn turn(
         &mut self,
         registry: &Registry,
@@ -215,7 +220,7 @@ impl Link {
         }
     }
 
-    /// Whether the server has accepted the connection.
+    /// Whether the server has accepted the connection: it has where something has passed there, and else the system is asked.
     fn is_accepted(&mut self) -> bool
         ensures same { self.new ≡ record self.old { accepted = result } }
         ensures known { must_be_accepted self.old ≡ true → result ≡ true }
@@ -235,7 +240,8 @@ impl Link {
             || self.back.step == Step::Ended
     }
 
-    /// Whether a peer has been silent for longer than it may, at a moment in ms.
+    /// Whether, at a moment in ms, a peer has been silent for as long as it may, or longer: the server until it has accepted the
+    /// connection, and then each of both. Where nothing has passed at the server, the system is asked whether it has accepted.
     pub fn is_late(&mut self, moment: u64, timeouts: &Timeouts) -> bool
         ensures late { result ≡ is_late self.new moment timeouts.now }
         ensures same { self.new ≡ record self.old { accepted = self.new.accepted } }
@@ -249,13 +255,13 @@ impl Link {
     }
 
     /// How many bytes came in and went out: those that were read of the client, and those that were written to it. None where
-    /// the server took and gave nothing.
+    /// the server took and gave nothing. Of each direction, what was read is what was written and what waits, until it fails.
     pub fn bytes(&self) -> (u64, u64)
-        ensures { result ≡ bytes self.now }
+        ensures exact { result ≡ bytes self.now }
+        ensures there { IsWay self.now.there }
+        ensures back { IsWay self.now.back }
     {
-        if !self.has_passed() {
-            return (0, 0);
-        }
-        (self.there.direction.read(), self.back.direction.written())
+        let counted = (self.there.direction.read(), self.back.direction.written());
+        if self.has_passed() { counted } else { (0, 0) }
     }
 }

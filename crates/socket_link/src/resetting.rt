@@ -9,7 +9,7 @@ use std::os::fd::AsRawFd;
 const NOWHERE: u32 = 16;
 
 /// Closes a connection by a reset in place of the orderly end: its peer is told at once, and the system has nothing more to do
-/// for it. A peer that sees a reset reads nothing of what it hasn't read yet.
+/// for it. A peer that sees a reset reads nothing of what it hasn't read yet. What the system tells a peer no contract says.
 pub fn reset(_rt: &impl Net, stream: TcpStream) {
     // Where it can't be reset, as it is gone already, closing it is all there is to do.
     let _ = unsafe { connect(stream.as_raw_fd(), &[0u8; _SS_SIZE], NOWHERE) };

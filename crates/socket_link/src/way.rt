@@ -21,7 +21,7 @@ pub(crate) struct Way {
 impl Way {
     ghost use Rattle.std.specs.Prelude.{◌≡◌};
     ghost use Rattle.socket_link.specs.Silence.{heard_last};
-    ghost use Rattle.socket_link.specs.Ways.{Advances, has_read, has_written, unbegun_way};
+    ghost use Rattle.socket_link.specs.Ways.{Advances, IsWay, has_read, has_written, unbegun_way};
 
     pub(crate) fn new(alloc: Global) -> Way
         ensures { result ≡ unbegun_way }
@@ -35,6 +35,8 @@ impl Way {
 
     /// Moves what can be moved now. Something that passes is heard at both ends, at this moment in ms.
     pub(crate) fn turn(&mut self, from: &mut End, to: &mut End, moment: u64, buffer: &mut Buffer)
+        requires way { IsWay self.old }
+        ensures way { IsWay self.new }
         ensures advances { Advances self.old self.new }
         ensures from { from.new ≡ record from.old { heard = heard_last (has_read self.old self.new) moment from.old.heard } }
         ensures to { to.new ≡ record to.old { heard = heard_last (has_written self.old self.new) moment to.old.heard } }
@@ -47,7 +49,9 @@ impl Way {
 
     /// Moves what can be moved now.
     fn carry(&mut self, from: &End, to: &End, buffer: &mut Buffer)
-        ensures { Advances self.old self.new }
+        requires way { IsWay self.old }
+        ensures way { IsWay self.new }
+        ensures advances { Advances self.old self.new }
     {
         if self.direction.is_over() {
             return;
