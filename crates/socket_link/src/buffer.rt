@@ -1,6 +1,6 @@
 //! What bytes pass through.
 
-ghost use Rattle.std.specs.Prelude.{◌≡◌, vec_len};
+ghost use Rattle.std.specs.Prelude.{◌≡◌, IfOk, vec_len};
 
 use sequence::NoMemory;
 use std::alloc::Global;
@@ -17,7 +17,9 @@ pub struct Buffer {
 
 impl Buffer {
     /// A buffer. It takes memory here alone.
-    pub fn new(alloc: Global) -> Result<Buffer, NoMemory> {
+    pub fn new(alloc: Global) -> Result<Buffer, NoMemory>
+        ensures { IfOk result (λ buffer. vec_len buffer.bytes ≡ 65536) }
+    {
         let bytes = vec![in alloc; 0u8; ROOM]?;
         Ok(Buffer { bytes })
     }
