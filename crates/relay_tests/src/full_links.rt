@@ -7,14 +7,14 @@ use std::io::{Read, Write};
 use std::net::{Net, TcpListener, TcpStream};
 
 /// A text in which each byte from 0 to 250 stands in turn, so that what follows a place in it is known.
-fn text(alloc: Global) -> Option<Vec<u8>> {
-    let mut text = Vec::new(alloc);
-    for _time in 0..260u32 {
-        for byte in 0..251u8 {
-            text.push(byte).ok()?;
-        }
+fn text() -> [u8; 8785] {
+    let mut text = [0u8; 8785];
+    let mut byte = 0u8;
+    for place in text.iter_mut() {
+        *place = byte;
+        byte = if byte == 250 { 0 } else { byte.wrapping_add(1) };
     }
-    Some(text)
+    text
 }
 
 /// What follows a place in a text.
@@ -23,10 +23,11 @@ fn behind(text: &[u8], place: u64) -> &[u8] {
 }
 
 /// Sends a client's bytes until neither its socket nor its link takes any more, and answers how many it took.
-fn fill(mut client: &TcpStream, text: &[u8], lead: &mut Lead, link: &mut Link) -> Option<u64> {
+fn fill(mut client: &TcpStream, lead: &mut Lead, link: &mut Link) -> Option<u64> {
+    let text = text();
     let mut sent = 0u64;
     for _call in 0..TURNS {
-        match client.write(behind(text, sent)) {
+        match client.write(behind(&text, sent)) {
             Ok(count) => sent = sent.wrapping_add(count as u64),
             Err(_) if lead.moves(link)? => {}
             Err(_) => return Some(sent),
@@ -35,52 +36,62 @@ fn fill(mut client: &TcpStream, text: &[u8], lead: &mut Lead, link: &mut Link) -
     None
 }
 
-/// Whether a server gets so many bytes of a text.
-fn empty(
-    mut server: &TcpStream,
-    text: &[u8],
-    wanted: u64,
-    lead: &mut Lead,
-    link: &mut Link,
-) -> Option<bool> {
+/// Whether a server gets so many bytes of the text.
+fn empty(mut server: &TcpStream, wanted: u64, lead: &mut Lead, link: &mut Link) -> bool {
+    let text = text();
     let mut buffer = [0u8; 8192];
     let mut got = 0u64;
     for _call in 0..TURNS {
         if got == wanted {
-            return Some(true);
+            return true;
         }
         match server.read(&mut buffer) {
-            Ok(0) => return None,
-            Ok(count) if !behind(text, got).starts_with(&buffer[..count]) => return Some(false),
+            Ok(0) => return false,
+            Ok(count) if !behind(&text, got).starts_with(&buffer[..count]) => return false,
             Ok(count) => got = got.wrapping_add(count as u64),
             // What the link has written may still be on its way.
-            Err(_) => {
-                lead.moves(link)?;
-            }
+            Err(_) if lead.moves(link).is_some() => {}
+            Err(_) => return false,
         }
     }
-    None
+    false
 }
 
 /// Whether a server that reads nothing at first gets all that its client sends meanwhile, until nobody has room.
+fn is_filled_and_emptied(
+    link: &mut Link,
+    client: &TcpStream,
+    server: &TcpStream,
+    lead: &mut Lead,
+) -> bool {
+    if client.set_nonblocking(true).is_err()
+        || server.set_nonblocking(true).is_err()
+        || !lead.starts(link, 0)
+    {
+        return false;
+    }
+    match fill(client, lead, link) {
+        Some(sent) => {
+            link.bytes().0 < sent && empty(server, sent, lead, link) && link.bytes() == (sent, 0)
+        }
+        None => false,
+    }
+}
+
+/// The same of a link of its own.
 fn keeps_what_finds_no_room<R: Net<Listener = TcpListener, Stream = TcpStream>>(
     rt: &R,
     alloc: Global,
-) -> Option<bool> {
-    let (mut link, outer, inner) = linked(rt, alloc, 0)?;
-    let (mut lead, text) = (new_lead(rt, alloc)?, text(alloc)?);
-    outer.set_nonblocking(true).ok()?;
-    inner.set_nonblocking(true).ok()?;
-    if !lead.starts(&mut link, 0) {
-        return None;
+) -> bool {
+    match (linked(rt, alloc, 0), new_lead(rt, alloc)) {
+        (Some((mut link, outer, inner)), Some(mut lead)) => {
+            is_filled_and_emptied(&mut link, &outer, &inner, &mut lead)
+        }
+        _ => false,
     }
-    let sent = fill(&outer, &text, &mut lead, &mut link)?;
-    let taken = link.bytes().0;
-    let is_whole = empty(&inner, &text, sent, &mut lead, &mut link)?;
-    Some(is_whole && taken < sent && link.bytes() == (sent, 0))
 }
 
 #[test]
 fn a_link_keeps_what_finds_no_room(rt: HostRuntime) {
-    assert!(rt; keeps_what_finds_no_room(&rt, rt.alloc()) == Some(true));
+    assert!(rt; keeps_what_finds_no_room(&rt, rt.alloc()));
 }

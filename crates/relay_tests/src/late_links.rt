@@ -1,6 +1,6 @@
 //! When a link is late, of whose moments the tests tell.
 
-use crate::leads::{link_to, linked, new_lead};
+use crate::leads::{Lead, link_to, linked, new_lead};
 use socket_link::{Link, Timeouts};
 use std::alloc::Global;
 use std::io::Write;
@@ -17,6 +17,16 @@ fn is_late_as_said(link: &mut Link, (moment, client, server, is_late): Silence) 
         server,
     };
     link.is_late(moment, &timeouts) == is_late
+}
+
+/// Whether a link is late as each of these say.
+fn is_late_as_all_say(link: &mut Link, silences: &[Silence]) -> bool {
+    for silence in silences {
+        if !is_late_as_said(link, *silence) {
+            return false;
+        }
+    }
+    true
 }
 
 /// What becomes of a link that has been silent since 500.
@@ -41,67 +51,42 @@ static SILENT: [Silence; 14] = [
 fn is_late_when_silent<R: Net<Listener = TcpListener, Stream = TcpStream>>(
     rt: &R,
     alloc: Global,
-    silence: Silence,
 ) -> bool {
     match linked(rt, alloc, 500) {
-        Some((mut link, _outer, _inner)) => is_late_as_said(&mut link, silence),
+        Some((mut link, _outer, _inner)) => is_late_as_all_say(&mut link, &SILENT),
         None => false,
     }
 }
 
 #[test]
 fn a_silent_link_is_late_at_its_timeout(rt: HostRuntime) {
-    for silence in SILENT {
-        assert!(rt;
-            is_late_when_silent(&rt, rt.alloc(), silence),
-            "{silence:?}"
-        );
-    }
+    assert!(rt; is_late_when_silent(&rt, rt.alloc()));
 }
 
-/// Whether a byte of the client's that passes at 500 is counted, and makes a link that opens at 200 late as is said.
+/// Whether a byte of the client's that passes at 500 is counted, and makes a link late as if it were silent since then.
+fn is_heard(link: &mut Link, mut client: &TcpStream, lead: &mut Lead) -> bool {
+    client.write_all(b"x").is_ok()
+        && lead.starts(link, 500)
+        && link.bytes() == (1, 0)
+        && is_late_as_all_say(link, &SILENT)
+}
+
+/// The same of a link that opens at 200.
 fn is_late_behind_a_byte<R: Net<Listener = TcpListener, Stream = TcpStream>>(
     rt: &R,
     alloc: Global,
-    silence: Silence,
-) -> Option<bool> {
-    let (mut link, outer, _inner) = linked(rt, alloc, 200)?;
-    let mut lead = new_lead(rt, alloc)?;
-    (&outer).write_all(b"x").ok()?;
-    let goes_on = lead.starts(&mut link, 500);
-    Some(goes_on && link.bytes() == (1, 0) && is_late_as_said(&mut link, silence))
+) -> bool {
+    match (linked(rt, alloc, 200), new_lead(rt, alloc)) {
+        (Some((mut link, outer, _inner)), Some(mut lead)) => {
+            is_heard(&mut link, &outer, &mut lead)
+        }
+        _ => false,
+    }
 }
 
 #[test]
 fn a_link_is_heard_where_a_byte_passes(rt: HostRuntime) {
-    for silence in SILENT {
-        let is_late = is_late_behind_a_byte(&rt, rt.alloc(), silence);
-        assert!(rt; is_late == Some(true), "{silence:?}");
-    }
-}
-
-/// More connections than a listener keeps until they are accepted, which are begun.
-fn crowd<R: Net>(rt: &R, alloc: Global, address: SocketAddr) -> Option<Vec<mio::net::TcpStream>> {
-    let mut crowd = Vec::new(alloc);
-    for _each in 0..200u32 {
-        crowd
-            .push(mio::net::TcpStream::connect(rt, address).ok()?)
-            .ok()?;
-    }
-    Some(crowd)
-}
-
-/// Whether a link that opens at 500 is late as is said, where its server has no place for it.
-fn is_late_when_not_accepted<R: Net<Listener = TcpListener, Stream = TcpStream>>(
-    rt: &R,
-    alloc: Global,
-    silence: Silence,
-) -> Option<bool> {
-    let listener = TcpListener::bind(rt, "127.0.0.1:0").ok()?;
-    let address = listener.local_addr().ok()?;
-    let _crowd = crowd(rt, alloc, address)?;
-    let (mut link, _outer) = link_to(rt, alloc, address, 500)?;
-    Some(is_late_as_said(&mut link, silence))
+    assert!(rt; is_late_behind_a_byte(&rt, rt.alloc()));
 }
 
 /// What becomes of a link that has been connecting since 500: what its peers may be silent for doesn't matter.
@@ -112,10 +97,51 @@ static CONNECTING: [Silence; 4] = [
     (801, Some(1000), Some(1000), true),
 ];
 
+/// Whether a link that opens at 500 is late as is said, where its server has no place for it.
+fn is_late_when_not_accepted<R: Net<Listener = TcpListener, Stream = TcpStream>>(
+    rt: &R,
+    alloc: Global,
+    server: SocketAddr,
+) -> bool {
+    match link_to(rt, alloc, server, 500) {
+        Some((mut link, _outer)) => is_late_as_all_say(&mut link, &CONNECTING),
+        None => false,
+    }
+}
+
+/// The same, where more connections are begun first, and stay, than a listener keeps until they are accepted.
+fn is_late_behind_a_crowd<R: Net<Listener = TcpListener, Stream = TcpStream>>(
+    rt: &R,
+    alloc: Global,
+    server: SocketAddr,
+) -> bool {
+    let mut crowd = Vec::new(alloc);
+    for _each in 0..200u32 {
+        let Ok(stream) = mio::net::TcpStream::connect(rt, server) else {
+            return false;
+        };
+        if crowd.push(stream).is_err() {
+            return false;
+        }
+    }
+    is_late_when_not_accepted(rt, alloc, server)
+}
+
+/// The same of a listener of its own.
+fn is_late_at_a_full_server<R: Net<Listener = TcpListener, Stream = TcpStream>>(
+    rt: &R,
+    alloc: Global,
+) -> bool {
+    let Ok(listener) = TcpListener::bind(rt, "127.0.0.1:0") else {
+        return false;
+    };
+    match listener.local_addr() {
+        Ok(address) => is_late_behind_a_crowd(rt, alloc, address),
+        Err(_) => false,
+    }
+}
+
 #[test]
 fn a_link_that_is_not_accepted_is_late(rt: HostRuntime) {
-    for silence in CONNECTING {
-        let is_late = is_late_when_not_accepted(&rt, rt.alloc(), silence);
-        assert!(rt; is_late == Some(true), "{silence:?}");
-    }
+    assert!(rt; is_late_at_a_full_server(&rt, rt.alloc()));
 }

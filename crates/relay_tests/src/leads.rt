@@ -20,28 +20,52 @@ pub const TURNS: u32 = 10_000_000;
 /// A link, and the sockets at its other ends, its client's and its server's.
 pub type Linked = (Link, TcpStream, TcpStream);
 
-/// A client that is connected to its link at a moment in ms, whose server is at an address.
+/// A client, and the socket at the other end of its connection, which doesn't wait.
+fn client_and_near<R: Net<Listener = TcpListener, Stream = TcpStream>>(
+    rt: &R,
+) -> Option<(TcpStream, mio::net::TcpStream)> {
+    let (outer, near) = pair(rt)?;
+    if near.set_nonblocking(true).is_err() {
+        return None;
+    }
+    Some((outer, mio::net::TcpStream::from_std(near)))
+}
+
+/// A link that opens at a moment in ms, and its client, whose server is at an address.
 pub fn link_to<R: Net<Listener = TcpListener, Stream = TcpStream>>(
     rt: &R,
     alloc: Global,
     server: SocketAddr,
     moment: u64,
 ) -> Option<(Link, TcpStream)> {
-    let (outer, near) = pair(rt)?;
-    near.set_nonblocking(true).ok()?;
-    let near = mio::net::TcpStream::from_std(near);
-    let link = Link::open(rt, alloc, near, server, moment)?;
-    Some((link, outer))
+    let (outer, near) = client_and_near(rt)?;
+    match Link::open(rt, alloc, near, server, moment) {
+        Some(link) => Some((link, outer)),
+        None => None,
+    }
 }
 
-/// A link that opens at a moment in ms.
+/// A link that opens at a moment in ms, and its client, whose server listens.
+fn link_to_listener<R: Net<Listener = TcpListener, Stream = TcpStream>>(
+    rt: &R,
+    alloc: Global,
+    listener: &TcpListener,
+    moment: u64,
+) -> Option<(Link, TcpStream)> {
+    match listener.local_addr() {
+        Ok(address) => link_to(rt, alloc, address, moment),
+        Err(_) => None,
+    }
+}
+
+/// A link that opens at a moment in ms, whose server accepts it.
 pub fn linked<R: Net<Listener = TcpListener, Stream = TcpStream>>(
     rt: &R,
     alloc: Global,
     moment: u64,
 ) -> Option<Linked> {
     let listener = TcpListener::bind(rt, "127.0.0.1:0").ok()?;
-    let (link, outer) = link_to(rt, alloc, listener.local_addr().ok()?, moment)?;
+    let (link, outer) = link_to_listener(rt, alloc, &listener, moment)?;
     match listener.accept() {
         Ok((inner, _address)) => Some((link, outer, inner)),
         Err(_) => None,

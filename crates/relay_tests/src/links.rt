@@ -1,6 +1,6 @@
 //! Links between sockets of this machine: what they carry and count, how they end, and a reset.
 
-use crate::leads::{link_to, linked, new_lead};
+use crate::leads::{Lead, link_to, linked, new_lead};
 use crate::peers::{client, pair, server};
 use socket_link::{Link, reset};
 use std::alloc::Global;
@@ -11,12 +11,19 @@ use std::thread;
 use std::thread::{Scope, Threads};
 
 /// How many bytes a link says that came of its client and went to it, once it has ended. None where it doesn't end.
-fn bytes_of<R: Net>(rt: &R, alloc: Global, mut link: Link) -> Option<(u64, u64)> {
-    let mut lead = new_lead(rt, alloc)?;
-    if lead.to_its_end(&mut link) {
+fn bytes_at_the_end(link: &mut Link, lead: &mut Lead) -> Option<(u64, u64)> {
+    if lead.to_its_end(link) {
         Some(link.bytes())
     } else {
         None
+    }
+}
+
+/// The same of a link that is closed then.
+fn bytes_of<R: Net>(rt: &R, alloc: Global, mut link: Link) -> Option<(u64, u64)> {
+    match new_lead(rt, alloc) {
+        Some(mut lead) => bytes_at_the_end(&mut link, &mut lead),
+        None => None,
     }
 }
 
@@ -84,48 +91,47 @@ fn deserted<R: Net<Listener = TcpListener, Stream = TcpStream>>(rt: &R) -> Optio
     TcpListener::bind(rt, "127.0.0.1:0").ok()?.local_addr().ok()
 }
 
-/// What a link counts whose server refuses it, while its client sends five bytes.
+/// What a link counts that isn't accepted at an address, while its client sends five bytes.
 fn bytes_of_a_refused_one<R: Net<Listener = TcpListener, Stream = TcpStream>>(
     rt: &R,
     alloc: Global,
+    address: SocketAddr,
 ) -> Option<(u64, u64)> {
-    let (link, outer) = link_to(rt, alloc, deserted(rt)?, 0)?;
-    (&outer).write_all(b"hello").ok()?;
-    bytes_of(rt, alloc, link)
+    match link_to(rt, alloc, address, 0) {
+        Some((link, outer)) if (&outer).write_all(b"hello").is_ok() => bytes_of(rt, alloc, link),
+        _ => None,
+    }
 }
 
 #[test]
 fn a_link_counts_nothing_where_its_server_refuses(rt: HostRuntime) {
-    assert!(rt; bytes_of_a_refused_one(&rt, rt.alloc()) == Some((0, 0)));
+    let bytes = match deserted(&rt) {
+        Some(address) => bytes_of_a_refused_one(&rt, rt.alloc(), address),
+        None => None,
+    };
+    assert!(rt; bytes == Some((0, 0)));
 }
 
-/// What a client reads behind its connection's end by a reset.
-fn read_behind_a_reset<R: Net<Listener = TcpListener, Stream = TcpStream>>(
+/// What a client reads behind its connection's end, by a reset or in order.
+fn read_behind<R: Net<Listener = TcpListener, Stream = TcpStream>>(
     rt: &R,
-) -> Option<ErrorKind> {
+    is_reset: bool,
+) -> Option<Result<usize, ErrorKind>> {
     let (here, there) = pair(rt)?;
-    reset(rt, mio::net::TcpStream::from_std(there));
+    let there = mio::net::TcpStream::from_std(there);
+    if is_reset {
+        reset(rt, there);
+    } else {
+        drop(there);
+    }
     match (&here).read(&mut [0u8; 8]) {
-        Ok(_) => None,
-        Err(error) => Some(error.kind()),
+        Ok(count) => Some(Ok(count)),
+        Err(error) => Some(Err(error.kind())),
     }
 }
 
 #[test]
 fn a_reset_is_seen_by_the_peer(rt: HostRuntime) {
-    assert!(rt; read_behind_a_reset(&rt) == Some(ErrorKind::ConnectionReset));
-}
-
-/// What a client reads behind its connection's end without a reset.
-fn read_behind_an_end<R: Net<Listener = TcpListener, Stream = TcpStream>>(rt: &R) -> bool {
-    let Some((here, there)) = pair(rt) else {
-        return false;
-    };
-    drop(mio::net::TcpStream::from_std(there));
-    matches!((&here).read(&mut [0u8; 8]), Ok(0))
-}
-
-#[test]
-fn an_orderly_end_is_no_reset(rt: HostRuntime) {
-    assert!(rt; read_behind_an_end(&rt));
+    assert!(rt; read_behind(&rt, true) == Some(Err(ErrorKind::ConnectionReset)));
+    assert!(rt; read_behind(&rt, false) == Some(Ok(0)));
 }
