@@ -1,7 +1,6 @@
 //! A link whose server doesn't read for a while.
 
-use crate::leads::{Lead, TURNS, linked, new_lead};
-use socket_link::Link;
+use crate::leads::{Lead, TURNS, lead_between};
 use std::alloc::Global;
 use std::io::{Read, Write};
 use std::net::{Net, TcpListener, TcpStream};
@@ -23,13 +22,13 @@ fn behind(text: &[u8], place: u64) -> &[u8] {
 }
 
 /// Sends a client's bytes until neither its socket nor its link takes any more, and answers how many it took.
-fn fill(mut client: &TcpStream, lead: &mut Lead, link: &mut Link) -> Option<u64> {
+fn fill(mut client: &TcpStream, lead: &mut Lead) -> Option<u64> {
     let text = text();
     let mut sent = 0u64;
     for _call in 0..TURNS {
         match client.write(behind(&text, sent)) {
             Ok(count) => sent = sent.wrapping_add(count as u64),
-            Err(_) if lead.moves(link)? => {}
+            Err(_) if lead.moves() => {}
             Err(_) => return Some(sent),
         }
     }
@@ -37,7 +36,7 @@ fn fill(mut client: &TcpStream, lead: &mut Lead, link: &mut Link) -> Option<u64>
 }
 
 /// Whether a server gets so many bytes of the text.
-fn empty(mut server: &TcpStream, wanted: u64, lead: &mut Lead, link: &mut Link) -> bool {
+fn empty(mut server: &TcpStream, wanted: u64, lead: &mut Lead) -> bool {
     let text = text();
     let mut buffer = [0u8; 8192];
     let mut got = 0u64;
@@ -49,30 +48,26 @@ fn empty(mut server: &TcpStream, wanted: u64, lead: &mut Lead, link: &mut Link) 
             Ok(0) => return false,
             Ok(count) if !behind(&text, got).starts_with(&buffer[..count]) => return false,
             Ok(count) => got = got.wrapping_add(count as u64),
-            // What the link has written may still be on its way.
-            Err(_) if lead.moves(link).is_some() => {}
-            Err(_) => return false,
+            // Where the link doesn't move, what it has written may still be on its way.
+            Err(_) => {
+                lead.moves();
+            }
         }
     }
     false
 }
 
 /// Whether a server that reads nothing at first gets all that its client sends meanwhile, until nobody has room.
-fn is_filled_and_emptied(
-    link: &mut Link,
-    client: &TcpStream,
-    server: &TcpStream,
-    lead: &mut Lead,
-) -> bool {
+fn is_filled_and_emptied(client: &TcpStream, server: &TcpStream, lead: &mut Lead) -> bool {
     if client.set_nonblocking(true).is_err()
         || server.set_nonblocking(true).is_err()
-        || !lead.starts(link, 0)
+        || !lead.starts(0)
     {
         return false;
     }
-    match fill(client, lead, link) {
+    match fill(client, lead) {
         Some(sent) => {
-            link.bytes().0 < sent && empty(server, sent, lead, link) && link.bytes() == (sent, 0)
+            lead.bytes().0 < sent && empty(server, sent, lead) && lead.bytes() == (sent, 0)
         }
         None => false,
     }
@@ -83,11 +78,9 @@ fn keeps_what_finds_no_room<R: Net<Listener = TcpListener, Stream = TcpStream>>(
     rt: &R,
     alloc: Global,
 ) -> bool {
-    match (linked(rt, alloc, 0), new_lead(rt, alloc)) {
-        (Some((mut link, outer, inner)), Some(mut lead)) => {
-            is_filled_and_emptied(&mut link, &outer, &inner, &mut lead)
-        }
-        _ => false,
+    match lead_between(rt, alloc, 0) {
+        Some((mut lead, outer, inner)) => is_filled_and_emptied(&outer, &inner, &mut lead),
+        None => false,
     }
 }
 

@@ -1,7 +1,7 @@
 //! When a link is late, of whose moments the tests tell.
 
-use crate::leads::{Lead, link_to, linked, new_lead};
-use socket_link::{Link, Timeouts};
+use crate::leads::{Lead, lead_between, lead_to};
+use socket_link::Timeouts;
 use std::alloc::Global;
 use std::io::Write;
 use std::net::{Net, SocketAddr, TcpListener, TcpStream};
@@ -10,19 +10,19 @@ use std::net::{Net, SocketAddr, TcpListener, TcpStream};
 type Silence = (u64, Option<u64>, Option<u64>, bool);
 
 /// Whether a link is late as is said, whose server may take 300 ms to accept it.
-fn is_late_as_said(link: &mut Link, (moment, client, server, is_late): Silence) -> bool {
+fn is_late_as_said(lead: &mut Lead, (moment, client, server, is_late): Silence) -> bool {
     let timeouts = Timeouts {
         connect: 300,
         client,
         server,
     };
-    link.is_late(moment, &timeouts) == is_late
+    lead.is_late(moment, &timeouts) == is_late
 }
 
 /// Whether a link is late as each of these say.
-fn is_late_as_all_say(link: &mut Link, silences: &[Silence]) -> bool {
+fn is_late_as_all_say(lead: &mut Lead, silences: &[Silence]) -> bool {
     for silence in silences {
-        if !is_late_as_said(link, *silence) {
+        if !is_late_as_said(lead, *silence) {
             return false;
         }
     }
@@ -52,8 +52,8 @@ fn is_late_when_silent<R: Net<Listener = TcpListener, Stream = TcpStream>>(
     rt: &R,
     alloc: Global,
 ) -> bool {
-    match linked(rt, alloc, 500) {
-        Some((mut link, _outer, _inner)) => is_late_as_all_say(&mut link, &SILENT),
+    match lead_between(rt, alloc, 500) {
+        Some((mut lead, _outer, _inner)) => is_late_as_all_say(&mut lead, &SILENT),
         None => false,
     }
 }
@@ -64,11 +64,11 @@ fn a_silent_link_is_late_at_its_timeout(rt: HostRuntime) {
 }
 
 /// Whether a byte of the client's that passes at 500 is counted, and makes a link late as if it were silent since then.
-fn is_heard(link: &mut Link, mut client: &TcpStream, lead: &mut Lead) -> bool {
+fn is_heard(mut client: &TcpStream, lead: &mut Lead) -> bool {
     client.write_all(b"x").is_ok()
-        && lead.starts(link, 500)
-        && link.bytes() == (1, 0)
-        && is_late_as_all_say(link, &SILENT)
+        && lead.starts(500)
+        && lead.bytes() == (1, 0)
+        && is_late_as_all_say(lead, &SILENT)
 }
 
 /// The same of a link that opens at 200.
@@ -76,11 +76,9 @@ fn is_late_behind_a_byte<R: Net<Listener = TcpListener, Stream = TcpStream>>(
     rt: &R,
     alloc: Global,
 ) -> bool {
-    match (linked(rt, alloc, 200), new_lead(rt, alloc)) {
-        (Some((mut link, outer, _inner)), Some(mut lead)) => {
-            is_heard(&mut link, &outer, &mut lead)
-        }
-        _ => false,
+    match lead_between(rt, alloc, 200) {
+        Some((mut lead, outer, _inner)) => is_heard(&outer, &mut lead),
+        None => false,
     }
 }
 
@@ -103,8 +101,8 @@ fn is_late_when_not_accepted<R: Net<Listener = TcpListener, Stream = TcpStream>>
     alloc: Global,
     server: SocketAddr,
 ) -> bool {
-    match link_to(rt, alloc, server, 500) {
-        Some((mut link, _outer)) => is_late_as_all_say(&mut link, &CONNECTING),
+    match lead_to(rt, alloc, server, 500) {
+        Some((mut lead, _outer)) => is_late_as_all_say(&mut lead, &CONNECTING),
         None => false,
     }
 }

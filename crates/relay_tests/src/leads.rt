@@ -1,9 +1,9 @@
-//! Links between sockets of this machine, and what leads one of them, in one thread.
+//! Links between sockets of this machine, each led by one thread.
 
 use crate::peers::pair;
 use mio::event::Event;
 use mio::{Events, Poll, Registry};
-use socket_link::{Buffer, Link, Ready};
+use socket_link::{Buffer, Link, Ready, Timeouts};
 use std::alloc::Global;
 use std::net::{Net, SocketAddr, TcpListener, TcpStream};
 use std::time::Duration;
@@ -11,14 +11,39 @@ use std::time::Duration;
 /// The number under which links are reported.
 const NUMBER: usize = 6;
 
-/// After how many seconds without a report none comes any more.
-const PATIENCE: u64 = 60;
+/// After how many ms without a report none comes any more.
+const PATIENCE: u64 = 50_000;
 
 /// How many reports there are at most: more than one for each byte that is sent.
 pub const TURNS: u32 = 10_000_000;
 
-/// A link, and the sockets at its other ends, its client's and its server's.
-pub type Linked = (Link, TcpStream, TcpStream);
+/// Where the sockets of a link are reported, and what its bytes pass through.
+#[derive(Drop)]
+struct Desk {
+    poll: Poll,
+    events: Events,
+    buffer: Buffer,
+}
+
+/// A link that is led.
+#[derive(Drop)]
+pub struct Lead {
+    link: Link,
+    desk: Desk,
+}
+
+fn new_desk<R: Net>(rt: &R, alloc: Global) -> Option<Desk> {
+    let buffer = Buffer::new(alloc).ok()?;
+    let events = Events::with_capacity(alloc, 4).ok()?;
+    match Poll::new(rt) {
+        Ok(poll) => Some(Desk {
+            poll,
+            events,
+            buffer,
+        }),
+        Err(_) => None,
+    }
+}
 
 /// A client, and the socket at the other end of its connection, which doesn't wait.
 fn client_and_near<R: Net<Listener = TcpListener, Stream = TcpStream>>(
@@ -31,64 +56,60 @@ fn client_and_near<R: Net<Listener = TcpListener, Stream = TcpStream>>(
     Some((outer, mio::net::TcpStream::from_std(near)))
 }
 
-/// A link that opens at a moment in ms, and its client, whose server is at an address.
-pub fn link_to<R: Net<Listener = TcpListener, Stream = TcpStream>>(
+/// A link of a client that opens at a moment in ms, whose server is at an address.
+fn lead_from<R: Net>(
+    rt: &R,
+    alloc: Global,
+    near: mio::net::TcpStream,
+    server: SocketAddr,
+    moment: u64,
+) -> Option<Lead> {
+    let desk = new_desk(rt, alloc)?;
+    match Link::open(rt, alloc, near, server, moment) {
+        Some(link) => Some(Lead { link, desk }),
+        None => None,
+    }
+}
+
+/// The same of a client of its own.
+pub fn lead_to<R: Net<Listener = TcpListener, Stream = TcpStream>>(
     rt: &R,
     alloc: Global,
     server: SocketAddr,
     moment: u64,
-) -> Option<(Link, TcpStream)> {
+) -> Option<(Lead, TcpStream)> {
     let (outer, near) = client_and_near(rt)?;
-    match Link::open(rt, alloc, near, server, moment) {
-        Some(link) => Some((link, outer)),
+    match lead_from(rt, alloc, near, server, moment) {
+        Some(lead) => Some((lead, outer)),
         None => None,
     }
 }
 
 /// A link that opens at a moment in ms, and its client, whose server listens.
-fn link_to_listener<R: Net<Listener = TcpListener, Stream = TcpStream>>(
+fn lead_to_listener<R: Net<Listener = TcpListener, Stream = TcpStream>>(
     rt: &R,
     alloc: Global,
     listener: &TcpListener,
     moment: u64,
-) -> Option<(Link, TcpStream)> {
+) -> Option<(Lead, TcpStream)> {
     match listener.local_addr() {
-        Ok(address) => link_to(rt, alloc, address, moment),
+        Ok(address) => lead_to(rt, alloc, address, moment),
         Err(_) => None,
     }
 }
 
-/// A link that opens at a moment in ms, whose server accepts it.
-pub fn linked<R: Net<Listener = TcpListener, Stream = TcpStream>>(
+/// A link that opens at a moment in ms, its client, and its server, which has accepted it.
+pub fn lead_between<R: Net<Listener = TcpListener, Stream = TcpStream>>(
     rt: &R,
     alloc: Global,
     moment: u64,
-) -> Option<Linked> {
+) -> Option<(Lead, TcpStream, TcpStream)> {
     let listener = TcpListener::bind(rt, "127.0.0.1:0").ok()?;
-    let (link, outer) = link_to_listener(rt, alloc, &listener, moment)?;
+    let (lead, outer) = lead_to_listener(rt, alloc, &listener, moment)?;
     match listener.accept() {
-        Ok((inner, _address)) => Some((link, outer, inner)),
+        Ok((inner, _address)) => Some((lead, outer, inner)),
         Err(_) => None,
     }
-}
-
-/// What leads a link: where its sockets are reported, and what its bytes pass through.
-#[derive(Drop)]
-pub struct Lead {
-    poll: Poll,
-    events: Events,
-    buffer: Buffer,
-}
-
-pub fn new_lead<R: Net>(rt: &R, alloc: Global) -> Option<Lead> {
-    let poll = Poll::new(rt).ok()?;
-    let events = Events::with_capacity(alloc, 4).ok()?;
-    let buffer = Buffer::new(alloc).ok()?;
-    Some(Lead {
-        poll,
-        events,
-        buffer,
-    })
 }
 
 /// Whether a link goes on behind a report of it. One of another link ends it.
@@ -97,13 +118,11 @@ fn goes_on(link: &mut Link, registry: &Registry, event: &Event, buffer: &mut Buf
     ready.number == NUMBER && link.turn(registry, ready, 0, buffer)
 }
 
-impl Lead {
-    /// Waits for reports. Whether there are any.
-    fn wait(&mut self) -> bool {
-        self.poll
-            .poll(&mut self.events, Some(Duration::from_secs(PATIENCE)))
-            .is_ok()
-            && !self.events.is_empty()
+impl Desk {
+    /// Waits for reports, so many ms at most. Whether there are any.
+    fn wait(&mut self, pause: u64) -> bool {
+        let pause = Some(Duration::from_millis(pause));
+        self.poll.poll(&mut self.events, pause).is_ok() && !self.events.is_empty()
     }
 
     /// Whether a link goes on behind all that is reported.
@@ -115,36 +134,42 @@ impl Lead {
         }
         true
     }
+}
 
-    /// Whether anything is reported of a link within 100 ms, behind which it then goes on. None where it ends.
-    pub fn moves(&mut self, link: &mut Link) -> Option<bool> {
-        let pause = Some(Duration::from_millis(100));
-        self.poll.poll(&mut self.events, pause).ok()?;
-        if self.turn(link) {
-            Some(!self.events.is_empty())
-        } else {
-            None
-        }
+impl Lead {
+    /// Has the link reported, and moves what is there at a moment in ms. Whether it goes on.
+    pub fn starts(&mut self, moment: u64) -> bool {
+        let desk = &mut self.desk;
+        self.link
+            .start(desk.poll.registry(), NUMBER, moment, &mut desk.buffer)
     }
 
-    /// Has a link reported, and moves what is there at a moment in ms. Whether it goes on.
-    pub fn starts(&mut self, link: &mut Link, moment: u64) -> bool {
-        link.start(self.poll.registry(), NUMBER, moment, &mut self.buffer)
+    /// Whether anything is reported within 100 ms, behind which the link goes on.
+    pub fn moves(&mut self) -> bool {
+        self.desk.wait(100) && self.desk.turn(&mut self.link)
     }
 
-    /// Leads a link until it ends. Whether it does.
-    pub fn to_its_end(&mut self, link: &mut Link) -> bool {
-        if !self.starts(link, 0) {
+    /// Leads the link until it ends. Whether it does.
+    pub fn to_its_end(&mut self) -> bool {
+        if !self.starts(0) {
             return true;
         }
         for _turn in 0..TURNS {
-            if !self.wait() {
+            if !self.desk.wait(PATIENCE) {
                 return false;
             }
-            if !self.turn(link) {
+            if !self.desk.turn(&mut self.link) {
                 return true;
             }
         }
         false
+    }
+
+    pub fn bytes(&self) -> (u64, u64) {
+        self.link.bytes()
+    }
+
+    pub fn is_late(&mut self, moment: u64, timeouts: &Timeouts) -> bool {
+        self.link.is_late(moment, timeouts)
     }
 }

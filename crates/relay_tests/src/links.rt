@@ -1,8 +1,8 @@
 //! Links between sockets of this machine: what they carry and count, how they end, and a reset.
 
-use crate::leads::{Lead, link_to, linked, new_lead};
+use crate::leads::{Lead, lead_between, lead_to};
 use crate::peers::{client, pair, server};
-use socket_link::{Link, reset};
+use socket_link::reset;
 use std::alloc::Global;
 use std::io::{ErrorKind, Read, Write};
 use std::net::{Net, SocketAddr, TcpListener, TcpStream};
@@ -11,19 +11,11 @@ use std::thread;
 use std::thread::{Scope, Threads};
 
 /// How many bytes a link says that came of its client and went to it, once it has ended. None where it doesn't end.
-fn bytes_at_the_end(link: &mut Link, lead: &mut Lead) -> Option<(u64, u64)> {
-    if lead.to_its_end(link) {
-        Some(link.bytes())
+fn bytes_of(mut lead: Lead) -> Option<(u64, u64)> {
+    if lead.to_its_end() {
+        Some(lead.bytes())
     } else {
         None
-    }
-}
-
-/// The same of a link that is closed then.
-fn bytes_of<R: Net>(rt: &R, alloc: Global, mut link: Link) -> Option<(u64, u64)> {
-    match new_lead(rt, alloc) {
-        Some(mut lead) => bytes_at_the_end(&mut link, &mut lead),
-        None => None,
     }
 }
 
@@ -36,7 +28,7 @@ fn carries<'s, E, R: Net<Listener = TcpListener, Stream = TcpStream> + Threads +
     (there, back): (usize, usize),
     is_server_first: bool,
 ) -> bool {
-    let Some((link, outer, inner)) = linked(rt, alloc, 0) else {
+    let Some((lead, outer, inner)) = lead_between(rt, alloc, 0) else {
         return false;
     };
     let (asks, asked, wanted, sent) = if is_server_first {
@@ -46,7 +38,7 @@ fn carries<'s, E, R: Net<Listener = TcpListener, Stream = TcpStream> + Threads +
     };
     let asking = scope.spawn(move || client(asks, alloc, sent, wanted));
     let answering = scope.spawn(move || server(asked, alloc, sent, wanted));
-    let counted = bytes_of(rt, alloc, link);
+    let counted = bytes_of(lead);
     match (asking, answering) {
         (Ok(asking), Ok(answering)) => {
             asking.join(rt) && answering.join(rt) && counted == Some((there as u64, back as u64))
@@ -97,8 +89,8 @@ fn bytes_of_a_refused_one<R: Net<Listener = TcpListener, Stream = TcpStream>>(
     alloc: Global,
     address: SocketAddr,
 ) -> Option<(u64, u64)> {
-    match link_to(rt, alloc, address, 0) {
-        Some((link, outer)) if (&outer).write_all(b"hello").is_ok() => bytes_of(rt, alloc, link),
+    match lead_to(rt, alloc, address, 0) {
+        Some((lead, outer)) if (&outer).write_all(b"hello").is_ok() => bytes_of(lead),
         _ => None,
     }
 }
