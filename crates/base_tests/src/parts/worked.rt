@@ -1,8 +1,8 @@
 //! The parts on a few worked values.
 
-use crate::listed::Listed;
-use crate::marked::Marked;
-use crate::numbered::Numbered;
+use crate::parts::listed::Listed;
+use crate::parts::marked::Marked;
+use crate::parts::numbered::Numbered;
 use entry_pool::Handle;
 use std::alloc::{AllocError, Global};
 use std::test::Fail;

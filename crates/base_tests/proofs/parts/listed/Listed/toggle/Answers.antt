@@ -1,7 +1,7 @@
 use Rattle.std.proofs.Common.{rules, sym, ap, ◌∙◌}
 use Rattle.std.proofs.lemmas.Fn.{filter_same}
 use Rattle.expiry_order.specs.Queue.{Queue, without}
-use Rattle.parts_tests.proofs.listed.Listed.toggle.Goals as goal
+use Rattle.base_tests.proofs.parts.listed.Listed.toggle.Goals as goal
 
 pub invariant_of-self : goal.invariant_of-self
 invariant_of-self c =

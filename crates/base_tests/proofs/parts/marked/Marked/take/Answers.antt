@@ -1,7 +1,7 @@
 use Rattle.std.proofs.Common.{◌≡◌, ℕ, Bool, false, List, map, is_some, set, None, ap, ◌∙◌}
 use Rattle.std.proofs.lemmas.List.{map-set}
 use Rattle.key_index.specs.Keys.{Keys, without_slot}
-use Rattle.parts_tests.proofs.marked.Marked.take.Goals as goal
+use Rattle.base_tests.proofs.parts.marked.Marked.take.Goals as goal
 
 unmarked : (old new : Keys) (slot : ℕ) (used : List Bool) → new ≡ without_slot old slot → map is_some old.slots ≡ used → map is_some new.slots ≡ set used slot false
 unmarked old new slot used taken marked =

@@ -1,7 +1,7 @@
 use Rattle.std.proofs.Common.{rules, true, map, is_some, set, Some, ap, ◌∙◌}
 use Rattle.std.proofs.lemmas.List.{map-set}
 use Rattle.key_index.specs.Keys.{Keys, entry}
-use Rattle.parts_tests.proofs.marked.Marked.put.Goals as goal
+use Rattle.base_tests.proofs.parts.marked.Marked.put.Goals as goal
 
 pub invariant_of-self : goal.invariant_of-self
 invariant_of-self c =

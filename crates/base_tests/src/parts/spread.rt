@@ -1,6 +1,6 @@
 //! How an index spreads keys over chains, which no contract says: by its seed.
 
-use crate::marked::Marked;
+use crate::parts::marked::Marked;
 use core::hash::keyed_hasher;
 use key_index::Handle;
 use std::alloc::{AllocError, Global};

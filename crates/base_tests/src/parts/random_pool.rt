@@ -1,6 +1,6 @@
 //! A pool beside a plain list of what its slots hold, over random calls.
 
-use crate::numbered::Numbered;
+use crate::parts::numbered::Numbered;
 use entry_pool::Handle;
 use random_numbers::Random;
 use std::test::Fail;

@@ -1,6 +1,6 @@
 //! An order beside a plain list, over random calls.
 
-use crate::listed::Listed;
+use crate::parts::listed::Listed;
 use random_numbers::Random;
 use std::test::Fail;
 

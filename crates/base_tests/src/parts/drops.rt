@@ -1,6 +1,6 @@
 //! Each value that is given to a pool is dropped once: by who gets it back, or at the end of the pool.
 
-use crate::numbered::Numbered;
+use crate::parts::numbered::Numbered;
 use entry_pool::Handle;
 use random_numbers::Random;
 use std::alloc::{AllocError, Global};

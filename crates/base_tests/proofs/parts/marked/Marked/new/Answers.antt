@@ -1,7 +1,7 @@
 use Rattle.std.proofs.Common.{rules, ◌≡◌, false, map, is_some, replicate, None, ap, sym, ◌∙◌}
 use Rattle.key_index.specs.Keys.{Entry, Keys}
-use Rattle.parts_tests.proofs.MarkLemmas.{map_replicate}
-use Rattle.parts_tests.proofs.marked.Marked.new.Goals as goal
+use Rattle.base_tests.proofs.MarkLemmas.{map_replicate}
+use Rattle.base_tests.proofs.parts.marked.Marked.new.Goals as goal
 
 pub invariant_of-result : goal.invariant_of-result
 invariant_of-result c =

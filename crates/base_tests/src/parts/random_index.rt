@@ -1,6 +1,6 @@
 //! An index beside a plain map from keys to handles, over random calls.
 
-use crate::marked::Marked;
+use crate::parts::marked::Marked;
 use key_index::Handle;
 use random_numbers::Random;
 use std::alloc::{AllocError, Global};
