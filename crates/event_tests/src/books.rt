@@ -3,6 +3,7 @@
 use crate::calls::{
     Answer, base_events, base_references, call, has_counted, open_book, recorded, roll,
 };
+use crate::telling::told_ticket;
 use crate::worked::{Ask, Example, Keys, NO_TICKET, Tell, event_of, spec};
 use sequence::NoMemory;
 use shard_book::Book;
@@ -32,9 +33,10 @@ fn answer(
 
 /// The ticket of a new reference to a host.
 fn track(alloc: Global, book: &mut Book<PlainTable>, host: u8) -> Result<Ticket, NoMemory> {
-    match answer(alloc, book, Ask::Track(host), NO_TICKET)? {
-        Ok(Reply::Tracked { ticket, .. }) => Ok(ticket),
-        _ => Err(NoMemory),
+    let answer = answer(alloc, book, Ask::Track(host), NO_TICKET)?;
+    match told_ticket(&answer) {
+        Some(ticket) => Ok(ticket),
+        None => Err(NoMemory),
     }
 }
 
