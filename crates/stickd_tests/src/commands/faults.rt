@@ -2,7 +2,7 @@
 
 ghost use Rattle.std.specs.Prelude.{◌<◌};
 
-use crate::session::{Devices, Session, serve, sound};
+use crate::commands::session::{Devices, Session, serve, sound};
 use std::alloc::{AllocError, Global};
 use std::test::Fail;
 use table_cli::{CliFault, CliFaultKind};
