@@ -49,17 +49,22 @@ fn refusing(alloc: Global, limit: u64) -> Result<Rule, NoMemory> {
     })
 }
 
-/// `stick-table type ip size 10 store conn_cur`, under the name `t`.
-fn table(alloc: Global) -> Result<NamedSpec, NoMemory>
-    ensures spec { IfOk result (λ named. IsTableSpec named.spec) }
-    ensures size { IfOk result (λ named. named.spec.size ≡ 10) }
-{
+/// `store conn_cur`.
+fn columns(alloc: Global) -> Result<StoredSet, NoMemory> {
     let mut columns = StoredSet::new(alloc);
     columns.add(Column {
         datum: Datum::ConnCur,
         period: 0,
     })?;
-    let spec = Spec {
+    Ok(columns)
+}
+
+/// `stick-table type ip size 10` with these data.
+fn spec(columns: StoredSet) -> Spec
+    ensures spec { IsTableSpec result }
+    ensures size { result.size ≡ 10 }
+{
+    Spec {
         kind: KeyType::Ip,
         size: 10,
         expire: None,
@@ -68,9 +73,21 @@ fn table(alloc: Global) -> Result<NamedSpec, NoMemory>
         max_refs: 10,
         life: 1_000_000,
         seed: 0,
-    };
-    let name = Sequence::from_slice(alloc, b"t")?;
-    Ok(NamedSpec { name, spec })
+    }
+}
+
+/// `stick-table type ip size 10 store conn_cur`, under the name `t`.
+fn table(alloc: Global) -> Result<NamedSpec, NoMemory>
+    ensures spec { IfOk result (λ named. IsTableSpec named.spec) }
+    ensures size { IfOk result (λ named. named.spec.size ≡ 10) }
+{
+    match (Sequence::from_slice(alloc, b"t"), columns(alloc)) {
+        (Ok(name), Ok(columns)) => Ok(NamedSpec {
+            name,
+            spec: spec(columns),
+        }),
+        _ => Err(NoMemory),
+    }
 }
 
 /// A proxy with that table in so many shards, which refuses an address beyond a limit of current connections.
