@@ -1,7 +1,7 @@
 //! The thread that rolls the records.
 
-use crate::plan::Plan;
-use crate::progress::Progress;
+use crate::stress::plan::Plan;
+use crate::stress::progress::Progress;
 use sequence::NoMemory;
 use shard_locks::Shards;
 use std::rt::Clock;

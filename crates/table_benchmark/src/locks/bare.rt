@@ -2,8 +2,8 @@
 
 ghost use Rattle.table_model.specs.Limits.{IsTableEvent};
 
-use crate::calls::{Calls, KEYS};
-use drawn_calls::{Held, key};
+use crate::locks::calls::{Calls, KEYS};
+use drawn_calls::{Held, key, ticket_of};
 use sequence::NoMemory;
 use shard_book::Book;
 use shard_seats::{Seat, serve};
@@ -48,9 +48,10 @@ impl<T: Table> Calls for BareCaller<T> {
         let key = key(self.alloc, number).ok()?;
         let shards = self.books.len().clamp(1, 64) as u32;
         let shard = shard_of(&key, shards);
-        match serve_at(&mut self.books, &mut self.seat, shard, Event::Track(0, key))? {
-            Reply::Tracked { ticket, .. } => Some(Held { shard, ticket }),
-            _ => None,
+        let reply = serve_at(&mut self.books, &mut self.seat, shard, Event::Track(0, key))?;
+        match ticket_of(&reply) {
+            Some(ticket) => Some(Held { shard, ticket }),
+            None => None,
         }
     }
 

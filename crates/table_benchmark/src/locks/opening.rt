@@ -2,9 +2,9 @@
 
 ghost use Rattle.std.specs.Prelude.{◌≤◌};
 
-use crate::bare::BareCaller;
-use crate::locked::LockedCaller;
-use crate::runner::Runner;
+use crate::locks::bare::BareCaller;
+use crate::locks::locked::LockedCaller;
+use crate::locks::runner::Runner;
 use drawn_calls::{books_of, spec};
 use sequence::NoMemory;
 use shard_locks::Shards;

@@ -1,7 +1,7 @@
 //! The callers of a table, each in a thread of its own.
 
-use crate::plan::Plan;
-use crate::progress::Progress;
+use crate::stress::plan::Plan;
+use crate::stress::progress::Progress;
 use drawn_calls::{Caller, Drawing};
 use shard_locks::Shards;
 use shard_seats::Seat;

@@ -1,8 +1,6 @@
 //! A stress test of tables in shards that threads share: each thread has a caller, which asks events of every kind, of random
 //! keys at random moments, and lists all shards at times. Then the references come back but for a few, and the table is
-//! settled: with receipts, or, without, while another thread rolls the records. The tables are plain or pooled ones. Without
-//! arguments it makes a few calls.
-#![tactic(auto)]
+//! settled: with receipts, or, without, while another thread rolls the records. The tables are plain or pooled ones.
 
 ghost use Rattle.std.specs.Prelude.{◌≤◌};
 
@@ -14,7 +12,8 @@ mod progress;
 mod rolling;
 mod rounds;
 
-use command_line::{HELP, Request, Rounds, read_request};
+pub use command_line::Request;
+use command_line::{HELP, Rounds, read_request};
 use plan::Plan;
 use rounds::run_planned;
 use std::process::ExitCode;
@@ -41,7 +40,7 @@ fn print_round<R: Threads + Wait + Clock + Sync + Print + Eprint + AllocGlobal>(
             Ok(true)
         }
         Err(trouble) => {
-            eprintln!(rt; "lock_stress: {trouble}")?;
+            eprintln!(rt; "table_benchmark: {trouble}")?;
             Ok(false)
         }
     }
@@ -112,18 +111,22 @@ fn run<R: Threads + Wait + Clock + Sync + Print + Eprint + AllocGlobal>(
     }
 }
 
-/// What the command line asks.
-fn request_of(rt: &HostRuntime) -> io::Result<Option<Request>> {
+/// What the command line asks behind its first word.
+pub fn request_of(rt: &HostRuntime) -> io::Result<Option<Request>> {
     let words: Vec<String> = env::args(rt)?.collect(rt.alloc())?;
     Ok(read_request(words.as_slice()))
 }
 
-fn main(rt: HostRuntime) -> io::Result<ExitCode> {
-    let Some(request) = request_of(&rt)? else {
-        eprintln!(rt; "lock_stress: bad arguments; see lock_stress --help")?;
+/// Does what is asked, or says that nothing can be meant; answers the program's status.
+pub fn run_stress<R: Threads + Wait + Clock + Sync + Print + Eprint + AllocGlobal>(
+    rt: &R,
+    request: Option<Request>,
+) -> io::Result<ExitCode> {
+    let Some(request) = request else {
+        eprintln!(rt; "table_benchmark: bad arguments; see table_benchmark stress --help")?;
         return Ok(ExitCode::from(BAD_COMMAND_LINE));
     };
-    if run(&rt, request)? {
+    if run(rt, request)? {
         Ok(ExitCode::SUCCESS)
     } else {
         Ok(ExitCode::FAILURE)

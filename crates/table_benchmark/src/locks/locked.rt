@@ -1,6 +1,6 @@
 //! A caller of a table that threads share: each call takes the lock of its shard.
 
-use crate::calls::{Calls, KEYS};
+use crate::locks::calls::{Calls, KEYS};
 use drawn_calls::{Held, key};
 use sequence::NoMemory;
 use shard_locks::{Shards, Tracking};

@@ -1,6 +1,6 @@
 //! What callers do before their table is settled.
 
-use crate::calling::caller_of;
+use crate::stress::calling::caller_of;
 use drawn_calls::{Caller, Held, key};
 use shard_locks::Shards;
 use shard_seats::Seat;
@@ -15,6 +15,34 @@ pub struct Shown {
     pub held: Vec<Held>,
 }
 
+/// Has a caller ask so often for what has expired.
+fn expire_often<T: Table>(
+    rt: &impl Wait,
+    caller: &mut Caller<'_, T>,
+    expires: u64,
+) -> Result<(), Refusal> {
+    for _ in 0..expires {
+        if let Err(refusal) = caller.ask(rt, 0, Event::Expire(0)) {
+            return Err(refusal);
+        }
+    }
+    Ok(())
+}
+
+/// Has a caller track the key of a number.
+fn track<T: Table>(
+    rt: &impl Wait,
+    alloc: Global,
+    caller: &mut Caller<'_, T>,
+    number: u32,
+) -> Result<(), Refusal> {
+    let key = key(alloc, number)?;
+    match caller.ask(rt, 0, Event::Track(0, key)) {
+        Ok(_receipt) => Ok(()),
+        Err(refusal) => Err(refusal),
+    }
+}
+
 /// Has a caller ask so often for what has expired, and track the key of a number, if there is one.
 fn close_caller<T: Table>(
     rt: &impl Wait,
@@ -23,13 +51,11 @@ fn close_caller<T: Table>(
     expires: u64,
     tracked: Option<u32>,
 ) -> Result<(), Refusal> {
-    for _ in 0..expires {
-        caller.ask(rt, 0, Event::Expire(0))?;
+    expire_often(rt, caller, expires)?;
+    match tracked {
+        Some(number) => track(rt, alloc, caller, number),
+        None => Ok(()),
     }
-    if let Some(number) = tracked {
-        caller.ask(rt, 0, Event::Track(0, key(alloc, number)?))?;
-    }
-    Ok(())
 }
 
 /// The callers have given all references back. Then every second one takes one, of a key of its own, and the first asks for what

@@ -1,8 +1,8 @@
-//! What the program can be asked.
+//! What a stress can be asked.
 
-/// What `lock_stress --help` says.
+/// What `table_benchmark stress --help` says.
 pub const HELP: &str = "\
-usage: lock_stress [[--pooled] [--rolling ROLLS] CALLS [ROUNDS]]
+usage: table_benchmark stress [[--pooled] [--rolling ROLLS] CALLS [ROUNDS]]
 
 Has 64 threads call a plain table in 8 shards, CALLS times each, with receipts, settles it
 and prints 'settled: C calls, R references'; and so again, ROUNDS times in all, with other
@@ -75,14 +75,14 @@ fn read_of_tables(words: &[String], place: usize, pooled: bool) -> Option<Reques
     read_rounds(words, place.saturating_add(2), pooled, Some(rolls))
 }
 
-/// What the words of a command line ask, the program's name first.
+/// What the words of a command line ask, the program's name and `stress` first.
 pub fn read_request(words: &[String]) -> Option<Request> {
-    let Some(first) = words.get(1) else {
+    let Some(first) = words.get(2) else {
         return Some(Request::Small);
     };
     match first.as_str() {
         "--help" => Some(Request::Help),
-        "--pooled" => read_of_tables(words, 2, true),
-        _ => read_of_tables(words, 1, false),
+        "--pooled" => read_of_tables(words, 3, true),
+        _ => read_of_tables(words, 2, false),
     }
 }

@@ -1,6 +1,6 @@
 //! Callers are run side by side, and timed.
 
-use crate::calls::{Calls, KEYS};
+use crate::locks::calls::{Calls, KEYS};
 use drawn_calls::Held;
 use sequence::NoMemory;
 use std::alloc::Global;

@@ -1,6 +1,4 @@
-//! Times calls of a table in shards that threads share, and the same calls of books without locks. It is run by hand, with
-//! the number of rounds. Without it, it makes some calls, and prints no times.
-#![tactic(auto)]
+//! Times calls of a table in shards that threads share, and the same calls of books without locks, or makes a few of them.
 
 mod bare;
 mod calls;
@@ -13,11 +11,11 @@ ghost use Rattle.std.specs.Prelude.{◌≤◌};
 use opening::{bare_callers, locked_callers, open_table};
 use pooled_table::StickTable;
 use runner::{Timed, Work, measure};
+use std::io;
 use std::io::Print;
 use std::rt::Clock;
 use std::sync::Wait;
 use std::thread::Threads;
-use std::{env, io};
 use stick_table::Table;
 
 /// How many rounds there are where no times are printed.
@@ -158,15 +156,10 @@ fn print_all<T: Table + Send, R: Threads + Wait + Clock + Sync + Print + AllocGl
     print_shards::<T, R>(rt, 8, rounds)
 }
 
-/// The number that the first word of the command line is.
-fn rounds_of(rt: &HostRuntime) -> io::Result<Option<u32>> {
-    Ok(match env::args(rt)?.nth(1) {
-        Some(word) => word.as_str().parse::<u32>().ok(),
-        None => None,
-    })
-}
-
-fn main(rt: HostRuntime) -> io::Result<()> {
-    let rounds = rounds_of(&rt)?;
-    print_all::<StickTable, HostRuntime>(&rt, rounds)
+/// Prints the times of calls of pooled tables in shards, of so many rounds; or else how many of a few calls are refused.
+pub fn print_lock_times<R: Threads + Wait + Clock + Sync + Print + AllocGlobal>(
+    rt: &R,
+    rounds: Option<u32>,
+) -> io::Result<()> {
+    print_all::<StickTable, R>(rt, rounds)
 }

@@ -2,11 +2,11 @@
 
 ghost use Rattle.std.specs.Prelude.{◌≤◌};
 
-use crate::calling::call_all;
-use crate::closing::{Shown, close};
-use crate::plan::Plan;
-use crate::progress::Progress;
-use crate::rolling::roll_often;
+use crate::stress::calling::call_all;
+use crate::stress::closing::{Shown, close};
+use crate::stress::plan::Plan;
+use crate::stress::progress::Progress;
+use crate::stress::rolling::roll_often;
 use drawn_calls::{abandon_all, references_of, spec};
 use pooled_table::StickTable;
 use sequence::NoMemory;
@@ -156,13 +156,13 @@ fn tally_of<T: Table>(settled: &Settled<T>, rolls: Option<u32>) -> Ended {
 }
 
 /// The table of a plan, and the seats of its callers.
-fn open_table<T: Table>(alloc: Global, plan: Plan) -> Result<(Shards<T>, Vec<Seat>), Refusal>
+fn open_table<T: Table>(alloc: Global, plan: Plan) -> Result<(Shards<T>, Vec<Seat>), NoMemory>
     requires threads { (1 ≤ plan.threads) × (plan.threads ≤ 1024) }
     requires shards { (1 ≤ plan.shards) × (plan.shards ≤ 64) }
 {
     let spec = spec(alloc, PLACES * plan.shards, REFERENCES, 1 << 62)?;
     let keep = plan.rolls.is_none();
-    Ok(Shards::new(alloc, spec, plan.shards, plan.threads, keep)?)
+    Shards::new(alloc, spec, plan.shards, plan.threads, keep)
 }
 
 /// Has the callers of a table end. For each reference that could have come back beside at their end, one event is asked: how
