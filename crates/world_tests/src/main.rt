@@ -1,15 +1,13 @@
-//! Tests of verdicts and of connections: what rules ask, and what connections want, alone and where they share tables, by
-//! hand and in random order. As a program it leads four connections through a schedule, of which one from each address is
-//! admitted at most, and says after each element what is out, what is held and who is admitted. Its status is 1 where that
-//! isn't as the schedule says. `tests/refusals worlds` refuses each of its allocations in turn.
+//! Tests of connections that share tables: by hand, and in random order. As a program it leads four connections through
+//! a schedule, of which one from each address is admitted at most, and says after each element what is out, what is held
+//! and who is admitted. Its status is 1 where that isn't as the schedule says. `tests/refusals worlds` refuses each of its
+//! allocations in turn.
 #![tactic(auto)]
 
 ghost use Rattle.std.specs.Prelude.{◌≡◌, length};
 
 mod counts;
 mod setups;
-#[cfg(test)]
-mod verdicts;
 #[cfg(test)]
 mod worlds;
 

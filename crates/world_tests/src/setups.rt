@@ -49,22 +49,17 @@ fn refusing(alloc: Global, limit: u64) -> Result<Rule, NoMemory> {
     })
 }
 
-/// `store conn_cur`.
-fn columns(alloc: Global) -> Result<StoredSet, NoMemory> {
+/// `stick-table type ip size 10 store conn_cur`, under the name `t`.
+fn table(alloc: Global) -> Result<NamedSpec, NoMemory>
+    ensures spec { IfOk result (λ named. IsTableSpec named.spec) }
+    ensures size { IfOk result (λ named. named.spec.size ≡ 10) }
+{
     let mut columns = StoredSet::new(alloc);
     columns.add(Column {
         datum: Datum::ConnCur,
         period: 0,
     })?;
-    Ok(columns)
-}
-
-/// `stick-table type ip size 10` with these data.
-fn spec(columns: StoredSet) -> Spec
-    ensures spec { IsTableSpec result }
-    ensures size { result.size ≡ 10 }
-{
-    Spec {
+    let spec = Spec {
         kind: KeyType::Ip,
         size: 10,
         expire: None,
@@ -73,21 +68,9 @@ fn spec(columns: StoredSet) -> Spec
         max_refs: 10,
         life: 1_000_000,
         seed: 0,
-    }
-}
-
-/// `stick-table type ip size 10 store conn_cur`, under the name `t`.
-fn table(alloc: Global) -> Result<NamedSpec, NoMemory>
-    ensures spec { IfOk result (λ named. IsTableSpec named.spec) }
-    ensures size { IfOk result (λ named. named.spec.size ≡ 10) }
-{
-    match (Sequence::from_slice(alloc, b"t"), columns(alloc)) {
-        (Ok(name), Ok(columns)) => Ok(NamedSpec {
-            name,
-            spec: spec(columns),
-        }),
-        _ => Err(NoMemory),
-    }
+    };
+    let name = Sequence::from_slice(alloc, b"t")?;
+    Ok(NamedSpec { name, spec })
 }
 
 /// A proxy with that table in so many shards, which refuses an address beyond a limit of current connections.

@@ -1,6 +1,6 @@
 //! Each case's rules, judged.
 
-use crate::verdicts::rows::{
+use crate::rows::{
     CASES, Case, Clause, Deed, FOUR, Key, Line, MAPPED, MAPPED_CASES, SIX, SIX_CASES, Test, Told,
 };
 use address_text::Address;
@@ -133,41 +133,23 @@ fn condition(
     Ok(all)
 }
 
-/// A rule without a condition.
-fn always(alloc: Global, deed: Deed) -> Result<Rule, NoMemory> {
-    match action(alloc, deed) {
-        Ok(action) => Ok(Rule {
-            action,
+fn rule(alloc: Global, line: Line) -> Result<Rule, NoMemory> {
+    match line {
+        Line::Do(deed) => Ok(Rule {
+            action: action(alloc, deed)?,
             unless: false,
             condition: None,
         }),
-        Err(refused) => Err(refused),
-    }
-}
-
-/// A rule under a condition, or where it doesn't hold.
-fn under(
-    alloc: Global,
-    deed: Deed,
-    unless: bool,
-    conjunctions: &[&'static [Clause]],
-) -> Result<Rule, NoMemory> {
-    let mut rule = always(alloc, deed)?;
-    match condition(alloc, conjunctions) {
-        Ok(condition) => {
-            rule.unless = unless;
-            rule.condition = Some(condition);
-            Ok(rule)
-        }
-        Err(refused) => Err(refused),
-    }
-}
-
-fn rule(alloc: Global, line: Line) -> Result<Rule, NoMemory> {
-    match line {
-        Line::Do(deed) => always(alloc, deed),
-        Line::If(deed, conjunctions) => under(alloc, deed, false, conjunctions),
-        Line::Unless(deed, conjunctions) => under(alloc, deed, true, conjunctions),
+        Line::If(deed, conjunctions) => Ok(Rule {
+            action: action(alloc, deed)?,
+            unless: false,
+            condition: Some(condition(alloc, conjunctions)?),
+        }),
+        Line::Unless(deed, conjunctions) => Ok(Rule {
+            action: action(alloc, deed)?,
+            unless: true,
+            condition: Some(condition(alloc, conjunctions)?),
+        }),
     }
 }
 
@@ -297,8 +279,7 @@ fn is_wanted(alloc: Global, src: Address, lines: &[Line], told: &[Told], letters
 
 /// The place of the first case whose rules want something else.
 fn wrong_case(alloc: Global, src: Address, cases: &[Case]) -> Option<usize> {
-    for place in 0..cases.len() {
-        let case = &cases[place];
+    for (place, case) in cases.iter().enumerate() {
         if !is_wanted(alloc, src, case.0, case.1, case.2) {
             return Some(place);
         }
@@ -308,8 +289,7 @@ fn wrong_case(alloc: Global, src: Address, cases: &[Case]) -> Option<usize> {
 
 #[test]
 fn rules_want_what_the_manual_has(rt: HostRuntime) {
-    let four = wrong_case(rt.alloc(), FOUR, &CASES);
-    let mapped = wrong_case(rt.alloc(), MAPPED, &MAPPED_CASES);
-    let six = wrong_case(rt.alloc(), SIX, &SIX_CASES);
-    assert_eq!(rt; [four, mapped, six], [None, None, None]);
+    assert_eq!(rt; wrong_case(rt.alloc(), FOUR, &CASES), None);
+    assert_eq!(rt; wrong_case(rt.alloc(), MAPPED, &MAPPED_CASES), None);
+    assert_eq!(rt; wrong_case(rt.alloc(), SIX, &SIX_CASES), None);
 }
