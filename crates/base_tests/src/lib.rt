@@ -1,5 +1,5 @@
 //! Tests of the small bases: ports in memory and streams, gathered writes, words and lines of text, rates over a period, stored
-//! data, keys and addresses.
+//! data, keys and addresses; and of the parts of the pooled table.
 #![tactic(auto)]
 
 #[cfg(test)]
@@ -16,6 +16,8 @@ mod gathering;
 mod keys;
 #[cfg(test)]
 mod lines;
+#[cfg(test)]
+mod parts;
 #[cfg(test)]
 mod ports;
 #[cfg(test)]

@@ -3,6 +3,7 @@
 ghost use Rattle.std.specs.Prelude.{◌≡◌, ◌<◌, ◌^◌};
 ghost use Rattle.stored_data.specs.Laws.{HasTag};
 ghost use Rattle.table_model.specs.Limits.{IsTableEvent};
+ghost use Rattle.shard_book.specs.Keeping.{MayAsk};
 
 use shard_locks::{Shards, Tracking};
 use shard_seats::{Seat, TrackRef};
@@ -83,6 +84,21 @@ fn release<T: Table>(
     }
 }
 
+/// Has a shard answer an event that is no matter of a reference.
+fn call<T: Table>(
+    rt: &impl Wait,
+    table: &Shards<T>,
+    seat: &mut Seat,
+    shard: u32,
+    event: Event,
+) -> Result<Reply, Refusal>
+    requires shard { shard < table.now.shards }
+    requires event { IsTableEvent event }
+    requires asked { MayAsk table.now.shards shard event }
+{
+    table.call(rt, seat, shard, event)
+}
+
 /// Has a table in shards answer an event for a seat, by the call that is for its kind: the shard of its key, or else this
 /// one. A reference goes in and comes out as its ticket, so that it can be dropped.
 pub fn ask<T: Table>(
@@ -98,7 +114,7 @@ pub fn ask<T: Table>(
     match event {
         Event::Get(now, key) => {
             let place = shard_of(&key, table.shards());
-            table.call(rt, seat, place, Event::Get(now, key))
+            call(rt, table, seat, place, Event::Get(now, key))
         }
         Event::Track(now, key) => track(rt, table, seat, now, key),
         Event::Look(now, ticket) => look(rt, table, seat, now, TrackRef::new(shard, ticket)),
@@ -113,19 +129,28 @@ pub fn ask<T: Table>(
         Event::Release(now, ticket) => release(rt, table, seat, now, TrackRef::new(shard, ticket)),
         Event::Put(now, key, pairs) => {
             let place = shard_of(&key, table.shards());
-            table.call(rt, seat, place, Event::Put(now, key, pairs))
+            call(rt, table, seat, place, Event::Put(now, key, pairs))
         }
         Event::Clear(now, key) => {
             let place = shard_of(&key, table.shards());
-            table.call(rt, seat, place, Event::Clear(now, key))
+            call(rt, table, seat, place, Event::Clear(now, key))
         }
-        Event::ClearWhere(now, filter) => table.call(
+        Event::ClearWhere(now, filter) => call(
             rt,
+            table,
             seat,
             shard,
             Event::ClearWhere(now, filter),
         ),
-        Event::List(now, filter) => table.call(rt, seat, shard, Event::List(now, filter)),
-        Event::Expire(now) => table.call(rt, seat, shard, Event::Expire(now)),
+        Event::List(now, filter) => call(rt, table, seat, shard, Event::List(now, filter)),
+        Event::Expire(now) => call(rt, table, seat, shard, Event::Expire(now)),
+    }
+}
+
+/// The ticket that a reply tells.
+pub fn ticket_of(reply: &Reply) -> Option<Ticket> {
+    match reply {
+        Reply::Tracked { ticket, .. } => Some(*ticket),
+        _ => None,
     }
 }

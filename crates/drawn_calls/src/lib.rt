@@ -7,7 +7,7 @@ mod caller;
 mod draws;
 mod showing;
 
-pub use asking::ask;
+pub use asking::{ask, ticket_of};
 pub use books::books_of;
 pub use caller::{Caller, Drawing, Held};
 pub use draws::{event, key, spec};

@@ -15,7 +15,7 @@ use sequence::NoMemory;
 use shard_book::Book;
 use std::alloc::Global;
 use std::test::Fail;
-use stick_table::{Event, PlainTable};
+use stick_table::{Event, PlainTable, Ticket};
 
 /// What gives two answers to an event.
 trait Asked {
@@ -61,6 +61,29 @@ impl Asked for Pooled {
     }
 }
 
+/// The ticket that was told last, where both answers tell a row.
+fn next_ticket(keys: Keys, answers: &Answers, row: Told, ticket: Ticket) -> Option<Ticket> {
+    if are_answers(keys, answers, row.2) {
+        Some(last_ticket(ticket, &answers.0))
+    } else {
+        None
+    }
+}
+
+/// The same, where what is asked in a row is answered so.
+fn told_next<A: Asked>(
+    alloc: Global,
+    keys: Keys,
+    asked: &mut A,
+    row: Told,
+    ticket: Ticket,
+) -> Result<Option<Ticket>, NoMemory> {
+    match event_of(alloc, keys, row, ticket) {
+        Ok(event) => Ok(next_ticket(keys, &asked.ask(event), row, ticket)),
+        Err(refused) => Err(refused),
+    }
+}
+
 /// Whether both answers tell these rows, one after another.
 fn tells<A: Asked>(
     alloc: Global,
@@ -70,12 +93,10 @@ fn tells<A: Asked>(
 ) -> Result<bool, NoMemory> {
     let mut ticket = NO_TICKET;
     for row in rows {
-        let event = event_of(alloc, keys, *row, ticket)?;
-        let answers = asked.ask(event);
-        if !are_answers(keys, &answers, row.2) {
-            return Ok(false);
+        match told_next(alloc, keys, asked, *row, ticket)? {
+            Some(next) => ticket = next,
+            None => return Ok(false),
         }
-        ticket = last_ticket(ticket, &answers.0);
     }
     Ok(true)
 }
@@ -85,14 +106,24 @@ fn has_recorded_all(book: &Book<PlainTable>, events: u64) -> bool {
     is_base_new(book) && live_events(book) == events && recorded(book) as u64 == events
 }
 
-/// Whether a plain table and a book tell an example.
-fn both_tell(alloc: Global, example: &Example) -> Result<bool, NoMemory> {
-    let mut both = Both {
+/// An empty plain table, and an empty book of one.
+fn open_both(alloc: Global, example: &Example) -> Result<Both, NoMemory> {
+    Ok(Both {
         table: open(alloc, spec(alloc, Keys::Short, example)?)?,
         book: open_book(alloc, spec(alloc, Keys::Short, example)?)?,
-    };
-    let is_told = tells(alloc, Keys::Short, &mut both, example.rows)?;
+    })
+}
+
+/// Whether a plain table and a book tell rows, and the book has recorded all.
+fn are_told_by(alloc: Global, both: &mut Both, rows: &[Told]) -> Result<bool, NoMemory> {
+    let is_told = tells(alloc, Keys::Short, both, rows)?;
     Ok(is_told && has_recorded_all(&both.book, both.table.events()))
+}
+
+/// Whether a plain table and a book tell an example.
+fn both_tell(alloc: Global, example: &Example) -> Result<bool, NoMemory> {
+    let mut both = open_both(alloc, example)?;
+    are_told_by(alloc, &mut both, example.rows)
 }
 
 #[test]

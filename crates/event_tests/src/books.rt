@@ -3,6 +3,7 @@
 use crate::calls::{
     Answer, base_events, base_references, call, has_counted, open_book, recorded, roll,
 };
+use crate::telling::told_ticket;
 use crate::worked::{Ask, Example, Keys, NO_TICKET, Tell, event_of, spec};
 use sequence::NoMemory;
 use shard_book::Book;
@@ -32,9 +33,10 @@ fn answer(
 
 /// The ticket of a new reference to a host.
 fn track(alloc: Global, book: &mut Book<PlainTable>, host: u8) -> Result<Ticket, NoMemory> {
-    match answer(alloc, book, Ask::Track(host), NO_TICKET)? {
-        Ok(Reply::Tracked { ticket, .. }) => Ok(ticket),
-        _ => Err(NoMemory),
+    let answer = answer(alloc, book, Ask::Track(host), NO_TICKET)?;
+    match told_ticket(&answer) {
+        Some(ticket) => Ok(ticket),
+        None => Err(NoMemory),
     }
 }
 
@@ -79,20 +81,66 @@ fn is_recorded(book: &Book<PlainTable>, events: u64, references: usize, calls: u
     base_events(book) == events && base_references(book) == references && recorded(book) == calls
 }
 
+/// Two references that are made, where they are recorded.
+fn track_two(alloc: Global, book: &mut Book<PlainTable>) -> Result<Option<[Ticket; 2]>, NoMemory> {
+    let tickets = [track(alloc, book, 1)?, track(alloc, book, 2)?];
+    Ok(if is_recorded(book, 0, 0, 2) {
+        Some(tickets)
+    } else {
+        None
+    })
+}
+
+/// Whether a record begins again with two references.
+fn is_rolled(book: &mut Book<PlainTable>) -> Result<bool, NoMemory> {
+    roll(book)?;
+    Ok(is_recorded(book, 2, 2, 0) && has_counted(book, 2))
+}
+
+/// Whether a row is shown a hundred times since, each time with one reference.
+fn is_shown_often(alloc: Global, book: &mut Book<PlainTable>) -> Result<bool, NoMemory> {
+    let shown = get_often(alloc, book, 1, 100)?;
+    Ok(shown == 100 && is_recorded(book, 2, 2, 100) && has_counted(book, 102))
+}
+
+/// Whether both references are given back, the second first.
+fn are_released(
+    alloc: Global,
+    book: &mut Book<PlainTable>,
+    tickets: [Ticket; 2],
+) -> Result<bool, NoMemory> {
+    let second = is_released(alloc, book, tickets[1])?;
+    let first = is_released(alloc, book, tickets[0])?;
+    Ok(first && second && is_recorded(book, 2, 2, 102))
+}
+
+/// Whether the record begins again with no reference.
+fn is_rolled_again(book: &mut Book<PlainTable>) -> Result<bool, NoMemory> {
+    roll(book)?;
+    Ok(is_recorded(book, 104, 0, 0) && has_counted(book, 104))
+}
+
+/// Whether references outlast a roll of an empty book, up to the next.
+fn outlast_a_roll(alloc: Global, book: &mut Book<PlainTable>) -> Result<bool, NoMemory> {
+    match track_two(alloc, book)? {
+        Some(tickets) => Ok(
+            is_rolled(book)?
+                && is_shown_often(alloc, book)?
+                && are_released(alloc, book, tickets)?
+                && is_rolled_again(book)?,
+        ),
+        None => Ok(false),
+    }
+}
+
+/// Whether that is so of a new book.
+fn all_outlast(alloc: Global) -> Result<bool, NoMemory> {
+    let mut book = open_book(alloc, spec(alloc, Keys::Short, &FOUR_REFERENCES)?)?;
+    outlast_a_roll(alloc, &mut book)
+}
+
 #[test]
 fn references_outlast_a_roll(rt: HostRuntime) -> Result<(), Fail> {
-    let alloc = rt.alloc();
-    let mut book = open_book(alloc, spec(alloc, Keys::Short, &FOUR_REFERENCES)?)?;
-    let first = track(alloc, &mut book, 1)?;
-    let second = track(alloc, &mut book, 2)?;
-    assert!(rt; is_recorded(&book, 0, 0, 2));
-    roll(&mut book)?;
-    assert!(rt; is_recorded(&book, 2, 2, 0) && has_counted(&book, 2));
-    assert!(rt; get_often(alloc, &mut book, 1, 100)? == 100);
-    assert!(rt; is_recorded(&book, 2, 2, 100) && has_counted(&book, 102));
-    assert!(rt; is_released(alloc, &mut book, second)? && is_released(alloc, &mut book, first)?);
-    assert!(rt; is_recorded(&book, 2, 2, 102));
-    roll(&mut book)?;
-    assert!(rt; is_recorded(&book, 104, 0, 0) && has_counted(&book, 104));
+    assert!(rt; all_outlast(rt.alloc())?);
     Ok(())
 }

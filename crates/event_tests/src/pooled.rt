@@ -3,16 +3,17 @@ ghost use Rattle.std.specs.Prelude.{◌<◌, ◌^◌, IfOk};
 ghost use Rattle.table_model.specs.Limits.{IsTableEvent};
 
 use crate::alike::is_alike;
-use crate::calls::{Answer, copied, open, step};
+use crate::calls::{Answer, Answers, copied, open, step};
 use crate::draws::{self, Scope};
 use crate::tables::{columns, spec};
+use crate::telling::told_ticket;
 use crate::trials::ask;
 use pooled_table::StickTable;
 use random_numbers::Random;
 use std::alloc::{AllocError, Global};
 use std::test::Fail;
 use stick_key::StickKey;
-use stick_table::{Event, Filter, PlainTable, Reply, Ticket};
+use stick_table::{Event, Filter, PlainTable, Ticket};
 use stored_data::Datum;
 
 /// The data that each table stores.
@@ -55,6 +56,17 @@ static SIZES: [u32; 4] = [1, 2, 7, 100];
 /// The tickets of a reference, of the pooled table and of the plain one.
 type Tickets = (Ticket, Ticket);
 
+/// The tickets of no reference.
+const NO_TICKETS: Tickets = (Ticket { number: 0, slot: 0 }, Ticket { number: 0, slot: 0 });
+
+/// What becomes of the tickets that are drawn, of both in the same way.
+fn altered(tickets: Tickets, way: u32) -> Tickets {
+    (
+        draws::altered(tickets.0, way),
+        draws::altered(tickets.1, way),
+    )
+}
+
 /// A pooled table, a plain one made with the same, and the tickets of each reference.
 #[derive(Drop)]
 struct Trial {
@@ -65,14 +77,6 @@ struct Trial {
     table: StickTable,
     plain: PlainTable,
     held: Vec<Tickets>,
-}
-
-/// The ticket that an answer tells.
-fn told(answer: &Answer) -> Option<Ticket> {
-    match answer {
-        Ok(Reply::Tracked { ticket, .. }) => Some(*ticket),
-        _ => None,
-    }
 }
 
 /// Whether the same references are out, by their numbers.
@@ -122,15 +126,15 @@ impl Trial {
     fn tickets(&mut self) -> Tickets {
         let place = self.random.below(8) as usize;
         let way = self.random.below(30);
-        match self.held.get(place) {
-            Some((ticket, plain)) => (draws::altered(*ticket, way), draws::altered(*plain, way)),
-            None => (Ticket { number: 0, slot: 0 }, Ticket { number: 0, slot: 0 }),
+        match self.held.get(place).copied() {
+            Some(tickets) => altered(tickets, way),
+            None => NO_TICKETS,
         }
     }
 
     /// Keeps account of the references that are out.
     fn note(&mut self, event: &Event, answer: &Answer, plain: &Answer) -> Result<(), AllocError> {
-        if let (Some(ticket), Some(other)) = (told(answer), told(plain)) {
+        if let (Some(ticket), Some(other)) = (told_ticket(answer), told_ticket(plain)) {
             self.held.push((ticket, other))?;
         }
         if let (Event::Release(_, gone), Ok(_)) = (event, answer) {
@@ -140,27 +144,75 @@ impl Trial {
         Ok(())
     }
 
+    /// Keeps account of the references, and answers whether both replies of the one table tell the same as that of the
+    /// other.
+    fn compare(
+        &mut self,
+        event: &Event,
+        answers: &Answers,
+        plain: &Answer,
+    ) -> Result<bool, AllocError> {
+        self.note(event, &answers.0, plain)?;
+        Ok(is_alike(&answers.0, plain) && is_alike(&answers.1, plain))
+    }
+
     /// An event on each table; answers whether both replies of the one tell the same as that of the other.
     fn answer_alike(&mut self, event: &Event, of_plain: &Event) -> Result<bool, AllocError>
         requires event { IsTableEvent event.now }
         requires plain { IsTableEvent of_plain.now }
     {
-        let answers = ask(&mut self.random, &mut self.table, event)?;
-        let plain = step(&mut self.plain, of_plain);
-        self.note(event, &answers.0, &plain)?;
-        Ok(is_alike(&answers.0, &plain) && is_alike(&answers.1, &plain))
+        match ask(&mut self.random, &mut self.table, event) {
+            Ok(answers) => {
+                let plain = step(&mut self.plain, of_plain);
+                self.compare(event, &answers, &plain)
+            }
+            Err(refused) => Err(refused),
+        }
+    }
+
+    /// An event as it is drawn by a seed, of a ticket.
+    fn drawn(&self, seed: u64, now: u64, ticket: Ticket) -> Result<Event, AllocError>
+        requires { now < 2 ^ 62 }
+        ensures { IfOk result IsTableEvent }
+    {
+        draws::event(self.alloc, &mut Random::new(seed), self.scope, now, ticket)
+    }
+
+    /// An event on the one table, and the same drawn for the other.
+    fn ask_other(
+        &mut self,
+        seed: u64,
+        now: u64,
+        ticket: Ticket,
+        event: &Event,
+    ) -> Result<bool, AllocError>
+        requires moment { now < 2 ^ 62 }
+        requires event { IsTableEvent event.now }
+    {
+        match self.drawn(seed, now, ticket) {
+            Ok(other) => self.answer_alike(event, &other),
+            Err(refused) => Err(refused),
+        }
+    }
+
+    /// The same event, drawn for each table.
+    fn ask_both(&mut self, seed: u64, now: u64, tickets: Tickets) -> Result<bool, AllocError>
+        requires { now < 2 ^ 62 }
+    {
+        match self.drawn(seed, now, tickets.0) {
+            Ok(event) => self.ask_other(seed, now, tickets.1, &event),
+            Err(refused) => Err(refused),
+        }
     }
 
     /// One event, drawn once for each table.
     fn event(&mut self) -> Result<bool, AllocError> {
         let date = self.clock.saturating_add(u64::from(self.random.below(41)));
         let now = draws::moment(&mut self.random, self.clock, date);
-        let (ticket, plain) = self.tickets();
+        let tickets = self.tickets();
         let seed = u64::from(self.random.below(1 << 31));
-        let event = draws::event(self.alloc, &mut Random::new(seed), self.scope, now, ticket)?;
-        let other = draws::event(self.alloc, &mut Random::new(seed), self.scope, now, plain)?;
         self.clock = self.clock.max(now);
-        self.answer_alike(&event, &other)
+        self.ask_both(seed, now, tickets)
     }
 
     /// Whether a plain copy of the table has the same references out, counted as many events, and lists the same as
@@ -172,16 +224,36 @@ impl Trial {
     }
 }
 
+/// Whether both tables answer the next event alike, and every twentieth time whether copies of both are alike.
+fn goes_on(trial: &mut Trial, event: u32) -> Result<bool, AllocError> {
+    Ok(trial.event()? && (event % 20 != 19 || trial.is_copied()?))
+}
+
+/// The first of 200 events after which a pooled table and a plain one differ.
+fn first_unlike(alloc: Global, seed: u64) -> Result<Option<u32>, AllocError> {
+    let mut trial = Trial::new(alloc, seed)?;
+    first_unlike_of(&mut trial)
+}
+
+/// The same of these two tables.
+fn first_unlike_of(trial: &mut Trial) -> Result<Option<u32>, AllocError> {
+    for event in 0..200u32 {
+        if !goes_on(trial, event)? {
+            return Ok(Some(event));
+        }
+    }
+    Ok(None)
+}
+
 #[test]
 fn a_pooled_table_answers_as_a_plain_one(rt: HostRuntime) -> Result<(), Fail> {
     for seed in 0..1_000u64 {
-        let mut trial = Trial::new(rt.alloc(), seed)?;
-        for event in 0..200u32 {
-            assert!(rt; trial.event()?, "table {seed}, event {event}");
-            if event % 20 == 19 {
-                assert!(rt; trial.is_copied()?, "table {seed}, event {event}");
-            }
-        }
+        let unlike = first_unlike(rt.alloc(), seed)?;
+        assert!(rt;
+            unlike.is_none(),
+            "table {seed}, event {}",
+            unlike.unwrap_or(0)
+        );
     }
     Ok(())
 }

@@ -64,7 +64,10 @@ fn told_call(alloc: Global, table: &mut PlainTable, row: Told) -> Result<(Stored
     ensures slot { IfOk result (λ told. told.0.slot ≡ slot_of told.1) }
     ensures event { IfOk result (λ told. IsTableEvent told.0.event) }
 {
-    step_stored(table, asked(alloc, row)?)
+    match asked(alloc, row) {
+        Ok(event) => step_stored(table, event),
+        Err(_) => Err(Refusal::Memory),
+    }
 }
 
 /// The calls that ask what rows ask, made on a plain copy of a table, and their replies.

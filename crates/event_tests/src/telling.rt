@@ -78,10 +78,15 @@ pub fn are_told(replies: &[Reply], rows: &[Told]) -> bool {
     place == rows.len()
 }
 
+/// The ticket that an answer tells.
+pub fn told_ticket(answer: &Answer) -> Option<Ticket> {
+    match answer {
+        Ok(Reply::Tracked { ticket, .. }) => Some(*ticket),
+        _ => None,
+    }
+}
+
 /// The ticket that was told last.
 pub fn last_ticket(before: Ticket, answer: &Answer) -> Ticket {
-    match answer {
-        Ok(Reply::Tracked { ticket, .. }) => *ticket,
-        _ => before,
-    }
+    told_ticket(answer).unwrap_or(before)
 }

@@ -51,9 +51,20 @@ pub fn ask<T: Table>(
     requires { IsTableEvent event.now }
 {
     if random.below(2) == 0 {
-        return Ok(step_twice(table, event));
+        Ok(step_twice(table, event))
+    } else {
+        redone(table, event)
     }
-    Ok(step_and_redo(table, event.copy()?))
+}
+
+/// What a table answers an event, and what a plain copy of what it was answers the same call made again.
+fn redone<T: Table>(table: &mut T, event: &Event) -> Result<Answers, AllocError>
+    requires { IsTableEvent event.now }
+{
+    match event.copy() {
+        Ok(copy) => Ok(step_and_redo(table, copy)),
+        Err(refused) => Err(refused),
+    }
 }
 
 /// What a table of this specification is reckoned with.
@@ -134,16 +145,29 @@ impl Trial {
         draws::event(self.alloc, &mut self.random, scope, now, ticket)
     }
 
-    /// One event, replied twice or made again; answers whether both replies, or the refusal, are as reckoned.
+    /// Whether two answers to an event are as reckoned.
+    fn agree(&mut self, now: u64, event: &Event, answers: &Answers) -> Result<bool, AllocError> {
+        Ok(self.plain.agrees(now, event, &answers.0)? && self.again.agrees(now, event, &answers.1)?)
+    }
+
+    /// An event, replied twice or made again; answers whether both replies, or the refusal, are as reckoned.
+    fn asked(&mut self, now: u64, event: &Event) -> Result<bool, AllocError>
+        requires { IsTableEvent event.now }
+    {
+        match ask(&mut self.random, &mut self.table, event) {
+            Ok(answers) => self.agree(now, event, &answers),
+            Err(refused) => Err(refused),
+        }
+    }
+
+    /// One event that is drawn; answers whether it is answered as reckoned.
     fn event(&mut self) -> Result<bool, AllocError> {
         let date = self.date();
         let now = draws::moment(&mut self.random, self.plain.clock, date);
-        let event = self.drawn(now)?;
-        let answers = ask(&mut self.random, &mut self.table, &event)?;
-        Ok(
-            self.plain.agrees(now, &event, &answers.0)?
-                && self.again.agrees(now, &event, &answers.1)?,
-        )
+        match self.drawn(now) {
+            Ok(event) => self.asked(now, &event),
+            Err(refused) => Err(refused),
+        }
     }
 }
 

@@ -166,11 +166,15 @@ pub static RUN: Example = Example {
 /// The ticket of no reference.
 pub const NO_TICKET: Ticket = Ticket { number: 9, slot: 0 };
 
+static SHORT_HEAD: [u8; 3] = [10, 0, 0];
+
+static LONG_HEAD: [u8; 23] = [b'a'; 23];
+
 /// What stands before the last byte of a key.
 pub fn head(keys: Keys) -> &'static [u8] {
     match keys {
-        Keys::Short => &[10, 0, 0],
-        Keys::Long => b"a customer of the shop ",
+        Keys::Short => SHORT_HEAD.as_slice(),
+        Keys::Long => LONG_HEAD.as_slice(),
     }
 }
 

@@ -5,6 +5,7 @@ ghost use Rattle.table_model.specs.Limits.{IsTableEvent, IsTableSpec};
 
 use crate::books::events_of;
 use crate::calls::counts_of;
+use drawn_calls::ticket_of;
 use same_events::{same_event, same_reply};
 use sequence::NoMemory;
 use shard_book::Book;
@@ -175,17 +176,17 @@ fn calls_are_counted(rt: HostRuntime) -> Result<(), Fail> {
 // ---- what is refused
 
 /// The ticket of a reference that a book told.
-fn ticket_of(answer: Result<Reply, Refusal>) -> Option<Ticket> {
+fn told_ticket(answer: &Result<Reply, Refusal>) -> Option<Ticket> {
     match answer {
-        Ok(Reply::Tracked { ticket, .. }) => Some(ticket),
-        _ => None,
+        Ok(reply) => ticket_of(reply),
+        Err(_) => None,
     }
 }
 
 /// The ticket of a new reference.
 fn track(alloc: Global, book: &mut Book<PlainTable>, seat: &mut Seat) -> Option<Ticket> {
     match event(alloc, 0) {
-        Ok(event) => ticket_of(call(book, seat, event)),
+        Ok(event) => told_ticket(&call(book, seat, event)),
         Err(_) => None,
     }
 }

@@ -11,13 +11,15 @@ use std::sync::atomic::{AtomicBool, Ordering};
 use stick_table::{Cell, Event, Filter, PlainTable, Refusal, Reply, Row};
 use stored_data::{Act, Datum};
 
-/// A call of a table in shards, of the key of 5, which lies on the first of two shards.
+/// A call of a table in shards, of the key of 5, which lies on the first of two shards, as that of 7 does.
 #[derive(Clone, Copy)]
 pub enum Call {
     /// What the shards were made with.
     Spec,
     Put,
     Track,
+    /// A track of the key of 7.
+    TrackOther,
     Look,
     Count,
     Get,
@@ -109,6 +111,7 @@ fn reply_to(
     match call {
         Call::Put => put(rt, alloc, table, seat),
         Call::Track => track(rt, alloc, table, seat, 5, 10),
+        Call::TrackOther => track(rt, alloc, table, seat, 7, 35),
         Call::Look | Call::Count | Call::Release => use_held(rt, table, seat, held, call),
         _ => get(rt, alloc, table, seat, 5, 40),
     }
@@ -134,6 +137,7 @@ fn is_wanted(call: Call, reply: &Reply) -> bool {
     match (call, reply) {
         (Call::Put, Reply::Written { created }) => *created,
         (Call::Track, Reply::Tracked { row, .. }) => is_row(row, 500, 3),
+        (Call::TrackOther, Reply::Tracked { row, .. }) => is_row(row, 500, 0),
         (Call::Look, Reply::Row(row)) => is_row(row, 490, 3),
         (Call::Count, Reply::Value(Some(value))) => *value == 4,
         (Call::Get, Reply::Row(row)) => is_row(row, 470, 4),

@@ -4,21 +4,29 @@ ghost use Rattle.std.specs.Prelude.{◌≤◌, ◌^◌};
 
 use crate::asking::{get, track};
 use crate::tables::{Opened, Outcome, open, show};
-use drawn_calls::{Held, spec};
+use drawn_calls::{Held, spec, ticket_of};
 use settlement::{Fault, Settled, check};
 use shard_locks::{Shards, Unlocked};
 use std::alloc::Global;
 use std::sync::Wait;
-use stick_table::{PlainTable, Reply, Ticket};
+use stick_table::{PlainTable, Refusal, Reply, Ticket};
+
+/// The reference of which an answer of the first shard tells.
+fn told_held(answer: &Result<Reply, Refusal>) -> Option<Held> {
+    match answer {
+        Ok(reply) => match ticket_of(reply) {
+            Some(ticket) => Some(Held { shard: 0, ticket }),
+            None => None,
+        },
+        Err(_) => None,
+    }
+}
 
 /// A reference to the entry of 5, which lies on the first of two shards, made by the first of some seats.
 fn track_five(rt: &impl Wait, alloc: Global, opened: &mut Opened) -> Option<Held> {
     let (table, seats) = opened;
     let seat = seats.as_mut_slice().first_mut()?;
-    match track(rt, alloc, table, seat, 5, 0) {
-        Ok(Reply::Tracked { ticket, .. }) => Some(Held { shard: 0, ticket }),
-        _ => None,
-    }
+    told_held(&track(rt, alloc, table, seat, 5, 0))
 }
 
 /// Whether a get of the entry of 5 by the first seat, at a moment, is answered.

@@ -1,7 +1,9 @@
-//! Tests of scripts over memory, for what the built program can't show: prefixes of a script, devices that fail, and tables
-//! with few references or a short life.
+//! Tests of scripts and of commands over memory, for what the built program can't show: prefixes of a script, devices that
+//! fail, lines that are too long, and tables with few references or a short life.
 #![tactic(auto)]
 
+#[cfg(test)]
+mod commands;
 #[cfg(test)]
 mod replays;
 #[cfg(test)]

@@ -2,11 +2,12 @@
 ghost use Rattle.std.specs.Prelude.{◌≤◌, ◌<◌, ◌^◌, IfOk};
 ghost use Rattle.table_model.specs.Limits.{IsTableEvent, IsTableSpec};
 
+use drawn_calls::ticket_of;
 use random_numbers::Random;
 use sequence::Sequence;
 use std::alloc::{AllocError, Global};
 use stick_key::{KeyType, Sample, StickKey, convert};
-use stick_table::{Cell, Event, Reply, Spec, Table, Ticket};
+use stick_table::{Cell, Event, Spec, Table, Ticket};
 use stored_data::{Act, Column, Datum, StoredSet};
 
 /// What is timed.
@@ -132,8 +133,8 @@ impl<T: Table> FullTable<T> {
     fn ticket(&mut self, number: u32) -> Result<Option<Ticket>, AllocError> {
         let event = Event::Track(0, key(self.alloc, number)?);
         Ok(match self.table.step(&event) {
-            Ok(Reply::Tracked { ticket, .. }) => Some(ticket),
-            _ => None,
+            Ok(reply) => ticket_of(&reply),
+            Err(_) => None,
         })
     }
 

@@ -1,5 +1,7 @@
-//! Times the events of a table that is full, the parts of the pooled table, and the reading and the printing of keys. It is
-//! run by hand, with what is timed, how many entries a table has, and how many rounds there are.
+//! Times the events of a table that is full, the parts of the pooled table, the reading and the printing of keys, and calls
+//! of tables that threads share; or has many threads call such tables, and settles them. It is run by hand, with what is
+//! done, how many entries a table has, and how many rounds there are. Without arguments it makes a few calls of tables that
+//! threads share, and prints no times.
 #![tactic(auto)]
 
 mod full_index;
@@ -7,16 +9,24 @@ mod full_order;
 mod full_pool;
 mod full_table;
 mod keys;
+mod locks;
 mod parts;
 mod random;
+mod stress;
 mod tables;
 
 use keys::print_key_times;
+use locks::print_lock_times;
 use parts::print_part_times;
 use pooled_table::StickTable;
 use std::io::Print;
+use std::process::ExitCode;
+use std::rt::Clock;
+use std::sync::Wait;
+use std::thread::Threads;
 use std::{env, io};
 use stick_table::PlainTable;
+use stress::{Request, request_of, run_stress};
 use tables::print_table_times;
 
 /// What is timed.
@@ -26,6 +36,17 @@ enum Subject {
     Pooled,
     Parts,
     Keys,
+}
+
+/// What is done.
+#[derive(Clone, Copy)]
+enum Work {
+    /// A few calls of tables that threads share.
+    Few,
+    Times(Subject),
+    Locks,
+    Stress,
+    Usage,
 }
 
 /// What a word of the command line asks for.
@@ -40,10 +61,22 @@ fn subject_of(word: &str) -> Option<Subject> {
 }
 
 /// What the first word of the command line asks for.
-fn asked_for(rt: &HostRuntime) -> io::Result<Option<Subject>> {
+fn work_of(word: &str) -> Work {
+    match word {
+        "locks" => Work::Locks,
+        "stress" => Work::Stress,
+        _ => match subject_of(word) {
+            Some(subject) => Work::Times(subject),
+            None => Work::Usage,
+        },
+    }
+}
+
+/// What the command line asks for.
+fn asked_for(rt: &HostRuntime) -> io::Result<Work> {
     Ok(match env::args(rt)?.nth(1) {
-        Some(word) => subject_of(word.as_str()),
-        None => None,
+        Some(word) => work_of(word.as_str()),
+        None => Work::Few,
     })
 }
 
@@ -55,8 +88,10 @@ fn number_of(rt: &HostRuntime, place: usize) -> io::Result<Option<u32>> {
     })
 }
 
-fn print_usage(rt: &HostRuntime) -> io::Result<()> {
-    println!(rt; "usage: table_benchmark plain|pooled SIZE COUNT, or parts|keys COUNT")
+fn print_usage<R: Print>(rt: &R) -> io::Result<()> {
+    println!(rt;
+        "usage: table_benchmark plain|pooled SIZE COUNT, or parts|keys COUNT, or locks ROUNDS, or stress --help"
+    )
 }
 
 /// Times what is asked for, by the numbers of the command line.
@@ -79,9 +114,40 @@ fn print_times(
     }
 }
 
-fn main(rt: HostRuntime) -> io::Result<()> {
-    match (asked_for(&rt)?, number_of(&rt, 2)?) {
-        (Some(subject), Some(first)) => print_times(&rt, subject, first, number_of(&rt, 3)?),
-        _ => print_usage(&rt),
+/// Times what is asked for, where the command line has the number that each has.
+fn print_subject(rt: &HostRuntime, subject: Subject) -> io::Result<()> {
+    match number_of(rt, 2)? {
+        Some(first) => print_times(rt, subject, first, number_of(rt, 3)?),
+        None => print_usage(rt),
     }
+}
+
+/// Times calls of tables that threads share, of so many rounds.
+fn print_locks<R: Threads + Wait + Clock + Sync + Print + AllocGlobal>(
+    rt: &R,
+    rounds: Option<u32>,
+) -> io::Result<()> {
+    match rounds {
+        Some(rounds) => print_lock_times(rt, Some(rounds)),
+        None => print_usage(rt),
+    }
+}
+
+/// A few calls of tables that threads share; answers the program's status.
+fn print_few<R: Threads + Wait + Clock + Sync + Print + Eprint + AllocGlobal>(
+    rt: &R,
+) -> io::Result<ExitCode> {
+    print_lock_times(rt, None)?;
+    run_stress(rt, Some(Request::Small))
+}
+
+fn main(rt: HostRuntime) -> io::Result<ExitCode> {
+    match asked_for(&rt)? {
+        Work::Few => return print_few(&rt),
+        Work::Stress => return run_stress(&rt, request_of(&rt)?),
+        Work::Locks => print_locks(&rt, number_of(&rt, 2)?)?,
+        Work::Times(subject) => print_subject(&rt, subject)?,
+        Work::Usage => print_usage(&rt)?,
+    }
+    Ok(ExitCode::SUCCESS)
 }

@@ -11,17 +11,31 @@ use std::rt::Clock;
 use std::time::{Duration, Instant};
 use stick_key::StickKey;
 
+/// An index, the keys that it has, and others.
+#[derive(Drop)]
+struct Keyed {
+    index: FullIndex,
+    keys: Vec<StickKey>,
+    others: Vec<StickKey>,
+}
+
+impl Keyed {
+    fn new(alloc: Global, wide: bool) -> Result<Keyed, AllocError> {
+        Ok(Keyed {
+            index: FullIndex::new(alloc, wide)?,
+            keys: keys_from(alloc, 0, wide)?,
+            others: keys_from(alloc, SLOTS, wide)?,
+        })
+    }
+}
+
 /// The parts, filled.
 #[derive(Drop)]
 struct Parts {
     pool: FullPool,
-    index: FullIndex,
-    wide_index: FullIndex,
+    narrow: Keyed,
+    wide: Keyed,
     order: FullOrder,
-    keys: Vec<StickKey>,
-    other_keys: Vec<StickKey>,
-    wide_keys: Vec<StickKey>,
-    other_wide_keys: Vec<StickKey>,
 }
 
 /// What is timed.
@@ -43,13 +57,9 @@ impl Parts {
     fn new(alloc: Global) -> Result<Parts, AllocError> {
         Ok(Parts {
             pool: FullPool::new(alloc)?,
-            index: FullIndex::new(alloc, false)?,
-            wide_index: FullIndex::new(alloc, true)?,
+            narrow: Keyed::new(alloc, false)?,
+            wide: Keyed::new(alloc, true)?,
             order: FullOrder::new(alloc)?,
-            keys: keys_from(alloc, 0, false)?,
-            other_keys: keys_from(alloc, SLOTS, false)?,
-            wide_keys: keys_from(alloc, 0, true)?,
-            other_wide_keys: keys_from(alloc, SLOTS, true)?,
         })
     }
 
@@ -58,14 +68,18 @@ impl Parts {
         match work {
             Work::Replace => self.pool.replace_many(random, count),
             Work::Read => self.pool.read_many(random, count),
-            Work::Find => self.index.find_many(&self.keys, random, count),
-            Work::Miss => self.index.find_many(&self.other_keys, random, count),
-            Work::PutBack => self.index.put_back_many(random, count),
-            Work::FindWide => self.wide_index.find_many(&self.wide_keys, random, count),
-            Work::MissWide => self
-                .wide_index
-                .find_many(&self.other_wide_keys, random, count),
-            Work::PutBackWide => self.wide_index.put_back_many(random, count),
+            Work::Find => self
+                .narrow
+                .index
+                .find_many(&self.narrow.keys, random, count),
+            Work::Miss => self
+                .narrow
+                .index
+                .find_many(&self.narrow.others, random, count),
+            Work::PutBack => self.narrow.index.put_back_many(random, count),
+            Work::FindWide => self.wide.index.find_many(&self.wide.keys, random, count),
+            Work::MissWide => self.wide.index.find_many(&self.wide.others, random, count),
+            Work::PutBackWide => self.wide.index.put_back_many(random, count),
             Work::Refresh => self.order.refresh_many(random, count),
             Work::Walk => self.order.walk(count),
         }
