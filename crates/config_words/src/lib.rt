@@ -12,7 +12,7 @@ ghost use Rattle.rule_model.specs.Reading.{Gives, demand as demanded};
 
 pub use lines::{Lines, before_comment, is_plain, is_text, next_or_empty};
 pub use names::is_name;
-pub use numbers::read_bounded;
+pub use numbers::{read_bounded, read_time};
 use rule_model::{Fault, ReadError};
 pub use table::read_table;
 

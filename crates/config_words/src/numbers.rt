@@ -96,7 +96,7 @@ fn time_unit(suffix: &[u8]) -> Option<u64>
 /// Reads a time in ms: decimal, with an optional unit us, ms, s, m, h or d, from 1 to 2^31 - 1 ms. Microseconds are
 /// rounded up to whole ms.
 #[tactic(auto, unfolding(crate::specs::Numbers::time_of))]
-pub(crate) fn read_time(text: &[u8]) -> Result<u32, Fault>
+pub fn read_time(text: &[u8]) -> Result<u32, Fault>
     ensures { result ≡ time_of text.now }
 {
     let (digits, suffix) = text.split_at(digits_len(text));

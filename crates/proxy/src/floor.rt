@@ -14,6 +14,7 @@ use std::sync::atomic::AtomicBool;
 use std::thread::Threads;
 use std::time::{Clock, Instant};
 use stick_table::Table;
+use tcp_relay::Limits;
 
 /// What the proxy asks of the system: sockets, threads, locks, a clock and a log.
 pub trait ProxyRuntime: Net<Listener = TcpListener, Stream = TcpStream>
@@ -38,8 +39,9 @@ pub(crate) struct Floor<'a, T: Table, R> {
     pub socket: &'a UnixListener,
     /// The path of the socket.
     pub path: &'a str,
-    /// How many connections are served at a time.
+    /// How many threads serve connections.
     pub threads: u32,
+    pub limits: Limits,
     /// The number of connections after which the proxy stops, if it does.
     pub stop_after: Option<u64>,
     /// A shard's record begins again once it has so many calls.

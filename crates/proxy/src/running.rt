@@ -99,7 +99,7 @@ fn all_seats(
 /// Says why serving ended with a fault.
 fn report<R: Eprint>(rt: &R, kind: FaultKind) -> io::Result<()> {
     match kind {
-        FaultKind::Accept => eprintln!(rt; "stickd: a connection can't be accepted"),
+        FaultKind::Waiting => eprintln!(rt; "stickd: a thread can't wait for connections"),
         FaultKind::Thread => eprintln!(rt; "stickd: a thread can't be started"),
         FaultKind::NoMemory => eprintln!(rt; "stickd: out of memory"),
     }
@@ -107,7 +107,7 @@ fn report<R: Eprint>(rt: &R, kind: FaultKind) -> io::Result<()> {
 
 /// Runs the proxy of a setup that has a `bind` and a server: opens its tables, binds its sockets, and serves. It stops once
 /// the connections of the plan have ended, and then settles the tables and prints what they come to; without such a number
-/// it stops only where no more connection can be accepted. Answers whether all went well; what didn't is said on standard
+/// it stops only where a thread can't wait for connections. Answers whether all went well; what didn't is said on standard
 /// error. An error is one of printing.
 pub fn run_proxy<T: Table + Send, R: ProxyRuntime + Files + RandomSource + Print + Eprint>(
     alloc: Global,
@@ -140,12 +140,13 @@ pub fn run_proxy<T: Table + Send, R: ProxyRuntime + Files + RandomSource + Print
     serve_and_settle(alloc, rt, setup, plan, &doors, opened)
 }
 
-/// How serving ended: the fault, if any; how many connections were admitted and rejected; and what the threads that served
-/// them have left.
+/// How serving ended: the fault, if any; how many connections were admitted, rejected, and not accepted; and what the threads
+/// that served them have left.
 struct Ended {
     fault: Option<FaultKind>,
     admitted: u64,
     rejected: u64,
+    unaccepted: u64,
     left: Left,
 }
 
@@ -158,6 +159,7 @@ fn end_of(served: Result<Served, ServeFault>) -> Ended {
     let Served {
         admitted,
         rejected,
+        unaccepted,
         seats,
         refs,
     } = served;
@@ -165,6 +167,7 @@ fn end_of(served: Result<Served, ServeFault>) -> Ended {
         fault,
         admitted,
         rejected,
+        unaccepted,
         left: Left { seats, refs },
     }
 }
@@ -238,6 +241,7 @@ fn serve_and_settle<T: Table + Send, R: ProxyRuntime + Files + Print + Eprint>(
         socket: &doors.socket,
         path: plan.socket,
         threads: plan.threads,
+        limits: plan.limits,
         stop_after: plan.stop_after,
         roll_at: plan.roll_at,
         start: doors.start,
@@ -263,9 +267,10 @@ fn settle_where<T: Table, R: ProxyRuntime + Print + Eprint>(
         fault,
         admitted,
         rejected,
+        unaccepted,
         left: Left { seats, refs },
     } = ended;
-    info!(rt; "connections: {admitted} admitted, {rejected} rejected");
+    info!(rt; "connections: {admitted} admitted, {rejected} rejected, {unaccepted} failed to be accepted");
     if let Some(kind) = fault {
         give_up_all(refs);
         report(rt, kind)?;

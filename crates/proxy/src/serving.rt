@@ -29,6 +29,7 @@ fn unserved(alloc: Global, seats: Vec<Vec<Seat>>) -> ServeFault {
         served: Served {
             admitted: 0,
             rejected: 0,
+            unaccepted: 0,
             seats,
             refs: Vec::new(alloc),
         },
@@ -101,6 +102,7 @@ fn serve_where<T: Table + Send, R: ProxyRuntime>(
         floor.setup,
         &Open,
         floor.threads,
+        floor.limits,
         floor.stop_after,
         floor.start,
     )

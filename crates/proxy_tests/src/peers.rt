@@ -1,7 +1,7 @@
 //! Clients of a listener, and the server behind it.
 
 use std::alloc::Global;
-use std::io::{Read, Write};
+use std::io::{ErrorKind, Read, Write};
 use std::net::{Shutdown, TcpListener, TcpStream};
 
 /// What the server is asked: 17 bytes.
@@ -29,9 +29,13 @@ pub fn is_answered(stream: &TcpStream, alloc: Global) -> bool {
     gets(stream, alloc, ANSWER)
 }
 
-/// Whether a client gets the end, and no byte before it.
-pub fn is_closed(stream: &TcpStream, alloc: Global) -> bool {
-    gets(stream, alloc, b"")
+/// Whether a client gets the end or a reset, and no byte before it.
+pub fn is_closed(mut stream: &TcpStream, alloc: Global) -> bool {
+    let mut got = Vec::new(alloc);
+    match stream.read_to_end(&mut got) {
+        Ok(_) => got.is_empty(),
+        Err(reason) => got.is_empty() && reason.kind() == ErrorKind::ConnectionReset,
+    }
 }
 
 /// Whether a server that has one client gets its request, and then its end, and can answer it.

@@ -9,6 +9,7 @@ use address_text::{Address, Endpoint};
 use rule_model::Setup;
 use shard_locks::Shards;
 use shard_seats::{Seat, TrackRef};
+use socket_link::Timeouts;
 use std::alloc::Global;
 use std::net::{Net, TcpListener, TcpStream};
 use std::slice;
@@ -16,7 +17,17 @@ use std::sync::Wait;
 use std::thread::Threads;
 use std::time::{Clock, Instant};
 use stick_table::PlainTable;
-use tcp_relay::{FaultKind, Gate, ServeFault, Served, serve};
+use tcp_relay::{FaultKind, Gate, Limits, ServeFault, Served, serve};
+
+/// A thread holds two connections, and a server has five seconds to accept one.
+const LIMITS: Limits = Limits {
+    connections: 2,
+    timeouts: Timeouts {
+        connect: 5_000,
+        client: None,
+        server: None,
+    },
+};
 
 /// A listener, and the setup by which its connections are served.
 #[derive(Drop)]
@@ -86,6 +97,7 @@ pub struct Ended {
     pub fault: Option<FaultKind>,
     pub admitted: u64,
     pub rejected: u64,
+    pub unaccepted: u64,
     pub seats: Vec<Seat>,
     /// How many references weren't given back, and for how many there are places.
     pub left: usize,
@@ -112,6 +124,7 @@ fn end_of(fault: Option<FaultKind>, served: Served) -> Option<Ended> {
     let Served {
         admitted,
         rejected,
+        unaccepted,
         mut seats,
         refs,
     } = served;
@@ -123,6 +136,7 @@ fn end_of(fault: Option<FaultKind>, served: Served) -> Option<Ended> {
         fault,
         admitted,
         rejected,
+        unaccepted,
         seats,
         left,
         places,
@@ -168,6 +182,7 @@ fn serve_among<
         setup,
         gate,
         2,
+        LIMITS,
         Some(last),
         site.start,
     ) {

@@ -3,8 +3,6 @@
 #![tactic(auto)]
 
 #[cfg(test)]
-mod connections;
-#[cfg(test)]
 mod full_links;
 #[cfg(test)]
 mod late_links;

@@ -1,7 +1,9 @@
 -- What asking a table comes to.
-use Rattle.std.proofs.Common.{◌≡◌, ℕ, ◌<◌, refl, sym, ap, subst, ◌∙◌, arith, Bool, true, false, List, length, slice_get, slice_set, get_or, Option, Some, None, is_some, Result, Err, inl, inr}
+use Rattle.std.proofs.Common.{◌≡◌, ℕ, ◌<◌, refl, sym, ap, subst, ◌∙◌, Bool, true, false, List, length, slice_get, slice_set, get_or, Option, Some, None, is_some, Result, Err, inl, inr}
 use Rattle.std.specs.Prelude.{IsOk}
 use Rattle.std.proofs.lemmas.Bool.{false≢true, ltb-true}
+use Rattle.std.proofs.Math.Logic.{∥∥₁_elim, ∥∥₁_map}
+use Rattle.std.proofs.Math.Nat.{ℕ_set}
 use Rattle.std.proofs.lemmas.List.{length-set, set-get_or}
 use Rattle.std.proofs.lemmas.Option.{slice_get-get_or}
 use Rattle.stick_key.specs.Shard.{shard}
@@ -35,10 +37,10 @@ use Rattle.connection_drive.specs.declared.call.Call.{Call}
 use Rattle.connection_drive.specs.declared.reference.Reference.{Reference}
 use Rattle.connection_drive.proofs.MakeLemmas.{need_same, setup_same}
 use Rattle.connection_drive.proofs.ReplyLemmas.{reply_fits}
-use Rattle.shared_drive.specs.Calls.{IsAskedBy, IsAskedFor, RefusedAt, ToldAt, heard, tracking_answer}
+use Rattle.shared_drive.specs.Calls.{IsAskedBy, IsAskedFor, ToldAt, heard, tracking_answer}
 use Rattle.shared_drive.specs.DriveCode.{HasMoved, IsReady}
 use Rattle.shared_drive.specs.Moves.{IsRefused, Wants}
-use Rattle.shared_drive.specs.Tables.{AreShared, HoldsOf, NamesOf}
+use Rattle.shared_drive.specs.Tables.{HoldsOf, NamesOf}
 use Rattle.shared_drive.specs.declared.moved.Moved.TheVariants.{Answered, Turned, Refused, Kept}
 
 -- ---- what is named is there
@@ -127,14 +129,14 @@ module _ (now : ℕ) (tables : List ShardsState) (old : List SeatState) (conn : 
   pub ready_next : (new : List SeatState) (later : Conn RefState) (next : Connection RefState → Connection RefState) → ((connection : Connection RefState) → (next connection).setup ≡ connection.setup)
       → ((connection : Connection RefState) → Stands conn connection → Stands later (next connection)) → length new ≡ length old → is_some (progress_of later).given ≡ false → HoldsOf (length tables) (progress_of later).held → IsReady tables new later
   ready_next new later next same stands seats given held =
-      let connection : Connection RefState = ready.living.0 in
-      let setup : judged_by later ≡ judged_by conn = setup_same later (next connection) (stands connection ready.living.1) ∙ same connection ∙ sym (setup_same conn connection ready.living.1) in
+      let setup : (connection : Connection RefState) × Stands conn connection → judged_by conn ≡ judged_by later =
+      λ found. setup_same conn found.0 found.1 ∙ sym (same found.0) ∙ sym (setup_same later (next found.0) (stands found.0 found.1)) in
       record {
-        living = (next connection, stands connection ready.living.1);
+        living = ∥∥₁_map ready.living (λ found. (next found.0, stands found.0 found.1));
         shared = record {
-          count = ready.shared.count ∙ ap (λ (s : Setup). length s.tables) (sym setup);
-          seated = seats ∙ ready.shared.seated ∙ ap (λ (s : Setup). length s.tables) (sym setup);
-          shards = λ i table is. ready.shared.shards i table is ∙ ap (λ (s : Setup). s.shards) (sym setup);
+          count = ready.shared.count ∙ ∥∥₁_elim ready.living (ℕ_set _ _) (λ found. ap (λ (s : Setup). length s.tables) (setup found));
+          seated = seats ∙ ready.shared.seated ∙ ∥∥₁_elim ready.living (ℕ_set _ _) (λ found. ap (λ (s : Setup). length s.tables) (setup found));
+          shards = λ i table is. ready.shared.shards i table is ∙ ∥∥₁_elim ready.living (ℕ_set _ _) (λ found. ap (λ (s : Setup). s.shards) (setup found));
         };
         held = held;
         given = given;

@@ -2,7 +2,7 @@
 use Rattle.std.specs.Prelude.{◌≡◌, ℕ, false, is_some, List, length}
 use Rattle.shard_seats.specs.SeatState.{RefState, SeatState}
 use Rattle.shard_locks.specs.ShardsState.{ShardsState}
-use Rattle.admit_core.specs.Conn.{judged_by, needed, progress_of, rules_left, Stands}
+use Rattle.admit_core.specs.Conn.{judged_by, progress_of, rules_left, Stands}
 use Rattle.admit_core.specs.Connection.{Connection}
 use Rattle.admit_core.specs.Left.{left_of}
 use Rattle.admit_core.specs.declared.conn.Conn.{Conn}
@@ -13,7 +13,7 @@ use Rattle.shared_drive.specs.declared.moved.Rested.{Rested}
 
 -- it is a connection, whatever came of it so far, over tables of its setup, and no reference is handed out
 pub record IsReady (tables : List ShardsState) (seats : List SeatState) (conn : Conn RefState) : Type 0 where
-  pub living : (connection : Connection RefState) × Stands conn connection
+  pub living : ∥ ((connection : Connection RefState) × Stands conn connection) ∥₁
   pub shared : AreShared (judged_by conn) tables seats
   pub held : HoldsOf (length tables) (progress_of conn).held
   pub given : is_some (progress_of conn).given ≡ false

@@ -1,5 +1,6 @@
 -- A connection goes on, one move after another, each at a moment of its own.
 use Rattle.std.proofs.Common.{◌≡◌, ◌≢◌, ◌<◌, ◌^◌, ℕ, zero, suc, refl, sym, ap, subst, ◌∙◌, true, false, List, Option, Some, None, is_some, is_none, slice_get, arith}
+use Rattle.std.proofs.Math.Logic.{∥∥₁_elim}
 use Rattle.stored_data.specs.declared.act.Act.{Act}
 use Rattle.shard_seats.specs.SeatState.{RefState, SeatState}
 use Rattle.shard_locks.specs.ShardsState.{ShardsState}
@@ -105,12 +106,13 @@ some_none x e = cc
 -- so no release is refused
 pub never_kept : (now : ℕ) (tables : List ShardsState) (old new : List SeatState) (conn later : Conn RefState) → IsReady tables old conn → is_judged (progress_of conn).phase ≡ true → HasMoved now tables old conn new later Kept → ⊥
 never_kept now tables old new conn later ready judged moves =
-    let connection = ready.living.0 in
-    let stands : Stands conn connection = ready.living.1 in
+    ∥∥₁_elim ready.living (λ x _. absurd x) (λ found.
+    let connection = found.0 in
+    let stands : Stands conn connection = found.1 in
     let one = moves connection stands in
     let wants_same : need connection ≡ judging (wanted conn) (progress_of conn) = sym (need_same conn connection stands) ∙ needs_judging conn ready.given judged in
     let none : released_of (need connection) connection.progress ≡ None = (λ k. released_of (wants_same k) (sym stands.progress k)) ∙ judging_keeps (wanted conn) (progress_of conn) in
-    some_none one.2.0 (sym none ∙ one.2.1)
+    some_none one.2.0 (sym none ∙ one.2.1))
 
 -- so it goes on while it is judged, one move more
 goes_judged_more : (now : ℕ) → now < 2 ^ 62 → (tables : List ShardsState) (count : ℕ) (old middle new : List SeatState) (connection next after : Connection RefState) (moved : Moved) → is_judged next.progress.phase ≡ true → moved ≢ Kept

@@ -3,8 +3,14 @@
 ghost use Rattle.std.specs.Prelude.{◌≤◌};
 
 use clap::{Arg, ArgMatches, Command, Error, value_parser};
-use proxy::Plan;
 use std::alloc::{AllocError, Global};
+
+/// The options that name a time.
+pub const CONNECT: &str = "timeout-connect";
+
+pub const CLIENT: &str = "timeout-client";
+
+pub const SERVER: &str = "timeout-server";
 
 /// What `stickd check --help` says last.
 const CHECK_HELP: &str = "\
@@ -40,9 +46,10 @@ accepted or rejected by the section's rules, and relayed to its server. Commands
 'stickd replay --help' lists them, are answered on the socket, each on a line or parted
 by ';':
   echo 'show table' | socat stdio /run/stickd.sock
-Moments are the milliseconds since the start. With --stop-after, once N connections have
-ended, 'settled NAME: C calls, R references' is printed for each table whose record is
-what its callers were told; or 'unsettled NAME: S1' and its kin, and the status is 1.";
+A connection is closed once a peer has been silent for its TIME. Moments are the
+milliseconds since the start. With --stop-after, once N connections have ended, 'settled
+NAME: C calls, R references' is printed for each table whose record is what its callers
+were told; or 'unsettled NAME: S1' and its kin, and the status is 1.";
 
 /// `stickd check`.
 fn check_command<'a>(alloc: Global) -> Result<Command<'a>, AllocError> {
@@ -77,6 +84,31 @@ fn shards_option<'a>(alloc: Global) -> Arg<'a> {
         .help("In how many parts each table is kept, 1 to 64")
 }
 
+/// The option that says how long a server may take to accept a connection.
+fn connect_option<'a>(alloc: Global) -> Arg<'a> {
+    Arg::new(alloc, CONNECT)
+        .long(CONNECT)
+        .value_name("TIME")
+        .default_value("5s")
+        .help("How long a server may take to accept a connection, as 1500ms, 5s or 10m")
+}
+
+/// The option that says how long a client may be silent.
+fn client_option<'a>(alloc: Global) -> Arg<'a> {
+    Arg::new(alloc, CLIENT)
+        .long(CLIENT)
+        .value_name("TIME")
+        .help("How long a client may be silent [default: for ever]")
+}
+
+/// The option that says how long a server may be silent.
+fn server_option<'a>(alloc: Global) -> Arg<'a> {
+    Arg::new(alloc, SERVER)
+        .long(SERVER)
+        .value_name("TIME")
+        .help("How long a server may be silent [default: for ever]")
+}
+
 /// `stickd run`.
 fn run_command<'a>(alloc: Global) -> Result<Command<'a>, AllocError> {
     let file = Arg::new(alloc, "FILE")
@@ -92,7 +124,7 @@ fn run_command<'a>(alloc: Global) -> Result<Command<'a>, AllocError> {
         .value_name("N")
         .required(true)
         .value_parser(value_parser!(u32).range(1..=64))
-        .help("How many connections are served at a time, 1 to 64");
+        .help("How many threads serve connections, 1 to 64");
     let stop_after = Arg::new(alloc, "stop-after")
         .long("stop-after")
         .value_name("N")
@@ -104,6 +136,12 @@ fn run_command<'a>(alloc: Global) -> Result<Command<'a>, AllocError> {
         .value_parser(value_parser!(u32).range(1..))
         .default_value("65536")
         .help("How many calls of a part of a table are recorded before its record begins again");
+    let connections = Arg::new(alloc, "connections")
+        .long("connections")
+        .value_name("N")
+        .value_parser(value_parser!(u32).range(1..))
+        .default_value("10000")
+        .help("How many connections are open at once at most, on all threads together");
     Command::new(alloc, "run")
         .about("Run the proxy, and answer commands on a socket")
         .after_help(RUN_HELP)
@@ -111,6 +149,10 @@ fn run_command<'a>(alloc: Global) -> Result<Command<'a>, AllocError> {
         .arg(socket)?
         .arg(threads)?
         .arg(shards_option(alloc))?
+        .arg(connections)?
+        .arg(connect_option(alloc))?
+        .arg(client_option(alloc))?
+        .arg(server_option(alloc))?
         .arg(stop_after)?
         .arg(roll_at)
 }
@@ -134,19 +176,4 @@ pub fn read_shards(arguments: &ArgMatches<'_>) -> u32
     ensures few { result ≤ 64 }
 {
     arguments.get_one::<u32>("shards").unwrap_or(1).clamp(1, 64)
-}
-
-/// What `stickd run` is asked. That its numbers are in their ranges was seen as the command line was read.
-pub fn read_plan<'a>(arguments: &ArgMatches<'a>) -> Plan<'a>
-    ensures { (1 ≤ result.threads) × (result.threads ≤ 64) }
-{
-    Plan {
-        socket: arguments.get_str("socket").unwrap_or(""),
-        threads: arguments
-            .get_one::<u32>("threads")
-            .unwrap_or(1)
-            .clamp(1, 64),
-        stop_after: arguments.get_one::<u64>("stop-after"),
-        roll_at: u64::from(arguments.get_one::<u32>("roll-at").unwrap_or(65_536)),
-    }
 }

@@ -5,13 +5,15 @@ ghost use Rattle.std.specs.Prelude.{◌≤◌};
 
 mod command_line;
 mod configuration;
+mod run_plan;
 
 use byte_ports::{StreamSink, StreamSource};
 use clap::ArgMatches;
-use command_line::{read_command_line, read_plan, read_shards};
+use command_line::{read_command_line, read_shards};
 use configuration::{open_setup, read_file};
 use log::Log;
 use proxy::{ProxyRuntime, run_pooled};
+use run_plan::read_plan;
 use script::{FaultKind, ReplayFault, replay_script};
 use std::net::{Net, TcpListener, TcpStream};
 use std::process::ExitCode;
@@ -99,14 +101,19 @@ fn run_command<R: ProxyRuntime + RandomSource + Files + Input + Print + Eprint +
 ) -> io::Result<ExitCode> {
     let done = match matches.subcommand() {
         Some(("check", arguments)) => check(rt, arguments.get_str("FILE").unwrap_or(""))?,
-        Some(("run", arguments)) => serve(rt, arguments)?,
+        Some(("run", arguments)) => return serve(rt, arguments),
         Some((_, arguments)) => replay(rt, arguments.get_str("FILE"), read_shards(arguments))?,
         None => false,
     };
-    if done {
-        Ok(ExitCode::SUCCESS)
+    Ok(status_of(done))
+}
+
+/// The status of a command that was done, or wasn't.
+fn status_of(is_done: bool) -> ExitCode {
+    if is_done {
+        ExitCode::SUCCESS
     } else {
-        Ok(ExitCode::FAILURE)
+        ExitCode::FAILURE
     }
 }
 
@@ -148,12 +155,20 @@ fn replay<R: Files + Input + Print + Eprint + AllocGlobal>(
 fn serve<R: ProxyRuntime + RandomSource + Files + Print + Eprint + AllocGlobal>(
     rt: &R,
     arguments: &ArgMatches<'_>,
-) -> io::Result<bool> {
+) -> io::Result<ExitCode> {
+    let plan = match read_plan(arguments) {
+        Ok(plan) => plan,
+        Err(bad) => {
+            eprintln!(rt; "stickd: {bad}")?;
+            return Ok(ExitCode::from(BAD_COMMAND_LINE));
+        }
+    };
     let path = arguments.get_str("FILE");
     let Some(setup) = open_setup(rt, path, read_shards(arguments))? else {
-        return Ok(false);
+        return Ok(ExitCode::FAILURE);
     };
-    run_pooled(rt.alloc(), rt, &setup, read_plan(arguments))
+    let is_done = run_pooled(rt.alloc(), rt, &setup, plan)?;
+    Ok(status_of(is_done))
 }
 
 /// Says on standard error why the replay stopped.

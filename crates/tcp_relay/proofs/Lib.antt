@@ -1,2 +1,4 @@
-pub mod EndLemmas
+mod LeavingLemmas
+pub mod VisitorLemmas
+pub mod SeatingLemmas
 pub mod ServingLemmas

@@ -1,5 +1,5 @@
 -- Lists of seats and of references, one for each table.
-use Rattle.std.specs.Prelude.{◌≡◌, ℕ, ◌+◌, ◌≤◌, List, All, vec_len, vec_capacity}
+use Rattle.std.specs.Prelude.{◌≡◌, ℕ, zero, suc, ◌+◌, ◌≤◌, ◌++◌, ◌∷◌, [], List, Option, Some, None, All, map, vec_len, vec_capacity}
 use Rattle.std.specs.declared.vec.Vec.{Vec}
 
 -- a list has so many, and places for so many
@@ -17,3 +17,18 @@ HaveFew most places lists = All (λ list. (vec_len list ≤ most) × (places ≤
 -- each list has places for so many more
 abbrev pub HaveRoom : {X Z : Type 0} → ℕ → List (Vec X Z) → Type 0
 HaveRoom more lists = All (λ list. vec_len list + more ≤ vec_capacity list) lists
+
+-- what each list holds
+abbrev pub held_in : {X Z : Type 0} → List (Vec X Z) → List (List X)
+held_in lists = map (λ list. list.items) lists
+
+-- the lists of tables, with one more at the end of this table's
+unfoldable pub put_in : {X : Type 0} → ℕ → X → List (List X) → List (List X)
+put_in table more [] = []
+put_in zero more (held ∷ lists) = (held ++ more ∷ []) ∷ lists
+put_in (suc table) more (held ∷ lists) = held ∷ put_in table more lists
+
+-- the same, if there is one more, of the table that it names
+abbrev pub put_in_if : {X : Type 0} → Option (ℕ × X) → List (List X) → List (List X)
+put_in_if None lists = lists
+put_in_if (Some entry) lists = put_in entry.0 entry.1 lists

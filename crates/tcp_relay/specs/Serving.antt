@@ -6,7 +6,7 @@ use Rattle.rule_model.specs.declared.sections.Setup.{Setup}
 use Rattle.shard_seats.specs.SeatState.{SeatState}
 use Rattle.shard_locks.specs.ShardsState.{ShardsState}
 use Rattle.tcp_relay.specs.declared.served.FaultKind.{FaultKind}
-use Rattle.tcp_relay.specs.declared.served.FaultKind.TheVariants.{Accept, Thread, NoMemory}
+use Rattle.tcp_relay.specs.declared.served.FaultKind.TheVariants.{Waiting, Thread, NoMemory}
 use Rattle.tcp_relay.specs.declared.served.ServeFault.{ServeFault}
 use Rattle.tcp_relay.specs.declared.served.Served.{Served}
 
@@ -19,30 +19,30 @@ pub record AreTablesOf (setup : Setup) (tables : List ShardsState) : Type 0 wher
 abbrev pub AreSeats : {X Z Z' : Type 0} → ℕ → ℕ → Vec (Vec X Z) Z' → Type 0
 AreSeats tables threads seats = (length seats.items ≡ tables) × All (λ list. vec_len list ≡ threads) seats.items
 
--- for each of so many tables at most three references of each thread
-abbrev pub AreLeft : {X Z Z' : Type 0} → ℕ → ℕ → Vec (Vec X Z) Z' → Type 0
-AreLeft tables threads refs = (length refs.items ≡ tables) × All (λ list. vec_len list ≤ threads * 3) refs.items
+-- for each of so many tables at most three references of each connection, of which each thread held so many at most
+abbrev pub AreLeft : {X Z Z' : Type 0} → ℕ → ℕ → ℕ → Vec (Vec X Z) Z' → Type 0
+AreLeft tables threads most refs = (length refs.items ≡ tables) × All (λ list. vec_len list ≤ threads * (most * 3)) refs.items
 
--- all seats of so many tables and threads, and what those have left
-abbrev pub IsServed : ℕ → ℕ → Served → Type 0
-IsServed tables threads served = AreSeats tables threads served.seats × AreLeft tables threads served.refs
+-- all seats of so many tables and threads, and what their connections have left
+abbrev pub IsServed : ℕ → ℕ → ℕ → Served → Type 0
+IsServed tables threads most served = AreSeats tables threads served.seats × AreLeft tables threads most served.refs
 
 -- ---- faults
 
--- a thread that can't be started is told before a connection that can't be accepted
+-- a thread that can't be started is told before one that can't wait for connections
 abbrev pub IsCause : Bool → Bool → FaultKind → Type 0
 IsCause all_started has_failed Thread = all_started ≡ false
-IsCause all_started has_failed Accept = (all_started ≡ true) × (has_failed ≡ true)
+IsCause all_started has_failed Waiting = (all_started ≡ true) × (has_failed ≡ true)
 IsCause all_started has_failed NoMemory = ⊥
 
 -- nothing was served, and the seats are those that were given
 abbrev pub IsUnserved : Vec (Vec SeatState Global) Global → Served → Type 0
-IsUnserved seats served = (served.admitted ≡ 0) × (served.rejected ≡ 0) × (served.seats ≡ seats)
+IsUnserved seats served = (served.admitted ≡ 0) × (served.rejected ≡ 0) × (served.unaccepted ≡ 0) × (served.seats ≡ seats)
 
 -- without memory nothing was served; else all seats come back, and what the threads have left
-abbrev pub IsFaultOf : ℕ → ℕ → Vec (Vec SeatState Global) Global → FaultKind → Served → Type 0
-IsFaultOf tables threads seats NoMemory served = IsUnserved seats served
-IsFaultOf tables threads seats other served = IsServed tables threads served
+abbrev pub IsFaultOf : ℕ → ℕ → ℕ → Vec (Vec SeatState Global) Global → FaultKind → Served → Type 0
+IsFaultOf tables threads most seats NoMemory served = IsUnserved seats served
+IsFaultOf tables threads most seats other served = IsServed tables threads most served
 
-abbrev pub IsFault : ℕ → ℕ → Vec (Vec SeatState Global) Global → ServeFault → Type 0
-IsFault tables threads seats fault = IsFaultOf tables threads seats fault.kind fault.served
+abbrev pub IsFault : ℕ → ℕ → ℕ → Vec (Vec SeatState Global) Global → ServeFault → Type 0
+IsFault tables threads most seats fault = IsFaultOf tables threads most seats fault.kind fault.served

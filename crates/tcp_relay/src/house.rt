@@ -1,12 +1,13 @@
 //! What all workers share.
 
-ghost use Rattle.std.specs.Prelude.{◌≡◌, length};
+ghost use Rattle.std.specs.Prelude.{◌≡◌};
 ghost use Rattle.tcp_relay.specs.Serving.{AreTablesOf};
 
 use crate::door::Door;
-use crate::worker::Width;
+use crate::width::Width;
 use rule_model::Setup;
 use shard_locks::Shards;
+use socket_link::Timeouts;
 use std::alloc::Global;
 use std::marker::PhantomData;
 use std::net::{SocketAddr, TcpListener};
@@ -24,10 +25,11 @@ pub(crate) struct House<'a, T: Table, R, G, W: Width> {
     pub(crate) tables: &'a [Shards<T>],
     /// Where the server is.
     pub(crate) server: SocketAddr,
+    pub(crate) timeouts: Timeouts,
     pub(crate) gate: &'a G,
     /// The moment 0.
     pub(crate) start: Instant,
     pub(crate) of: PhantomData<W>,
     ghost are_tables: { AreTablesOf setup.now tables.now },
-    ghost width: { W.tables ≡ length tables.now },
+    ghost width: { W.tables ≡ tables.now },
 }

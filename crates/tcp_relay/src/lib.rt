@@ -6,21 +6,30 @@
 #![tactic(auto)]
 
 mod addresses;
+mod desk;
 mod door;
-mod ended;
 mod gate;
 mod gathering;
+mod gear;
 mod house;
+mod leaving;
+mod limits;
+mod places;
 mod room;
 mod runtime;
 mod seating;
 mod served;
 mod serving;
+mod turning;
 mod visiting;
+mod visitor;
+mod watch;
+mod width;
 mod worker;
 
 pub use addresses::socket_address;
 pub use gate::Gate;
+pub use limits::Limits;
 pub use runtime::ServeRuntime;
 pub use served::{FaultKind, ServeFault, Served};
 pub use serving::serve;

@@ -1,7 +1,7 @@
 //! Lists for each table: its seats, of which each worker takes one, and the references that come back.
 
 ghost use Rattle.std.specs.Prelude.{◌≡◌, ◌+◌, ◌≤◌, ◌<◌, ℕ, All, IfOk, length, slice_index, vec_capacity, vec_len};
-ghost use Rattle.tcp_relay.specs.Seating.{HaveEach, HaveFew, HaveRoom};
+ghost use Rattle.tcp_relay.specs.Seating.{HaveEach, HaveFew, HaveRoom, held_in, put_in};
 
 use sequence::NoMemory;
 use shard_seats::{Seat, TrackRef};
@@ -75,6 +75,7 @@ pub(crate) fn put_row(seats: &mut Vec<Vec<Seat>>, mut row: Vec<Seat>)
 pub(crate) fn put_aside(refs: &mut Vec<Vec<TrackRef>>, table: u32, reference: TrackRef)
     requires table { table < length refs.old.items }
     requires room { HaveRoom 1 refs.old.items }
+    ensures kept { held_in refs.new.items ≡ put_in table reference (held_in refs.old.items) }
     ensures tables { length refs.new.items ≡ length refs.old.items }
     ensures more { (most places : ℕ) → HaveFew most places refs.old.items → HaveFew (most + 1) places refs.new.items }
     ensures room { (spare : ℕ) → HaveRoom (spare + 1) refs.old.items → HaveRoom spare refs.new.items }

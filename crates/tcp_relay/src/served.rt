@@ -2,12 +2,13 @@
 
 use shard_seats::{Seat, TrackRef};
 
-/// What was served: how many connections were admitted and rejected, each count stopping at 2^64 - 1; the seats of each
-/// table, with their calls; and the references of each table that couldn't be given back. It can't be dropped, as references
-/// can't.
+/// What was served: how many connections were admitted, rejected, and not accepted as the system hadn't what that takes, each
+/// count stopping at 2^64 - 1; the seats of each table, with their calls; and the references of each table that couldn't be
+/// given back. It can't be dropped, as references can't.
 pub struct Served {
     pub admitted: u64,
     pub rejected: u64,
+    pub unaccepted: u64,
     pub seats: Vec<Vec<Seat>>,
     pub refs: Vec<Vec<TrackRef>>,
 }
@@ -15,8 +16,8 @@ pub struct Served {
 /// Why serving ended with a fault.
 #[derive(Clone, Copy, Debug, PartialEq, Eq)]
 pub enum FaultKind {
-    /// A connection couldn't be accepted.
-    Accept,
+    /// A thread couldn't wait for connections.
+    Waiting,
     /// A worker's thread couldn't be started.
     Thread,
     /// There was no memory for what serving needs. No worker was started.

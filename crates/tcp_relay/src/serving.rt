@@ -5,75 +5,67 @@ ghost use Rattle.tcp_relay.specs.Serving.{AreSeats, AreTablesOf, IsCause, IsFaul
 ghost use Rattle.tcp_relay.specs.declared.served.FaultKind.TheVariants.{NoMemory as MemoryFault};
 
 use crate::addresses::socket_address;
+use crate::desk::Desk;
 use crate::door::Door;
 use crate::gathering::{gather, seat_workers};
 use crate::house::House;
 use crate::room::{Room, reserve};
-use crate::visiting::visit;
-use crate::worker::{Width, Worker};
-use crate::{FaultKind, Gate, ServeFault, ServeRuntime, Served};
+use crate::turning::{Shift, turn_all};
+use crate::watch::Watch;
+use crate::width::Width;
+use crate::worker::Worker;
+use crate::{FaultKind, Gate, Limits, ServeFault, ServeRuntime, Served};
 use rule_model::Setup;
 use running_clock::RunningClock;
 use shard_locks::Shards;
 use shard_seats::Seat;
-use socket_relay::Desk;
 use std::alloc::Global;
 use std::marker::{Brand, PhantomData};
 use std::net::TcpListener;
 use std::thread;
-use std::thread::Scope;
 use std::time::Instant;
 use stick_table::Table;
 
-/// One worker's connections, one after the other: until the door's last number is drawn, a connection can't be accepted, or
-/// a reference can't be given back.
-fn serve_each<'s, E, T: Table, R: ServeRuntime, G: Gate, W: Width>(
-    house: &House<'s, T, R, G, W>,
-    scope: &Scope<'s, E>,
-    desk: &'s Desk,
-    worker: &mut Worker<W>,
+/// One worker's connections: until the door's last number is drawn and all its connections have ended, or it can't wait for
+/// them.
+fn serve_each<'a, T: Table, R: ServeRuntime, G: Gate, W: Width>(
+    house: &House<'a, T, R, G, W>,
+    worker: &mut Worker<'a, W>,
 ) {
-    let mut clock = RunningClock::new(house.rt, house.start);
-    for _connection in house.rt.forever() {
-        if worker.has_left() {
+    let (Some(mut gear), Ok(watch)) = (worker.gear.take(), Watch::new(house.rt, house.listener))
+    else {
+        worker.tally.has_failed = true;
+        return;
+    };
+    let mut shift = Shift {
+        watch,
+        desk: Desk::new(),
+        clock: RunningClock::new(house.rt, house.start),
+        looked: 0,
+    };
+    for _turn in house.rt.forever() {
+        shift.desk.draw(house.door, house.rt, worker.keeps);
+        if !shift.desk.is_ready() && worker.places.is_idle() {
             return;
         }
-        let Some(number) = house.door.draw(house.rt) else {
+        if !turn_all(house, worker, &mut shift, &mut gear) {
+            worker.tally.has_failed = true;
             return;
-        };
-        let Ok((client, peer)) = house.listener.accept() else {
-            worker.fail();
-            return;
-        };
-        let seats = worker.seats.as_mut_slice();
-        let ended = visit(house, scope, desk, &mut clock, seats, number, client, peer);
-        worker.note(ended);
+        }
     }
-}
-
-/// The same, with a desk for the worker's helper, which ends with it.
-fn serve_all<T: Table, R: ServeRuntime, G: Gate, W: Width>(
-    house: &House<'_, T, R, G, W>,
-    worker: &mut Worker<W>,
-) {
-    let desk = Desk::new();
-    let shared = &desk;
-    thread::scope(thread::scope_env(), house.rt, |scope| {
-        serve_each(house, scope, shared, worker);
-        shared.dismiss();
-    });
 }
 
 /// Starts a thread for each worker, and waits until all have ended. Answers whether all could be started; behind the first
 /// that can't, none is started.
-fn run_each<T: Table + Send, R: ServeRuntime, G: Gate + Sync, W: Width + Send + Sync>(
-    house: &House<'_, T, R, G, W>,
-    workers: &mut [Worker<W>],
+fn run_each<'a, T: Table + Send, R: ServeRuntime, G: Gate + Sync, W: Width + Send + Sync>(
+    house: &House<'a, T, R, G, W>,
+    workers: &mut [Worker<'a, W>],
 ) -> bool {
     thread::scope(thread::scope_env(), house.rt, |scope| {
         let mut all = true;
-        for worker in workers.iter_mut() {
-            let started = scope.spawn(move || serve_all(house, worker));
+        let each = workers.iter_mut();
+        for worker in each {
+            let started = scope.spawn(move || serve_each(house, worker));
             if started.is_err() {
                 all = false;
                 break;
@@ -84,17 +76,17 @@ fn run_each<T: Table + Send, R: ServeRuntime, G: Gate + Sync, W: Width + Send + 
 }
 
 /// The same. There are as many workers afterwards.
-fn run_all<T: Table + Send, R: ServeRuntime, G: Gate + Sync, W: Width + Send + Sync>(
-    house: &House<'_, T, R, G, W>,
-    workers: &mut Vec<Worker<W>>,
+fn run_all<'a, T: Table + Send, R: ServeRuntime, G: Gate + Sync, W: Width + Send + Sync>(
+    house: &House<'a, T, R, G, W>,
+    workers: &mut Vec<Worker<'a, W>>,
 ) -> bool
     ensures workers { vec_len workers.new ≡ vec_len workers.old }
 {
     run_each(house, workers.as_mut_slice())
 }
 
-/// What serving comes to: a fault where a thread couldn't be started, which is told first, or a connection couldn't be
-/// accepted.
+/// What serving comes to: a fault where a thread couldn't be started, which is told first, or couldn't wait for
+/// connections.
 fn told(served: Served, all_started: bool, has_failed: bool) -> Result<Served, ServeFault>
     ensures ok { IfOk result (λ kept. (kept ≡ served) × (all_started ≡ true) × (has_failed ≡ false)) }
     ensures fault { IfErr result (λ fault. (fault.served ≡ served) × IsCause all_started has_failed fault.kind) }
@@ -107,7 +99,7 @@ fn told(served: Served, all_started: bool, has_failed: bool) -> Result<Served, S
     }
     if has_failed {
         return Err(ServeFault {
-            kind: FaultKind::Accept,
+            kind: FaultKind::Waiting,
             served,
         });
     }
@@ -124,31 +116,36 @@ fn serve_wide<W: Width + Send + Sync, T: Table + Send, R: ServeRuntime, G: Gate 
     setup: &Setup,
     gate: &G,
     threads: u32,
+    limits: Limits,
     stop_after: Option<u64>,
     start: Instant,
 ) -> Result<Served, ServeFault>
-    requires width { W.tables ≡ length tables.now }
+    requires width { W.tables ≡ tables.now }
+    requires most { W.most ≡ limits.connections }
     requires server { is_some setup.now.server ≡ true }
     requires tables { AreTablesOf setup.now tables.now }
     requires seats { AreSeats (length tables.now) threads seats }
     requires threads { threads ≤ 64 }
-    ensures ok { IfOk result (λ served. IsServed (length tables.now) threads served) }
-    ensures err { IfErr result (λ fault. IsFault (length tables.now) threads seats fault) }
+    ensures ok { IfOk result (λ served. IsServed (length tables.now) threads limits.connections served) }
+    ensures err { IfErr result (λ fault. IsFault (length tables.now) threads limits.connections seats fault) }
 {
     let Some(server) = setup.server else {
         unreachable!();
     };
-    let Ok(room) = reserve::<W>(alloc, threads as usize, tables.len()) else {
+    let door = Door::new(stop_after);
+    let most = limits.connections as usize;
+    let Ok(room) = reserve::<W>(alloc, threads as usize, tables.len(), most) else {
         return Err(without_memory(alloc, seats));
     };
     let Room {
         mut workers,
+        gears,
         rows,
-        left,
+        visitors,
+        free,
         refs,
     } = room;
-    seat_workers(&mut seats, &mut workers, rows, left);
-    let door = Door::new(stop_after);
+    seat_workers(&mut seats, &mut workers, rows, visitors, free, gears, most);
     let house = House {
         alloc,
         rt,
@@ -157,6 +154,7 @@ fn serve_wide<W: Width + Send + Sync, T: Table + Send, R: ServeRuntime, G: Gate 
         setup,
         tables,
         server: socket_address(server),
+        timeouts: limits.timeouts,
         gate,
         start,
         of: PhantomData,
@@ -176,6 +174,7 @@ fn without_memory(alloc: Global, seats: Vec<Vec<Seat>>) -> ServeFault
         served: Served {
             admitted: 0,
             rejected: 0,
+            unaccepted: 0,
             seats,
             refs: Vec::new(alloc),
         },
@@ -183,14 +182,16 @@ fn without_memory(alloc: Global, seats: Vec<Vec<Seat>>) -> ServeFault
 }
 
 /// Serves the clients that connect to a listener, on so many threads, over the tables of a setup, each asked by the threads'
-/// seats of it. A thread has one connection at a time, which is judged by the rules, and then passes the gate; if it is
-/// admitted, its bytes go to the server and back until both directions have ended; it is counted, and gives its references
-/// back. Moments are ms from the start on. Before a connection is accepted its number is drawn, from 1 on; where serving stops
-/// after so many none above it is drawn, and each thread ends with its last connection. Without, it goes on for ever.
+/// seats of it. A thread waits for all its connections at once, and holds as many as the limits say. Each is judged by the
+/// rules, and then passes the gate; if it is admitted, its bytes go to the server and back until both directions have ended or
+/// a peer has been silent for too long; it is counted, and gives its references back. Moments are ms from the start on. Before a
+/// connection is accepted its number is drawn, from 1 on; where serving stops after so many none above it is drawn, and each
+/// thread ends with the last of its connections. Without, it goes on for ever.
 ///
-/// A connection that can't be accepted ends its thread, and a reference whose release is refused too: it stays held, and is
-/// handed back. All memory that the threads' lists need is taken before the first starts. Whatever comes of it, all seats
-/// come back, and the references that are still held.
+/// Where the system hasn't what a further connection takes, such as descriptors, that is counted, and tried again after a
+/// while. A reference whose release is refused stays held, and is handed back; its thread accepts no connection more. All memory
+/// that the threads' lists need is taken before the first starts. Whatever comes of it, all seats come back, and the references
+/// that are still held.
 pub fn serve<T: Table + Send, R: ServeRuntime, G: Gate + Sync>(
     alloc: Global,
     rt: &R,
@@ -200,6 +201,7 @@ pub fn serve<T: Table + Send, R: ServeRuntime, G: Gate + Sync>(
     setup: &Setup,
     gate: &G,
     threads: u32,
+    limits: Limits,
     stop_after: Option<u64>,
     start: Instant,
 ) -> Result<Served, ServeFault>
@@ -208,10 +210,10 @@ pub fn serve<T: Table + Send, R: ServeRuntime, G: Gate + Sync>(
     requires seats { AreSeats (length tables.now) threads seats }
     requires threads { (1 ≤ threads) × (threads ≤ 64) }
     // All seats come back, of each table as many as there are threads.
-    ensures ok { IfOk result (λ served. IsServed (length tables.now) threads served) }
-    ensures err { IfErr result (λ fault. IsFault (length tables.now) threads seats fault) }
+    ensures ok { IfOk result (λ served. IsServed (length tables.now) threads limits.connections served) }
+    ensures err { IfErr result (λ fault. IsFault (length tables.now) threads limits.connections seats fault) }
 {
     serve_wide::<Brand, T, R, G>(
-        alloc, rt, listener, tables, seats, setup, gate, threads, stop_after, start,
+        alloc, rt, listener, tables, seats, setup, gate, threads, limits, stop_after, start,
     )
 }

@@ -1,93 +1,94 @@
 //! One connection, from where it was accepted to the release of its references.
 
-ghost use Rattle.std.specs.Prelude.{◌≡◌, length};
-ghost use Rattle.shared_drive.specs.DriveCode.{IsReady};
-ghost use Rattle.tcp_relay.specs.Ends.{AreOf, bytes_of};
+ghost use Rattle.std.specs.Prelude.{◌≡◌, true, IfSome, Some, None, length, slice_get};
+ghost use Rattle.admit_core.specs.Conn.{needed, progress_of};
+ghost use Rattle.admit_core.specs.Connection.{closed_of};
+ghost use Rattle.admit_core.specs.declared.need.Need.TheVariants.{Rest};
+ghost use Rattle.tcp_relay.specs.Visitors.{IsVisitor};
 
 use crate::addresses::samples;
-use crate::ended::Ended;
 use crate::house::House;
-use crate::worker::Width;
+use crate::leaving::let_go;
+use crate::width::Width;
+use crate::worker::Worker;
 use crate::{Gate, ServeRuntime};
 use admit_core::Conn;
+use moments::Clock;
 use running_clock::RunningClock;
 use shard_seats::{Seat, TrackRef};
 use shared_visit::{arrive, finish, judge};
-use socket_relay::{Carried, Desk, Link};
-use std::net::{SocketAddr, TcpStream};
-use std::thread::Scope;
+use std::net::SocketAddr;
 use stick_table::Table;
 
-/// How many bytes came in and went out: those that were read of the client, and those that were written to it. None where
-/// nothing could be carried.
-fn count_bytes(carried: Option<Carried>) -> (u64, u64)
-    ensures { result ≡ bytes_of carried }
-{
-    match carried {
-        Some(carried) => (carried.there.read, carried.back.written),
-        None => (0, 0),
-    }
-}
-
-/// Carries an admitted connection to the server and back until both directions have ended, and closes it. Where the server
-/// can't be reached it is closed at once.
-fn carry<'s, E, T: Table, R: ServeRuntime, G, W: Width>(
-    house: &House<'s, T, R, G, W>,
-    scope: &Scope<'s, E>,
-    desk: &'s Desk,
-    client: TcpStream,
-) -> Option<Carried> {
-    // Bytes are sent on as they come. A socket that is gone can't be told so, and needs no telling.
-    let _ = client.set_nodelay(true);
-    let server = TcpStream::connect(house.rt, house.server).ok()?;
-    let _ = server.set_nodelay(true);
-    desk.carry_both(scope, house.rt, Link { client, server })
-}
-
-/// Serves a connection: it is judged by the rules, passes the gate, and is carried and closed if it was admitted; then its
-/// bytes are counted, and its references go back.
-pub(crate) fn visit<'s, E, T: Table, R: ServeRuntime, G: Gate, W: Width>(
-    house: &House<'s, T, R, G, W>,
-    scope: &Scope<'s, E>,
-    desk: &'s Desk,
-    clock: &mut RunningClock<'_, R>,
+/// Has a connection judged by the rules, and passes it through the gate. Whether it is admitted.
+pub(crate) fn judge_one<'a, T: Table, R: ServeRuntime, G: Gate, W: Width>(
+    house: &House<'a, T, R, G, W>,
     seats: &mut [Seat],
+    clock: &mut RunningClock<'_, R>,
     number: u64,
-    client: TcpStream,
     peer: SocketAddr,
-) -> Ended
-    requires seats { length seats.old ≡ W.tables }
-    ensures held { AreOf W.tables result.held }
+) -> (Conn<'a, TrackRef>, bool)
+    requires seats { length seats.old ≡ length W.tables }
+    ensures visitor { IsVisitor W.tables result.0 }
+    ensures rests { result.1 ≡ true → needed result.0 ≡ Rest }
 {
     let (alloc, rt, tables) = (house.alloc, house.rt, house.tables);
     let mut conn = arrive(house.setup, samples(house.setup, peer), tables, seats);
     let is_admitted = judge(alloc, rt, tables, seats, &mut conn, clock);
     house.gate.pass(number);
-    if !is_admitted {
-        drop(client);
-        return leave(house, clock, seats, conn, false);
-    }
-    let (bytes_in, bytes_out) = count_bytes(carry(house, scope, desk, client));
-    conn.close(bytes_in, bytes_out);
-    leave(house, clock, seats, conn, true)
+    (conn, is_admitted)
 }
 
-/// Ends a connection that was rejected or closed: what is left to be counted is counted, and its references go back.
-fn leave<T: Table, R: ServeRuntime, G, W: Width>(
-    house: &House<'_, T, R, G, W>,
-    clock: &mut RunningClock<'_, R>,
+/// Closes an admitted connection, after so many bytes came in and went out.
+pub(crate) fn closed<'a, W: Width>(
+    mut conn: Conn<'a, TrackRef>,
+    bytes_in: u64,
+    bytes_out: u64,
+) -> Conn<'a, TrackRef>
+    requires visitor { IsVisitor W.tables conn }
+    requires rests { needed conn ≡ Rest }
+    ensures closed { progress_of result ≡ closed_of (progress_of conn.entry) bytes_in bytes_out }
+    ensures visitor { IsVisitor W.tables result }
+{
+    conn.close(bytes_in, bytes_out);
+    conn
+}
+
+/// Ends a connection that was rejected or closed: what is left to be counted is counted, and its references go back. One whose
+/// references can't be given back still holds them, and is still there.
+fn leave<'a, T: Table, R: ServeRuntime, G, W: Width>(
+    house: &House<'a, T, R, G, W>,
     seats: &mut [Seat],
-    mut conn: Conn<'_, TrackRef>,
-    is_admitted: bool,
-) -> Ended
-    requires ready { IsReady house.now.tables.now seats.old conn }
-    ensures admitted { result.is_admitted ≡ is_admitted }
-    ensures held { AreOf W.tables result.held }
+    clock: &mut RunningClock<'_, R>,
+    mut conn: Conn<'a, TrackRef>,
+) -> Option<Conn<'a, TrackRef>>
+    requires seats { length seats.old ≡ length W.tables }
+    requires visitor { IsVisitor W.tables conn }
+    ensures visitor { IfSome result (IsVisitor W.tables) }
 {
     // A reference whose release is refused is still held.
     let _rested = finish(house.alloc, house.rt, house.tables, seats, &mut conn, clock);
-    Ended {
-        is_admitted,
-        held: conn.end(),
+    let_go(conn)
+}
+
+/// Ends the connection of a place that is claimed, and counts it.
+pub(crate) fn end_at<'a, T: Table, R: ServeRuntime, G, W: Width>(
+    house: &House<'a, T, R, G, W>,
+    worker: &mut Worker<'a, W>,
+    clock: &mut RunningClock<'_, R>,
+    place: usize,
+    conn: Conn<'a, TrackRef>,
+    is_admitted: bool,
+)
+    requires visitor { IsVisitor W.tables conn }
+    requires free { slice_get worker.old.places.visitors.items place ≡ Some None }
+{
+    worker.tally.count(is_admitted);
+    match leave(house, worker.seats.as_mut_slice(), clock, conn) {
+        None => worker.places.free(place),
+        Some(kept) => {
+            worker.keeps = true;
+            worker.places.put_kept(place, kept);
+        }
     }
 }

@@ -1,7 +1,6 @@
 use Rattle.std.proofs.Common.{◌∙◌, ap, sym, length, refl, Some}
 use Rattle.table_model.specs.declared.events.Event.TheVariants as events
 use Rattle.table_model.specs.declared.replies.Reply.TheVariants as replies
-use Rattle.rule_eval.specs.declared.wants.Answer.TheVariants as answers
 use Rattle.admit_core.specs.Connection.{gave}
 use Rattle.admit_core.specs.declared.need.Need.TheVariants as needs
 use Rattle.shared_drive.proofs.AskLemmas.{by_slot, moved_kept, moved_told, none_held, ready_heard, ready_kept, slot_within}

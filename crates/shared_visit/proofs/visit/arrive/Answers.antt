@@ -20,7 +20,7 @@ pub returns : goal.returns
 returns g c = record {
   stands = c.new.ensures.stands;
   ready = record {
-    living = (arrived c.args.setup.now c.args.samples, c.new.ensures.stands);
+    living = ∣ (arrived c.args.setup.now c.args.samples, c.new.ensures.stands) ∣₁;
     shared = subst (λ (s : Setup). AreShared s c.args.tables.now c.args.seats.now) (sym (setup_same c.new.result (arrived c.args.setup.now c.args.samples) c.new.ensures.stands)) c.requires.shared;
     held = subst (λ (p : Progress RefState). HoldsOf (length c.args.tables.now) p.held) (sym c.new.ensures.stands.progress) (nothing (length c.args.tables.now));
     given = c.new.ensures.given;

@@ -1,4 +1,4 @@
-use Rattle.std.proofs.Common.{◌≡◌, ◌+◌, sym, subst, arith, rules, length, vec_len}
+use Rattle.std.proofs.Common.{◌≡◌, ◌+◌, sym, subst, rules, length, vec_len}
 use Rattle.std.proofs.lemmas.List.Elements.{All-pop}
 use Rattle.tcp_relay.specs.Seating.{Has, HaveEach}
 use Rattle.tcp_relay.proofs.gathering.seat_workers.Goals as goal
@@ -6,13 +6,15 @@ use Rattle.tcp_relay.proofs.gathering.seat_workers.Goals as goal
 pub loop-places-preserved : goal.loop-places-preserved
 loop-places-preserved g c =
     let loop = c.loop-places in
-    let less : vec_len c.pop.new.self + 1 ≡ vec_len loop.left = c.in-Some.ensures.len in
+    let less : vec_len c.pop.new.self + 1 ≡ vec_len loop.visitors = c.in-Some.ensures.len in
     record {
       rows = search rules;
+      free = search rules;
+      gears = search rules;
       seated = search rules;
       room = search rules;
       tables = search rules;
       seats = c.take_row-row.ensures.fewer (vec_len c.pop.new.self) (length c.args.rows.items) (subst (λ n. HaveEach n (length c.args.rows.items) loop.seats.items) (sym less) loop.invariant.seats);
-      empty_rows = (All-pop (Has 0 g.W.Width.tables) loop.rows.items c.pop-in-Some.new.self.items c.pop-in-Some.result c.pop-in-Some.ensures.items loop.invariant.empty_rows).0;
-      empty_left = (All-pop (Has 0 3) loop.left.items c.pop.new.self.items c.pop.result c.pop.ensures.items loop.invariant.empty_left).0;
+      empty_rows = (All-pop (Has 0 (length g.W.Width.tables)) loop.rows.items c.pop-in-Some.new.self.items c.pop-in-Some.result c.pop-in-Some.ensures.items loop.invariant.empty_rows).0;
+      empty_visitors = (All-pop (Has 0 g.W.Width.most) loop.visitors.items c.pop.new.self.items c.pop.result c.pop.ensures.items loop.invariant.empty_visitors).0;
     }

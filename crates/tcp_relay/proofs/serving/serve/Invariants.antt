@@ -1,6 +1,5 @@
-use Rattle.std.proofs.Common.{length}
 use Rattle.tcp_relay.proofs.serving.serve.Given as goal
 
--- a worker has a seat of each table that is there
+-- the tables that are there, and as many connections of a worker as the limits say
 abbrev pub ghosts-serve_wide : goal.ghosts-serve_wide
-ghosts-serve_wide g a = record { tables = length a.tables.now }
+ghosts-serve_wide g a = record { tables = a.tables.now; most = a.limits.connections }

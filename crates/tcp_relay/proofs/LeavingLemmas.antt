@@ -1,0 +1,18 @@
+-- What connections leave, place by place.
+use Rattle.std.proofs.Common.{◌≡◌, ◌++◌, ◌∷◌, [], refl, ap, arith, List, Option, length, map}
+use Rattle.shard_seats.specs.SeatState.{RefState}
+use Rattle.admit_core.specs.declared.conn.Conn.{Conn}
+use Rattle.tcp_relay.specs.Visitors.{left_by_all, left_if}
+
+module _ {V : Type 0} (conn_of : V → Option (Conn RefState)) where
+  -- the last one first
+  pub left_last : (places : List V) (last : V) (lists : List (List RefState)) → left_by_all (map conn_of (places ++ last ∷ [])) lists ≡ left_by_all (map conn_of places) (left_if (conn_of last) lists)
+  unfolding left_by_all
+  left_last [] last lists = refl
+  left_last (place ∷ places) last lists = ap (left_if (conn_of place)) (left_last places last lists)
+
+  -- none leave nothing
+  pub left_none : (places : List V) (lists : List (List RefState)) → length places ≡ 0 → left_by_all (map conn_of places) lists ≡ lists
+  unfolding left_by_all
+  left_none [] lists none = refl
+  left_none (place ∷ places) lists none = absurd (omega (arith, none))

@@ -1,0 +1,48 @@
+//! What a worker is about to accept.
+
+use crate::door::Door;
+use std::sync::Wait;
+
+/// What a worker is about to accept.
+#[derive(Drop)]
+pub(crate) struct Desk {
+    /// The number of the next connection, if it is drawn.
+    number: Option<u64>,
+    /// Whether no number more is drawn.
+    is_closed: bool,
+    /// Whether connections may wait that weren't accepted as there was no place or no descriptor.
+    pub(crate) has_waiting: bool,
+}
+
+impl Desk {
+    /// Nothing is drawn yet.
+    pub(crate) fn new() -> Desk {
+        Desk {
+            number: None,
+            is_closed: false,
+            has_waiting: false,
+        }
+    }
+
+    /// Draws the number of the next connection, if that isn't done and there is one more. Where references are left that can't be
+    /// given back, none is drawn any more.
+    pub(crate) fn draw(&mut self, door: &Door, rt: &impl Wait, has_left: bool) {
+        if self.number.is_some() || self.is_closed {
+            return;
+        }
+        if !has_left {
+            self.number = door.draw(rt);
+        }
+        self.is_closed = self.number.is_none();
+    }
+
+    /// Whether there is a number for the next connection.
+    pub(crate) fn is_ready(&self) -> bool {
+        self.number.is_some()
+    }
+
+    /// Takes the number of the next connection: it is accepted.
+    pub(crate) fn take(&mut self) -> Option<u64> {
+        self.number.take()
+    }
+}

@@ -1,0 +1,116 @@
+//! What a connection still holds when it leaves.
+
+ghost use Rattle.std.specs.Prelude.{◌≡◌, ◌≤◌, ◌<◌, ◌+◌, ◌*◌, ℕ, false, IfNone, IfSome, None, length, map, option_map, vec_len};
+ghost use Rattle.rule_model.specs.declared.actions.Slot.TheVariants.{Sc0, Sc1, Sc2};
+ghost use Rattle.admit_core.specs.Conn.{progress_of};
+ghost use Rattle.admit_core.specs.Held.{held_at};
+ghost use Rattle.tcp_relay.specs.Seating.{HaveFew, HaveRoom, held_in, put_in_if};
+ghost use Rattle.tcp_relay.specs.Visitors.{left_by, left_by_all, left_if};
+
+use crate::seating::put_aside;
+use crate::visitor::Visitor;
+use crate::width::Width;
+use admit_core::Conn;
+use rule_model::Slot;
+use shard_seats::TrackRef;
+
+/// How many references a connection holds at most.
+pub(crate) const MOST_HELD: usize = 3;
+
+/// The number of a table, and a reference to an entry of it.
+type Entry = (u32, TrackRef);
+
+/// Whether a connection holds a reference.
+fn holds(conn: &Conn<'_, TrackRef>) -> bool
+    ensures sc0 { result ≡ false → held_at (progress_of conn.now).held Sc0 ≡ None }
+    ensures sc1 { result ≡ false → held_at (progress_of conn.now).held Sc1 ≡ None }
+    ensures sc2 { result ≡ false → held_at (progress_of conn.now).held Sc2 ≡ None }
+{
+    conn.held(Slot::Sc0).is_some()
+        || conn.held(Slot::Sc1).is_some()
+        || conn.held(Slot::Sc2).is_some()
+}
+
+/// Lets a connection go that holds nothing. One that holds a reference is still there.
+pub(crate) fn let_go<'a>(conn: Conn<'a, TrackRef>) -> Option<Conn<'a, TrackRef>>
+    ensures kept { IfSome result (λ kept. kept ≡ conn.entry) }
+    ensures sc0 { IfNone result (held_at (progress_of conn.entry).held Sc0 ≡ None) }
+    ensures sc1 { IfNone result (held_at (progress_of conn.entry).held Sc1 ≡ None) }
+    ensures sc2 { IfNone result (held_at (progress_of conn.entry).held Sc2 ≡ None) }
+{
+    if holds(&conn) {
+        return Some(conn);
+    }
+    match conn.end() {
+        (None, None, None) => None,
+        (_first, _second, _third) => unreachable!(),
+    }
+}
+
+/// Puts a reference, if there is one, to the others of its table.
+fn put_held(refs: &mut Vec<Vec<TrackRef>>, held: Option<Entry>)
+    requires table { IfSome held (λ entry. entry.0 < length refs.old.items) }
+    requires room { HaveRoom 1 refs.old.items }
+    ensures kept { held_in refs.new.items ≡ put_in_if held (held_in refs.old.items) }
+    ensures tables { length refs.new.items ≡ length refs.old.items }
+    ensures more { (most places : ℕ) → HaveFew most places refs.old.items → HaveFew (most + 1) places refs.new.items }
+    ensures room { (spare : ℕ) → HaveRoom (spare + 1) refs.old.items → HaveRoom spare refs.new.items }
+{
+    match held {
+        Some((table, reference)) => put_aside(refs, table, reference),
+        None => {}
+    }
+}
+
+/// Puts the references that a connection still holds to the others of their tables, and closes its sockets.
+fn put_visitor<W: Width>(refs: &mut Vec<Vec<TrackRef>>, visitor: Visitor<'_, W>)
+    requires tables { length refs.old.items ≡ length W.tables }
+    requires room { HaveRoom 3 refs.old.items }
+    ensures kept { held_in refs.new.items ≡ left_by visitor.entry.conn (held_in refs.old.items) }
+    ensures tables { length refs.new.items ≡ length refs.old.items }
+    ensures more { (most places : ℕ) → HaveFew most places refs.old.items → HaveFew (most + 3) places refs.new.items }
+    ensures room { (spare : ℕ) → HaveRoom (spare + 3) refs.old.items → HaveRoom spare refs.new.items }
+{
+    let Visitor {
+        conn,
+        link: _link,
+        of: _,
+    } = visitor;
+    let (first, second, third) = conn.end();
+    put_held(refs, first);
+    put_held(refs, second);
+    put_held(refs, third);
+}
+
+/// The same of a place, in which there may be none.
+fn put_place<W: Width>(refs: &mut Vec<Vec<TrackRef>>, place: Option<Visitor<'_, W>>)
+    requires tables { length refs.old.items ≡ length W.tables }
+    requires room { HaveRoom 3 refs.old.items }
+    ensures kept { held_in refs.new.items ≡ left_if (option_map (λ visitor. visitor.conn) place.entry) (held_in refs.old.items) }
+    ensures tables { length refs.new.items ≡ length refs.old.items }
+    ensures more { (most places : ℕ) → HaveFew most places refs.old.items → HaveFew (most + 3) places refs.new.items }
+    ensures room { (spare : ℕ) → HaveRoom (spare + 3) refs.old.items → HaveRoom spare refs.new.items }
+{
+    match place {
+        Some(visitor) => put_visitor(refs, visitor),
+        None => {}
+    }
+}
+
+/// Puts the references that connections still hold to the others of their tables.
+pub(crate) fn put_visitors<W: Width>(
+    refs: &mut Vec<Vec<TrackRef>>,
+    mut visitors: Vec<Option<Visitor<'_, W>>>,
+)
+    requires few { vec_len visitors ≤ W.most }
+    requires tables { length refs.old.items ≡ length W.tables }
+    requires room { HaveRoom (W.most * 3) refs.old.items }
+    ensures kept { held_in refs.new.items ≡ left_by_all (map (option_map (λ visitor. visitor.conn)) visitors.entry.items) (held_in refs.old.items) }
+    ensures tables { length refs.new.items ≡ length refs.old.items }
+    ensures more { (most places : ℕ) → HaveFew most places refs.old.items → HaveFew (most + W.most * 3) places refs.new.items }
+{
+    while let Some(place) = visitors.pop() {
+        put_place(refs, place);
+    }
+    visitors.destroy_empty();
+}

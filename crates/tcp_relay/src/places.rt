@@ -1,0 +1,214 @@
+//! The connections that a worker holds.
+
+ghost use Rattle.std.specs.Prelude.{◌≡◌, ◌≤◌, IfSome, None, Some, slice_get, vec_capacity, vec_len};
+ghost use Rattle.admit_core.specs.Conn.{needed};
+ghost use Rattle.admit_core.specs.declared.need.Need.TheVariants.{Rest};
+ghost use Rattle.tcp_relay.specs.Visitors.{IsVisitor};
+
+use crate::visitor::Visitor;
+use crate::width::Width;
+use admit_core::Conn;
+use mio::Registry;
+use shard_seats::TrackRef;
+use socket_link::{Buffer, Link, Ready, Timeouts};
+use std::mem;
+
+/// The connections that a worker holds, by the numbers of their places: what is reported of a socket names its place. A
+/// connection whose references can't be given back keeps its place, so that no memory is needed for them.
+pub(crate) struct Places<'a, W: Width> {
+    visitors: Vec<Option<Visitor<'a, W>>>,
+    /// Places that are free again.
+    free: Vec<usize>,
+    /// How many places there are at most.
+    most: usize,
+    /// How many connections are open.
+    open: usize,
+    ghost limit: { most ≡ W.most },
+    ghost few: { vec_len visitors ≤ W.most },
+    ghost room: { W.most ≤ vec_capacity visitors },
+}
+
+impl<'a, W: Width> Places<'a, W> {
+    /// No connection, and so many places at most.
+    pub(crate) fn new(
+        visitors: Vec<Option<Visitor<'a, W>>>,
+        free: Vec<usize>,
+        most: usize,
+    ) -> Places<'a, W>
+        requires most { most ≡ W.most }
+        requires empty { vec_len visitors ≡ 0 }
+        requires room { most ≤ vec_capacity visitors }
+    {
+        Places {
+            visitors,
+            free,
+            most,
+            open: 0,
+        }
+    }
+
+    /// How many connections are open.
+    pub(crate) fn open(&self) -> usize {
+        self.open
+    }
+
+    /// Whether no connection is open.
+    pub(crate) fn is_idle(&self) -> bool {
+        self.open == 0
+    }
+
+    /// How many places have been in use.
+    pub(crate) fn count(&self) -> usize {
+        self.visitors.as_slice().len()
+    }
+
+    /// A place for one more connection. None where all are taken.
+    pub(crate) fn claim(&mut self) -> Option<usize>
+        ensures free { IfSome result (λ place. slice_get self.new.visitors.items place ≡ Some None) }
+    {
+        match self.free.pop() {
+            Some(place) => self.if_free(place),
+            None => self.claim_new(),
+        }
+    }
+
+    /// This place, if it is free.
+    fn if_free(&self, place: usize) -> Option<usize>
+        ensures free { IfSome result (λ free. slice_get self.now.visitors.items free ≡ Some None) }
+    {
+        match self.visitors.get(place) {
+            Some(None) => Some(place),
+            _ => None,
+        }
+    }
+
+    /// A place that was never in use.
+    fn claim_new(&mut self) -> Option<usize>
+        ensures free { IfSome result (λ place. slice_get self.new.visitors.items place ≡ Some None) }
+    {
+        let place = self.visitors.as_slice().len();
+        if place >= self.most {
+            return None;
+        }
+        self.visitors.push_reserved(None);
+        Some(place)
+    }
+
+    /// Frees a place that was claimed and isn't in use.
+    pub(crate) fn free(&mut self, place: usize) {
+        // There is room for all places. One that couldn't be noted would be lost.
+        let _ = self.free.push(place);
+    }
+
+    /// Puts a connection in its place.
+    fn put(&mut self, place: usize, visitor: Visitor<'a, W>)
+        requires free { slice_get self.old.visitors.items place ≡ Some None }
+    {
+        let slot = &mut self.visitors[place];
+        match mem::replace(slot, Some(visitor)) {
+            None => {}
+            Some(_old) => unreachable!(),
+        }
+    }
+
+    /// Puts a connection that is open in its place.
+    pub(crate) fn put_open(&mut self, place: usize, conn: Conn<'a, TrackRef>, link: Link)
+        requires free { slice_get self.old.visitors.items place ≡ Some None }
+        requires visitor { IsVisitor W.tables conn }
+        requires rests { needed conn ≡ Rest }
+    {
+        self.open = self.open.saturating_add(1);
+        self.put(place, Visitor::open(conn, link));
+    }
+
+    /// Puts a connection that still holds references in its place.
+    pub(crate) fn put_kept(&mut self, place: usize, conn: Conn<'a, TrackRef>)
+        requires free { slice_get self.old.visitors.items place ≡ Some None }
+        requires visitor { IsVisitor W.tables conn }
+    {
+        self.put(place, Visitor::kept(conn));
+    }
+
+    /// Gives the connection in a place its turn, of which a socket is ready. Whether it is over now.
+    pub(crate) fn turn(
+        &mut self,
+        registry: &Registry,
+        ready: Ready,
+        moment: u64,
+        buffer: &mut Buffer,
+    ) -> bool {
+        turn_at(
+            self.visitors.as_mut_slice(),
+            registry,
+            ready,
+            moment,
+            buffer,
+        )
+    }
+
+    /// Whether the connection in a place is open, and a peer of it has been silent for longer than it may, at a moment in ms.
+    pub(crate) fn is_late(&mut self, place: usize, moment: u64, timeouts: &Timeouts) -> bool {
+        is_late_at(self.visitors.as_mut_slice(), place, moment, timeouts)
+    }
+
+    /// Takes the connection in a place, if it is open. The place stays claimed.
+    pub(crate) fn take(&mut self, place: usize) -> Option<(Conn<'a, TrackRef>, Link)>
+        ensures free { IfSome result (λ _. slice_get self.new.visitors.items place ≡ Some None) }
+        ensures visitor { IfSome result (λ taken. IsVisitor W.tables taken.0) }
+        ensures rests { IfSome result (λ taken. needed taken.0 ≡ Rest) }
+    {
+        let slot = self.visitors.get_mut(place)?;
+        let visitor = slot.take()?;
+        match visitor.parts() {
+            Ok((conn, link)) => {
+                self.open = self.open.saturating_sub(1);
+                Some((conn, link))
+            }
+            Err(kept) => {
+                self.put(place, kept);
+                None
+            }
+        }
+    }
+
+    /// All connections that are left.
+    pub(crate) fn into_visitors(self) -> Vec<Option<Visitor<'a, W>>>
+        ensures all { result ≡ self.entry.visitors }
+        ensures few { vec_len result ≤ W.most }
+    {
+        let Places {
+            visitors,
+            free: _,
+            most: _,
+            open: _,
+        } = self;
+        visitors
+    }
+}
+
+/// Gives the connection in a place its turn. Whether it is over now.
+fn turn_at<W: Width>(
+    visitors: &mut [Option<Visitor<'_, W>>],
+    registry: &Registry,
+    ready: Ready,
+    moment: u64,
+    buffer: &mut Buffer,
+) -> bool {
+    match visitors.get_mut(ready.number) {
+        Some(Some(visitor)) => visitor.turn(registry, ready, moment, buffer),
+        _ => false,
+    }
+}
+
+/// Whether the connection in a place is late.
+fn is_late_at<W: Width>(
+    visitors: &mut [Option<Visitor<'_, W>>],
+    place: usize,
+    moment: u64,
+    timeouts: &Timeouts,
+) -> bool {
+    match visitors.get_mut(place) {
+        Some(Some(visitor)) => visitor.is_late(moment, timeouts),
+        _ => false,
+    }
+}

@@ -1,0 +1,249 @@
+//! A worker's connections, each in its turn.
+
+ghost use Rattle.std.specs.Prelude.{◌≡◌, Some, None, slice_get};
+
+use crate::desk::Desk;
+use crate::gear::Gear;
+use crate::house::House;
+use crate::visiting::{closed, end_at, judge_one};
+use crate::watch::{LISTENER, TICK, Watch};
+use crate::width::Width;
+use crate::worker::Worker;
+use crate::{Gate, ServeRuntime};
+use mio::net;
+use moments::Clock;
+use running_clock::RunningClock;
+use socket_link::{Buffer, Link, Ready, reset};
+use std::io::ErrorKind;
+use std::net::{SocketAddr, TcpStream};
+use stick_table::Table;
+
+/// How many connections are accepted before others get their turn.
+const ACCEPTS: u32 = 16;
+
+/// A worker at its work: what it waits for, and by which clock.
+#[derive(Drop)]
+pub(crate) struct Shift<'r, R> {
+    pub(crate) watch: Watch,
+    pub(crate) desk: Desk,
+    pub(crate) clock: RunningClock<'r, R>,
+    /// When it last looked for connections that are silent, in ms.
+    pub(crate) looked: u64,
+}
+
+/// Takes a client in: it is judged, and carried to the server if it is admitted.
+fn take_in<'a, T: Table, R: ServeRuntime, G: Gate, W: Width>(
+    house: &House<'a, T, R, G, W>,
+    worker: &mut Worker<'a, W>,
+    shift: &mut Shift<'_, R>,
+    buffer: &mut Buffer,
+    number: u64,
+    place: usize,
+    client: TcpStream,
+    peer: SocketAddr,
+)
+    requires free { slice_get worker.old.places.visitors.items place ≡ Some None }
+{
+    let seats = worker.seats.as_mut_slice();
+    let (conn, is_admitted) = judge_one(house, seats, &mut shift.clock, number, peer);
+    if !is_admitted {
+        reset(house.rt, net::TcpStream::from_std(client));
+        end_at(house, worker, &mut shift.clock, place, conn, false);
+        return;
+    }
+    let moment = shift.clock.now();
+    match begin(house, shift, buffer, place, client, moment) {
+        Ok(link) => worker.places.put_open(place, conn, link),
+        Err((bytes_in, bytes_out)) => {
+            let conn = closed::<W>(conn, bytes_in, bytes_out);
+            end_at(house, worker, &mut shift.clock, place, conn, true);
+        }
+    }
+}
+
+/// Connects an admitted client to its server, and moves what is there already. Where that is over at once, how many
+/// bytes came in and went out.
+fn begin<T: Table, R: ServeRuntime, G, W: Width>(
+    house: &House<'_, T, R, G, W>,
+    shift: &Shift<'_, R>,
+    buffer: &mut Buffer,
+    place: usize,
+    client: TcpStream,
+    moment: u64,
+) -> Result<Link, (u64, u64)> {
+    // Only now: a rejected client needs it not.
+    if client.set_nonblocking(true).is_err() {
+        return Err((0, 0));
+    }
+    let client = net::TcpStream::from_std(client);
+    let Some(mut link) = Link::open(house.rt, house.alloc, client, house.server, moment) else {
+        return Err((0, 0));
+    };
+    if link.start(shift.watch.registry(), place, moment, buffer) {
+        Ok(link)
+    } else {
+        Err(link.bytes())
+    }
+}
+
+/// Ends the connection in a place, if it is open there.
+fn close<'a, T: Table, R: ServeRuntime, G, W: Width>(
+    house: &House<'a, T, R, G, W>,
+    worker: &mut Worker<'a, W>,
+    clock: &mut RunningClock<'_, R>,
+    place: usize,
+) {
+    let Some((conn, link)) = worker.places.take(place) else {
+        return;
+    };
+    let (bytes_in, bytes_out) = link.bytes();
+    drop(link);
+    let conn = closed::<W>(conn, bytes_in, bytes_out);
+    end_at(house, worker, clock, place, conn, true);
+}
+
+/// What accepting a connection came to.
+enum Accepted {
+    /// It was taken in.
+    TakenIn,
+    /// There is none now, or no number for one.
+    NoMore,
+    /// It waits, for a place or until the system has what it takes.
+    Waits,
+}
+
+/// Accepts the next connection, if there is one and it has a number and a place.
+fn accept_one<'a, T: Table, R: ServeRuntime, G: Gate, W: Width>(
+    house: &House<'a, T, R, G, W>,
+    worker: &mut Worker<'a, W>,
+    shift: &mut Shift<'_, R>,
+    buffer: &mut Buffer,
+) -> Accepted {
+    shift.desk.draw(house.door, house.rt, worker.keeps);
+    if !shift.desk.is_ready() {
+        return Accepted::NoMore;
+    }
+    let Some(place) = worker.places.claim() else {
+        return Accepted::Waits;
+    };
+    let (client, peer) = match house.listener.accept() {
+        Ok(accepted) => accepted,
+        Err(error) => {
+            worker.places.free(place);
+            return unaccepted(worker, error.kind());
+        }
+    };
+    let Some(number) = shift.desk.take() else {
+        return Accepted::NoMore;
+    };
+    take_in(house, worker, shift, buffer, number, place, client, peer);
+    Accepted::TakenIn
+}
+
+/// What an error of accepting comes to. A connection that its client gave up meanwhile is no fault of anybody's.
+fn unaccepted<W: Width>(worker: &mut Worker<'_, W>, kind: ErrorKind) -> Accepted {
+    match kind {
+        ErrorKind::WouldBlock => Accepted::NoMore,
+        ErrorKind::ConnectionAborted | ErrorKind::Interrupted => Accepted::TakenIn,
+        _ => {
+            worker.tally.count_unaccepted();
+            Accepted::Waits
+        }
+    }
+}
+
+/// Accepts what connections there are, and then has the listener reported again where there may be more.
+fn accept_some<'a, T: Table, R: ServeRuntime, G: Gate, W: Width>(
+    house: &House<'a, T, R, G, W>,
+    worker: &mut Worker<'a, W>,
+    shift: &mut Shift<'_, R>,
+    buffer: &mut Buffer,
+) {
+    shift.desk.has_waiting = false;
+    for _connection in 0..ACCEPTS {
+        match accept_one(house, worker, shift, buffer) {
+            Accepted::TakenIn => {}
+            Accepted::NoMore => return,
+            Accepted::Waits => {
+                shift.desk.has_waiting = true;
+                return;
+            }
+        }
+    }
+    let _ = shift.watch.again();
+}
+
+/// Gives a connection its turn, of which a socket is ready.
+fn turn<'a, T: Table, R: ServeRuntime, G, W: Width>(
+    house: &House<'a, T, R, G, W>,
+    worker: &mut Worker<'a, W>,
+    shift: &mut Shift<'_, R>,
+    buffer: &mut Buffer,
+    ready: Ready,
+    moment: u64,
+) {
+    let registry = shift.watch.registry();
+    if worker.places.turn(registry, ready, moment, buffer) {
+        close(house, worker, &mut shift.clock, ready.number);
+    }
+}
+
+/// Closes the connections of which a peer has been silent for too long, at a moment in ms.
+fn close_silent<'a, T: Table, R: ServeRuntime, G, W: Width>(
+    house: &House<'a, T, R, G, W>,
+    worker: &mut Worker<'a, W>,
+    clock: &mut RunningClock<'_, R>,
+    moment: u64,
+) {
+    for place in 0..worker.places.count() {
+        if worker.places.is_late(place, moment, &house.timeouts) {
+            close(house, worker, clock, place);
+        }
+    }
+}
+
+/// Waits until something is ready, and gives each its turn. False where waiting failed.
+pub(crate) fn turn_all<'a, T: Table, R: ServeRuntime, G: Gate, W: Width>(
+    house: &House<'a, T, R, G, W>,
+    worker: &mut Worker<'a, W>,
+    shift: &mut Shift<'_, R>,
+    gear: &mut Gear,
+) -> bool {
+    let has_to_look = !worker.places.is_idle() || shift.desk.has_waiting;
+    let Gear { events, buffer } = gear;
+    if shift.watch.wait(events, has_to_look).is_err() {
+        return false;
+    }
+    let moment = shift.clock.now();
+    let open = worker.places.open();
+    for event in events.iter() {
+        if event.token() == LISTENER {
+            accept_some(house, worker, shift, buffer);
+        } else {
+            turn(house, worker, shift, buffer, Ready::of(event), moment);
+        }
+    }
+    // One that has ended has left its place and its descriptors.
+    if shift.desk.has_waiting && worker.places.open() < open {
+        let _ = shift.watch.again();
+    }
+    look_after(house, worker, shift, moment);
+    true
+}
+
+/// Looks after connections that are silent, and those that wait to be accepted, once a tick has passed.
+fn look_after<'a, T: Table, R: ServeRuntime, G, W: Width>(
+    house: &House<'a, T, R, G, W>,
+    worker: &mut Worker<'a, W>,
+    shift: &mut Shift<'_, R>,
+    moment: u64,
+) {
+    if moment.saturating_sub(shift.looked) < TICK {
+        return;
+    }
+    shift.looked = moment;
+    close_silent(house, worker, &mut shift.clock, moment);
+    if shift.desk.has_waiting {
+        let _ = shift.watch.again();
+    }
+}

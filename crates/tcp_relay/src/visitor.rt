@@ -1,0 +1,82 @@
+//! A connection that a worker holds.
+
+ghost use Rattle.std.specs.Prelude.{◌≡◌, true, is_some, IfOk};
+ghost use Rattle.admit_core.specs.Conn.{needed};
+ghost use Rattle.admit_core.specs.declared.need.Need.TheVariants.{Rest};
+ghost use Rattle.tcp_relay.specs.Visitors.{IsVisitor};
+
+use crate::width::Width;
+use admit_core::Conn;
+use mio::Registry;
+use shard_seats::TrackRef;
+use socket_link::{Buffer, Link, Ready, Timeouts};
+use std::marker::PhantomData;
+
+/// A connection that a worker holds: its sockets as long as it is open; without them, it holds references of which a release
+/// was refused.
+pub(crate) struct Visitor<'a, W: Width> {
+    pub(crate) conn: Conn<'a, TrackRef>,
+    pub(crate) link: Option<Link>,
+    pub(crate) of: PhantomData<W>,
+    ghost is: { IsVisitor W.tables conn },
+    ghost rests: { is_some link ≡ true → needed conn ≡ Rest },
+}
+
+impl<'a, W: Width> Visitor<'a, W> {
+    /// A connection that is open.
+    pub(crate) fn open(conn: Conn<'a, TrackRef>, link: Link) -> Visitor<'a, W>
+        requires visitor { IsVisitor W.tables conn }
+        requires rests { needed conn ≡ Rest }
+    {
+        Visitor {
+            conn,
+            link: Some(link),
+            of: PhantomData,
+        }
+    }
+
+    /// A connection that still holds references once it is closed.
+    pub(crate) fn kept(conn: Conn<'a, TrackRef>) -> Visitor<'a, W>
+        requires visitor { IsVisitor W.tables conn }
+    {
+        Visitor {
+            conn,
+            link: None,
+            of: PhantomData,
+        }
+    }
+
+    /// The connection and its sockets, where it is open; else itself.
+    pub(crate) fn parts(self) -> Result<(Conn<'a, TrackRef>, Link), Visitor<'a, W>>
+        ensures visitor { IfOk result (λ parts. IsVisitor W.tables parts.0) }
+        ensures rests { IfOk result (λ parts. needed parts.0 ≡ Rest) }
+    {
+        let Visitor { conn, link, of: _ } = self;
+        match link {
+            Some(link) => Ok((conn, link)),
+            None => Err(Visitor::kept(conn)),
+        }
+    }
+
+    /// Gives it its turn, as a socket of it is ready. Whether it is over now.
+    pub(crate) fn turn(
+        &mut self,
+        registry: &Registry,
+        ready: Ready,
+        moment: u64,
+        buffer: &mut Buffer,
+    ) -> bool {
+        match &mut self.link {
+            Some(link) => !link.turn(registry, ready, moment, buffer),
+            None => false,
+        }
+    }
+
+    /// Whether it is open, and a peer of it has been silent for longer than it may, at a moment in ms.
+    pub(crate) fn is_late(&mut self, moment: u64, timeouts: &Timeouts) -> bool {
+        match &mut self.link {
+            Some(link) => link.is_late(moment, timeouts),
+            None => false,
+        }
+    }
+}
