@@ -33,10 +33,16 @@ for _ in range(100):
         break
     except OSError:
         time.sleep(0.1)
-clients = [socket.create_connection(('127.0.0.1', 8480)) for _ in range(3)]
-for number, client in enumerate(clients, 1):
-    client.settimeout(5)
-    print(f'client {number}:', client.recv(100).decode().strip() or 'turned away')
+clients = []
+for number in (1, 2, 3):
+    # One that is turned away is reset, be it before it knows that it is connected.
+    try:
+        clients.append(socket.create_connection(('127.0.0.1', 8480), 5))
+        print(f'client {number}:', clients[-1].recv(100).decode().strip())
+    except ConnectionResetError:
+        print(f'client {number}: turned away')
+# The third is told before its reference goes back.
+time.sleep(0.1)
 commands.sendall(b'show table www\n')
 commands.shutdown(socket.SHUT_WR)
 print(commands.makefile().read().strip())
