@@ -165,10 +165,12 @@ impl Lead {
         false
     }
 
+    /// How many bytes came in and went out.
     pub fn bytes(&self) -> (u64, u64) {
         self.link.bytes()
     }
 
+    /// Whether a peer has been silent for as long as it may, or longer, at a moment in ms.
     pub fn is_late(&mut self, moment: u64, timeouts: &Timeouts) -> bool {
         self.link.is_late(moment, timeouts)
     }
