@@ -8,6 +8,7 @@ use gathered_writes::{FlushingSource, GatheringSink, SharedSink, flush_shared};
 use moments::Clock;
 use shard_book::Keeper;
 use std::cell::RefCell;
+use std::io::ErrorKind;
 use std::os::unix::net::{UnixListener, UnixStream};
 use std::sync::Wait;
 use std::sync::atomic::{AtomicBool, Ordering};
@@ -45,9 +46,10 @@ fn serve_stream<K: Keeper, C: Clock>(service: &mut CommandService<K, C>, stream:
 }
 
 /// Serves the clients of a socket, one after the other, until `stop` is set; it is looked at when a client has connected,
-/// who then isn't served, and behind each client: set it, and then `wake` the socket. Of each client all lines are
-/// answered until it ends, where HAProxy closes behind the first. One that fails ends its own turn alone. Where no client
-/// can be accepted, as for want of file descriptors, that is counted, and the next try comes 10 ms later.
+/// who then isn't served, behind each client, and where none came for as long as accepting waits: set it, and then `wake` the
+/// socket, so that it is seen at once. Of each client all lines are answered until it ends, where HAProxy closes behind the first.
+/// One that fails ends its own turn alone. Where no client can be accepted, as for want of file descriptors, that is counted, and
+/// the next try comes 10 ms later.
 pub fn serve_clients<K: Keeper, C: Clock, R: Wait + time::Clock>(
     rt: &R,
     listener: &UnixListener,
@@ -67,10 +69,14 @@ pub fn serve_clients<K: Keeper, C: Clock, R: Wait + time::Clock>(
         if stop.load(Ordering::SeqCst) {
             return served;
         }
-        let Ok((stream, _address)) = accepted else {
-            served.note_unaccepted();
-            thread::sleep(rt, Duration::from_millis(10));
-            continue;
+        let stream = match accepted {
+            Ok((stream, _address)) => stream,
+            Err(reason) if reason.kind() == ErrorKind::WouldBlock => continue,
+            Err(_reason) => {
+                served.note_unaccepted();
+                thread::sleep(rt, Duration::from_millis(10));
+                continue;
+            }
         };
         served.note_client(serve_stream(service, &stream));
         if stop.load(Ordering::SeqCst) {

@@ -47,6 +47,28 @@ impl Attendant {
     }
 }
 
+/// Room for so many tables that are asked, and for their seats.
+type Room<'a, T, R> = (Vec<Named<Seated<'a, T, R>>>, Vec<Seat>);
+
+/// That room, once there is memory for it. None where the proxy stops before.
+fn await_room<'a, T: Table, R: ProxyRuntime>(
+    floor: &Floor<'a, T, R>,
+    count: usize,
+) -> Option<Room<'a, T, R>> {
+    for _try in floor.rt.forever() {
+        let tables = Vec::with_capacity(floor.alloc, count);
+        let seats = Vec::with_capacity(floor.alloc, count);
+        if let (Ok(tables), Ok(seats)) = (tables, seats) {
+            return Some((tables, seats));
+        }
+        if floor.stop.load(Ordering::SeqCst) {
+            return None;
+        }
+        thread::sleep(floor.rt, Duration::from_millis(NAP));
+    }
+    None
+}
+
 /// Answers the commands of the socket's clients.
 fn answer_commands<T: Table, R: ProxyRuntime>(
     floor: &Floor<'_, T, R>,
@@ -54,10 +76,7 @@ fn answer_commands<T: Table, R: ProxyRuntime>(
     seats: Vec<Seat>,
 ) -> Vec<Seat> {
     let count = seats.as_slice().len();
-    let (Ok(mut tables), Ok(mut back)) = (
-        Vec::with_capacity(floor.alloc, count),
-        Vec::with_capacity(floor.alloc, count),
-    ) else {
+    let Some((mut tables, mut back)) = await_room(floor, count) else {
         return seats;
     };
     for (place, (name, seat)) in names.into_iter().zip(seats).enumerate() {

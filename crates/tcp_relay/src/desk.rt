@@ -36,13 +36,13 @@ impl Desk {
         self.is_closed = self.number.is_none();
     }
 
-    /// Whether there is a number for the next connection.
-    pub(crate) fn is_ready(&self) -> bool {
-        self.number.is_some()
+    /// The number of the next connection, if it is drawn.
+    pub(crate) fn number(&self) -> Option<u64> {
+        self.number
     }
 
-    /// Takes the number of the next connection: it is accepted.
-    pub(crate) fn take(&mut self) -> Option<u64> {
-        self.number.take()
+    /// The connection with that number is accepted.
+    pub(crate) fn pass(&mut self) {
+        self.number = None;
     }
 }

@@ -32,8 +32,7 @@ fn serve_each<'a, T: Table, R: ServeRuntime, G: Gate, W: Width>(
     house: &House<'a, T, R, G, W>,
     worker: &mut Worker<'a, W>,
 ) {
-    let (Some(mut gear), Ok(watch)) = (worker.gear.take(), Watch::new(house.rt, house.listener))
-    else {
+    let (Some(mut gear), Some(watch)) = (worker.gear.take(), worker.watch.take()) else {
         worker.tally.has_failed = true;
         return;
     };
@@ -45,7 +44,7 @@ fn serve_each<'a, T: Table, R: ServeRuntime, G: Gate, W: Width>(
     };
     for _turn in house.rt.forever() {
         shift.desk.draw(house.door, house.rt, worker.keeps);
-        if !shift.desk.is_ready() && worker.places.is_idle() {
+        if shift.desk.number().is_none() && worker.places.is_idle() {
             return;
         }
         if !turn_all(house, worker, &mut shift, &mut gear) {
@@ -55,12 +54,32 @@ fn serve_each<'a, T: Table, R: ServeRuntime, G: Gate, W: Width>(
     }
 }
 
+/// Has each worker watch the listener, before the connections of one take the descriptors that another needs for that. Answers
+/// whether all do; one that can't has failed.
+fn watch_each<'a, T: Table, R: ServeRuntime, G, W: Width>(
+    house: &House<'a, T, R, G, W>,
+    workers: &mut [Worker<'a, W>],
+) -> bool {
+    let mut all = true;
+    for worker in workers.iter_mut() {
+        worker.watch = Watch::new(house.rt, house.listener).ok();
+        if worker.watch.is_none() {
+            worker.tally.has_failed = true;
+            all = false;
+        }
+    }
+    all
+}
+
 /// Starts a thread for each worker, and waits until all have ended. Answers whether all could be started; behind the first
-/// that can't, none is started.
+/// that can't, none is started. Nor is any where one can't watch the listener, which has failed then.
 fn run_each<'a, T: Table + Send, R: ServeRuntime, G: Gate + Sync, W: Width + Send + Sync>(
     house: &House<'a, T, R, G, W>,
     workers: &mut [Worker<'a, W>],
 ) -> bool {
+    if !watch_each(house, workers) {
+        return true;
+    }
     thread::scope(thread::scope_env(), house.rt, |scope| {
         let mut all = true;
         let each = workers.iter_mut();

@@ -47,8 +47,9 @@ fn take_in<'a, T: Table, R: ServeRuntime, G: Gate, W: Width>(
     let seats = worker.seats.as_mut_slice();
     let (conn, is_admitted) = judge_one(house, seats, &mut shift.clock, number, peer);
     if !is_admitted {
-        reset(house.rt, net::TcpStream::from_std(client));
+        // First its references: a client that hears of the reset may come again at once.
         end_at(house, worker, &mut shift.clock, place, conn, false);
+        reset(house.rt, net::TcpStream::from_std(client));
         return;
     }
     let moment = shift.clock.now();
@@ -120,9 +121,9 @@ fn accept_one<'a, T: Table, R: ServeRuntime, G: Gate, W: Width>(
     buffer: &mut Buffer,
 ) -> Accepted {
     shift.desk.draw(house.door, house.rt, worker.keeps);
-    if !shift.desk.is_ready() {
+    let Some(number) = shift.desk.number() else {
         return Accepted::NoMore;
-    }
+    };
     let Some(place) = worker.places.claim() else {
         return Accepted::Waits;
     };
@@ -133,9 +134,7 @@ fn accept_one<'a, T: Table, R: ServeRuntime, G: Gate, W: Width>(
             return unaccepted(worker, error.kind());
         }
     };
-    let Some(number) = shift.desk.take() else {
-        return Accepted::NoMore;
-    };
+    shift.desk.pass();
     take_in(house, worker, shift, buffer, number, place, client, peer);
     Accepted::TakenIn
 }

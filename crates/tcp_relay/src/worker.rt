@@ -9,6 +9,7 @@ use crate::gear::Gear;
 use crate::leaving::put_visitors;
 use crate::places::Places;
 use crate::seating::put_row;
+use crate::watch::Watch;
 use crate::width::Width;
 use shard_seats::{Seat, TrackRef};
 use std::marker::PhantomData;
@@ -84,6 +85,8 @@ pub(crate) struct Worker<'a, W: Width> {
     pub(crate) places: Places<'a, W>,
     /// What its thread waits and carries by, until that takes it.
     pub(crate) gear: Option<Gear>,
+    /// What its thread waits for, from when it is watched until that takes it.
+    pub(crate) watch: Option<Watch>,
     of: PhantomData<W>,
     ghost seated: { vec_len seats ≡ length W.tables },
 }
@@ -99,6 +102,7 @@ impl<'a, W: Width> Worker<'a, W> {
             seats,
             places,
             gear: Some(gear),
+            watch: None,
             of: PhantomData,
         }
     }
@@ -121,6 +125,7 @@ impl<'a, W: Width> Worker<'a, W> {
             seats: row,
             places,
             gear: _gear,
+            watch: _watch,
             of: _,
         } = self;
         put_row(seats, row);
