@@ -4,7 +4,7 @@
 ghost use Rattle.std.specs.Prelude.{◌≡◌, ℕ, ◌<◌, ◌≤◌, ◌^◌, ◌↔◌, length, replicate, get_or, slice_set, Some, None, IsSome, IsErr, IfOk, IfErr, IfNone, option_copied};
 ghost use Rattle.std.specs.Option.{option_copied_mut};
 ghost use Rattle.std.specs.Borrow.{Lends, sem};
-ghost use Rattle.entry_pool.specs.Contents.{empty, entry_at, find, live_count, IsFull, IsGone, IsPool, with_inserted, without, handle_at as specified_handle};
+ghost use Rattle.entry_pool.specs.Contents.{empty, entry_at, find, live_count, IsFull, IsGone, IsPool, with_inserted, with_value, without, handle_at as specified_handle};
 ghost use Rattle.entry_pool.specs.Slots.{IsTold, AreAllFree};
 
 mod block;
@@ -163,6 +163,32 @@ impl<T> Pool<T> {
             return None;
         }
         Some(&live.value)
+    }
+
+    /// The value that the handle names, which is known to be live. It reads nothing beside the value, so that it costs one
+    /// wait for memory, where `get` has two.
+    pub fn value(&self, handle: Handle) -> &T
+        requires { IsSome (find self.now handle) }
+        ensures { find self.now handle ≡ Some result.now }
+    {
+        &self.block.get(handle.slot as usize).value
+    }
+
+    /// Puts a value in the place of the one that the handle names, which is known to be live, and gives that one back.
+    /// It touches nothing beside the value.
+    pub fn replace(&mut self, handle: Handle, value: T) -> T
+        requires { IsSome (find self.old handle) }
+        ensures before { find self.old handle ≡ Some result }
+        ensures replaced { self.new ≡ with_value self.old handle value }
+    {
+        let at = handle.slot as usize;
+        let live = self.block.take(at);
+        let Live {
+            generation,
+            value: before,
+        } = live;
+        self.block.write(at, Live { generation, value });
+        before
     }
 
     /// The handle of the slot's value, for a walk over the slots: none where the slot has none, or isn't below the

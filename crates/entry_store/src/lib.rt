@@ -47,9 +47,7 @@ fn write(entries: &mut Pool<Entry>, handle: Handle, entry: Entry)
     requires { IsSome (find_in_pool entries.old handle) }
     ensures { entries.new ≡ with_pool_value entries.old handle entry }
 {
-    if let Some(place) = entries.get_mut(handle) {
-        *place = entry;
-    }
+    let _before = entries.replace(handle, entry);
 }
 
 // Takes a slot out of the queue, where no reference holds its entry.
@@ -134,10 +132,7 @@ impl Store {
         requires { IsSome (held_at self.now slot) }
         ensures { option_map (λ (held : Held). held.entry) (held_at self.now slot) ≡ Some result }
     {
-        match self.entries.get(self.index.handle_of(slot)) {
-            Some(entry) => *entry,
-            None => unreachable!(),
-        }
+        *self.entries.value(self.index.handle_of(slot))
     }
 
     /// The key of a slot that has an entry.

@@ -72,6 +72,16 @@ pub(crate) fn matches(store: &Store, clock: u64, choice: &Filter, tracked: bool,
     }
 }
 
+/// Whether the entry of a slot that has one is there when the clock has come to this moment.
+fn stays(store: &Store, expire: Option<u32>, clock: u64, slot: u32) -> bool
+    requires clock { clock < 2 ^ 62 }
+    requires there { IsSome (held_at store.now slot) }
+    ensures { (held : Held) → held_at store.now slot ≡ Some held → result ≡ is_kept clock expire held }
+{
+    let entry = store.entry(slot);
+    entry.refs > 0 || is_alive(expire, entry.moment, clock)
+}
+
 /// Whether a slot has an entry that is there when the clock has come to this moment.
 pub(crate) fn is_live(store: &Store, expire: Option<u32>, clock: u64, slot: u32) -> bool
     requires { clock < 2 ^ 62 }
@@ -80,8 +90,7 @@ pub(crate) fn is_live(store: &Store, expire: Option<u32>, clock: u64, slot: u32)
     if store.handle_at(slot).is_none() {
         return false;
     }
-    let entry = store.entry(slot);
-    entry.refs > 0 || is_alive(expire, entry.moment, clock)
+    stays(store, expire, clock, slot)
 }
 
 /// The slot of a key's entry, where it is there when the clock has come to this moment.
@@ -96,7 +105,7 @@ pub(crate) fn live_slot(
     ensures gone { IfNone result (IsGone store.now expire clock key.now) }
 {
     let handle = store.find(key)?;
-    if !is_live(store, expire, clock, handle.slot) {
+    if !stays(store, expire, clock, handle.slot) {
         return None;
     }
     Some(handle.slot)
