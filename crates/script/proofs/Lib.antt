@@ -8,6 +8,7 @@ pub mod GuestLemmas
 pub mod ProgressLemmas
 pub mod EndedLemmas
 pub mod TimeLemmas
+pub mod NotingLemmas
 pub mod ServedLemmas
 pub mod ServerLemmas
 pub mod PlainCommandLemmas

@@ -3,6 +3,7 @@ pub mod Start
 pub mod BuiltIn
 pub mod Rolling
 pub mod Script
+pub mod BadLines
 pub mod Seen
 pub mod Laws
 pub mod Unrefused

@@ -1,10 +1,11 @@
 -- A line of the code, without where it lies in memory; and what a server works on.
-use Rattle.std.specs.Prelude.{◌<◌, ◌^◌, List}
+use Rattle.std.specs.Prelude.{ℕ, ◌<◌, ◌^◌, List}
 use Rattle.rule_model.specs.declared.sections.Setup.{Setup}
 use Rattle.shard_book.specs.BooksState.{BooksState}
 use Rattle.shard_book.specs.declared.named.Named.{Named}
 use Rattle.connection_drive.specs.Tables.{table_states}
 use Rattle.script.specs.Guests.{Guest, ScriptState}
+use Rattle.script.specs.BadLines.{Noted, Noting}
 use Rattle.script.specs.Script as spec
 use Rattle.script.specs.declared.line.Line.{Line}
 use Rattle.script.specs.declared.line.Line.TheVariants.{Empty, Bad, Commands, Open, Close}
@@ -27,3 +28,7 @@ IsTimely (Close moment id bytes_in bytes_out) = moment < 2 ^ 62
 -- the setup, the tables and the connections
 abbrev pub script_state : Setup → List (Named BooksState) → List Guest → ScriptState
 script_state setup tables guests = record { setup = setup; tables = table_states tables; guests = guests }
+
+-- and what is noted of its lines
+abbrev pub noting_of : Setup → List (Named BooksState) → List Guest → ℕ → Noted → Noting
+noting_of setup tables guests lines bad = record { script = script_state setup tables guests; lines = lines; bad = bad }

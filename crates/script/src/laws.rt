@@ -1,6 +1,7 @@
 //! What every script keeps. Each law is the contract of a function that does nothing, but for calling a law that it rests
 //! on.
 
+ghost use Rattle.script.specs.BadLines.{BadLineLaw};
 ghost use Rattle.script.specs.Laws.{KeysLaw, ReferencesLaw};
 ghost use Rattle.script.specs.Rolling.{RecordsLaw};
 ghost use Rattle.script.specs.Unrefused.{OneOutputLaw, UnrefusedLaw};
@@ -22,6 +23,11 @@ pub fn keys()
 /// What a line says where nothing that it asks is refused is one of the texts that it may write.
 pub fn unrefused()
     ensures { UnrefusedLaw }
+{}
+
+/// A line that is noted as bad is answered `bad line`, and changes nothing.
+pub fn bad_line()
+    ensures { BadLineLaw }
 {}
 
 /// The rolls behind a line change the tables' records alone: every shard stays what it is.

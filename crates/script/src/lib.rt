@@ -1,15 +1,18 @@
 //! Replaying a timed script: each line is a moment in ms, and what is done at it.
 #![tactic(auto)]
 
+mod bad_lines;
 mod built_in;
 mod guests;
 pub mod laws;
 mod line;
+mod noting;
 mod replay;
 mod rolling;
 mod server;
 mod short_text;
 
+pub use bad_lines::BadLines;
 pub use built_in::built_in as built_in_setup;
 pub use replay::{FaultKind, ReplayFault, replay_script};
 pub use rule_model::{LIFE, MAX_REFS, NamedSpec, Setup};

@@ -2,7 +2,7 @@
 
 ghost use Rattle.std.specs.Prelude.{◌≤◌};
 
-use clap::{Arg, ArgMatches, Command, Error, value_parser};
+use clap::{Arg, ArgAction, ArgMatches, Command, Error, value_parser};
 use std::alloc::{AllocError, Global};
 
 /// The options that name a time.
@@ -34,8 +34,9 @@ The commands are:
   clear table T                      removes the entries that no connection holds
   clear table T data.X OP V          those of them that match
   clear table T key K                the entry of a key
-What they are answered is written to standard output. A connection is accepted or
-rejected by the rules of FILE. Without FILE there is one table, t, which has keys of
+What they are answered is written to standard output, and behind the script's end the
+numbers of the first ten lines that were bad to standard error. A connection is accepted
+or rejected by the rules of FILE. Without FILE there is one table, t, which has keys of
 type ip, 100 entries at most, and stores gpc0; each connection is tracked there by its
 client's address, and accepted.";
 
@@ -56,10 +57,17 @@ fn check_command<'a>(alloc: Global) -> Result<Command<'a>, AllocError> {
     let file = Arg::new(alloc, "FILE")
         .required(true)
         .help("The configuration");
+    let explain = Arg::new(alloc, "explain")
+        .long("explain")
+        .action(ArgAction::SetTrue)
+        .help(
+            "Show the line below a fault or a warning, and say what commonly causes it, or what is lost",
+        );
     Command::new(alloc, "check")
         .about("Read a configuration, and say what is wrong with it")
         .after_help(CHECK_HELP)
-        .arg(file)
+        .arg(file)?
+        .arg(explain)
 }
 
 /// `stickd replay`.

@@ -4,7 +4,8 @@ ghost use Rattle.std.specs.Prelude.{◌≡◌, ◌≤◌, IfOk, IfSome};
 ghost use Rattle.rule_model.specs.Served.{AreTables, AreTableSpecs};
 ghost use Rattle.connection_drive.specs.Tables.{CanOpen};
 
-use rule_config::read_config;
+use crate::explanation::{explain_fault, explain_warnings};
+use rule_config::{ConfigFault, read_config};
 use rule_model::{Config, NamedSpec, Setup};
 use script::built_in_setup;
 use sequence::NoMemory;
@@ -12,9 +13,47 @@ use std::alloc::Global;
 use std::rt::Files;
 use std::{fs, io, str};
 
+/// How much is said of what is wrong with a configuration.
+#[derive(Clone, Copy, Debug, PartialEq, Eq)]
+pub enum Detail {
+    /// Its line, and what it is.
+    Short,
+    /// The text of the line too, and what commonly causes that, or what is lost.
+    Explained,
+}
+
+/// Says what is wrong with a configuration.
+fn report_fault<R: Eprint>(
+    rt: &R,
+    text: &[u8],
+    fault: ConfigFault,
+    detail: Detail,
+) -> io::Result<()> {
+    eprintln!(rt; "stickd: {fault}")?;
+    match detail {
+        Detail::Short => Ok(()),
+        Detail::Explained => explain_fault(rt, text, fault),
+    }
+}
+
+/// Prints a warning for each line that is read past.
+fn warn<R: Eprint>(rt: &R, text: &[u8], lines: &[u64], detail: Detail) -> io::Result<()> {
+    if detail == Detail::Explained {
+        return explain_warnings(rt, text, lines);
+    }
+    for line in lines {
+        eprintln!(rt; "stickd: line {line}: read past")?;
+    }
+    Ok(())
+}
+
 /// Reads a configuration, and prints a warning for each line that it reads past. None where it can't be read, which is
 /// said on standard error.
-pub fn read_file<R: Files + Eprint + AllocGlobal>(rt: &R, path: &str) -> io::Result<Option<Config>>
+pub fn read_file<R: Files + Eprint + AllocGlobal>(
+    rt: &R,
+    path: &str,
+    detail: Detail,
+) -> io::Result<Option<Config>>
     ensures { IfOk result (λ read. IfSome read (λ config. AreTables config.sections)) }
 {
     let text = match fs::read(rt, path) {
@@ -27,13 +66,11 @@ pub fn read_file<R: Files + Eprint + AllocGlobal>(rt: &R, path: &str) -> io::Res
     let config = match read_config(rt.alloc(), text.as_slice()) {
         Ok(config) => config,
         Err(fault) => {
-            eprintln!(rt; "stickd: {fault}")?;
+            report_fault(rt, text.as_slice(), fault, detail)?;
             return Ok(None);
         }
     };
-    for line in config.warnings.as_slice() {
-        eprintln!(rt; "stickd: line {line}: read past")?;
-    }
+    warn(rt, text.as_slice(), config.warnings.as_slice(), detail)?;
     Ok(Some(config))
 }
 
@@ -69,7 +106,7 @@ pub fn open_setup<R: Files + Eprint + AllocGlobal>(
     ensures { IfOk result (λ opened. IfSome opened CanOpen) }
 {
     let made = match path {
-        Some(path) => match read_file(rt, path)? {
+        Some(path) => match read_file(rt, path, Detail::Short)? {
             Some(config) => setup_of(rt.alloc(), &config, shards),
             None => return Ok(None),
         },

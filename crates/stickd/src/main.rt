@@ -5,16 +5,17 @@ ghost use Rattle.std.specs.Prelude.{◌≤◌};
 
 mod command_line;
 mod configuration;
+mod explanation;
 mod run_plan;
 
 use byte_ports::{StreamSink, StreamSource};
 use clap::ArgMatches;
 use command_line::{read_command_line, read_shards};
-use configuration::{open_setup, read_file};
+use configuration::{Detail, open_setup, read_file};
 use log::Log;
 use proxy::{ProxyRuntime, run_pooled};
 use run_plan::read_plan;
-use script::{FaultKind, ReplayFault, replay_script};
+use script::{BadLines, FaultKind, ReplayFault, replay_script};
 use std::net::{Net, TcpListener, TcpStream};
 use std::process::ExitCode;
 use std::random::RandomSource;
@@ -100,7 +101,7 @@ fn run_command<R: ProxyRuntime + RandomSource + Files + Input + Print + Eprint +
     matches: &ArgMatches<'_>,
 ) -> io::Result<ExitCode> {
     let done = match matches.subcommand() {
-        Some(("check", arguments)) => check(rt, arguments.get_str("FILE").unwrap_or(""))?,
+        Some(("check", arguments)) => check(rt, arguments)?,
         Some(("run", arguments)) => return serve(rt, arguments),
         Some((_, arguments)) => replay(rt, arguments.get_str("FILE"), read_shards(arguments))?,
         None => false,
@@ -118,8 +119,17 @@ fn status_of(is_done: bool) -> ExitCode {
 }
 
 /// Says what a configuration has.
-fn check<R: Files + Print + Eprint + AllocGlobal>(rt: &R, path: &str) -> io::Result<bool> {
-    let Some(config) = read_file(rt, path)? else {
+fn check<R: Files + Print + Eprint + AllocGlobal>(
+    rt: &R,
+    arguments: &ArgMatches<'_>,
+) -> io::Result<bool> {
+    let path = arguments.get_str("FILE").unwrap_or("");
+    let detail = if arguments.get_flag("explain") {
+        Detail::Explained
+    } else {
+        Detail::Short
+    };
+    let Some(config) = read_file(rt, path, detail)? else {
         return Ok(false);
     };
     let tables = config.table_count();
@@ -142,13 +152,30 @@ fn replay<R: Files + Input + Print + Eprint + AllocGlobal>(
     };
     let mut reader = StreamSource::new(rt.reader());
     let mut writer = StreamSink::new(io::writer(rt));
-    match replay_script(rt.alloc(), &setup, &mut reader, &mut writer) {
+    let mut bad = BadLines::new();
+    let replayed = replay_script(rt.alloc(), &setup, &mut reader, &mut writer, &mut bad);
+    // What the script is answered stands on standard output: whether this can be told changes no status.
+    let _ = report_bad_lines(rt, &bad);
+    match replayed {
         Ok(()) => Ok(true),
         Err(fault) => {
             report(rt, fault)?;
             Ok(false)
         }
     }
+}
+
+/// Says on standard error which lines of the script were bad: the first ten, and how many where there are more.
+fn report_bad_lines<R: Eprint>(rt: &R, bad: &BadLines) -> io::Result<()> {
+    let first = bad.first();
+    for number in first {
+        eprintln!(rt; "stickd: script line {number}: bad line")?;
+    }
+    let count = bad.count();
+    if count > first.len() as u64 {
+        eprintln!(rt; "stickd: {count} bad lines in all")?;
+    }
+    Ok(())
 }
 
 /// Runs the proxy of a configuration, each of its tables in so many shards.

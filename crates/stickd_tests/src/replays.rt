@@ -3,7 +3,7 @@
 ghost use Rattle.std.specs.Prelude.{◌<◌};
 
 use byte_ports::{MemorySink, MemorySource};
-use script::{FaultKind, ReplayFault, built_in_setup, replay_script};
+use script::{BadLines, FaultKind, ReplayFault, built_in_setup, replay_script};
 use std::alloc::{AllocError, Global};
 use std::test::Fail;
 
@@ -35,7 +35,8 @@ fn writes(
     let setup = built_in_setup(alloc, 1)?;
     let mut reader = MemorySource::new(script, ports.piece, ports.read_limit);
     let mut writer = MemorySink::new(alloc, 5, ports.write_limit);
-    let result = replay_script(alloc, &setup, &mut reader, &mut writer);
+    let mut bad = BadLines::new();
+    let result = replay_script(alloc, &setup, &mut reader, &mut writer, &mut bad);
     Ok(result.err() == fault && writer.written() == text)
 }
 

@@ -5,7 +5,7 @@ ghost use Rattle.connection_drive.specs.Tables.{CanOpen};
 
 use byte_ports::{MemorySink, MemorySource};
 use rule_model::{Action, KeyExpression, Rule, Slot};
-use script::{Setup, replay_script};
+use script::{BadLines, Setup, replay_script};
 use sequence::Sequence;
 use std::alloc::{AllocError, Global};
 use std::test::Fail;
@@ -54,7 +54,8 @@ fn writes(alloc: Global, setup: &Setup, script: &[u8], wanted: &[u8]) -> Result<
 {
     let mut reader = MemorySource::new(script, 100, None);
     let mut writer = MemorySink::new(alloc, 100, None);
-    let result = replay_script(alloc, setup, &mut reader, &mut writer);
+    let mut bad = BadLines::new();
+    let result = replay_script(alloc, setup, &mut reader, &mut writer, &mut bad);
     Ok(result.is_ok() && writer.written() == wanted)
 }
 

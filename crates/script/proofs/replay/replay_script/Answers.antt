@@ -1,31 +1,42 @@
-use Rattle.std.proofs.Common.{Some, [], append-nil, refl, subst, sym}
+use Rattle.std.proofs.Common.{ℕ, Some, [], append-nil, ap, refl, subst, sym, ◌∙◌}
 use Rattle.line_service.proofs.ServiceLemmas.{progress_none, stops_before}
-use Rattle.line_service.specs.Service.{ServesAll}
-use Rattle.script.specs.Guests.{IsServed, ScriptState}
+use Rattle.line_service.specs.Service.{StopsAfter}
+use Rattle.script.specs.BadLines.{Noting, bad_among, noted}
+use Rattle.script.specs.Guests.{IsServed}
 use Rattle.script.specs.Script.{Says, Stops}
-use Rattle.script.specs.Seen.{script_state}
+use Rattle.script.specs.Seen.{noting_of}
 use Rattle.script.specs.Start.{start}
+use Rattle.script.proofs.NotingLemmas.{all_noted, stopped_noted}
 use Rattle.script.proofs.ServedLemmas.{start_served}
 use Rattle.script.proofs.replay.replay_script.Goals as goal
 
+pub returns-in_default-clause-fault : goal.returns-in_default-clause-fault
+returns-in_default-clause-fault g c =
+    let begin = start c.args.setup.now in
+    ([], [], begin, λ shown. refl, λ shown. sym (append-nil _), stops_before Says Stops begin begin [] [] (Some []) 0 [] (progress_none Says begin (Some []) refl), c.new.ensures)
+
+pub serve_lines-served-requires : goal.serve_lines-served-requires
+serve_lines-served-requires g c = subst IsServed (ap (λ (n : Noting). n.script) (sym c.in-Ok.ensures)) (start_served c.args.setup.now c.requires)
+
+pub returns-in-Ok-served-clause-whole : goal.returns-in-Ok-served-clause-whole
+returns-in-Ok-served-clause-whole g c =
+    let told = c.in-Ok-served.ensures.whole in
+    let left = c.serve_lines-served.new.server in
+    let new = noting_of left.server.setup.now left.server.tables.items left.server.guests.entries left.lines left.bad in
+    let all = all_noted c.args.setup.now _ new told.0 told.1 c.in-Ok.ensures told.4 in
+    (told.0, told.1, new.script, told.2, told.3, all.0, c.into_bad.ensures ∙ all.1)
+
 pub returns-in-Err-clause-fault : goal.returns-in-Err-clause-fault
 returns-in-Err-clause-fault g c =
-    let begin = start c.args.setup.now in
-    ([], [], begin, λ shown. refl, λ shown. sym (append-nil _), stops_before Says Stops begin begin [] [] (Some []) 0 [] (progress_none Says begin (Some []) refl))
-
-pub serve_lines-requires : goal.serve_lines-requires
-serve_lines-requires g c =
-    subst IsServed (λ i. record { setup = c.args.setup.now; tables = sym c.in-Ok.ensures.opened i; guests = sym c.new.ensures.empty i }) (start_served c.args.setup.now c.requires)
-
-pub returns-in-Ok-serve_lines-clause-whole : goal.returns-in-Ok-serve_lines-clause-whole
-returns-in-Ok-serve_lines-clause-whole g c =
-    let told = c.in-Ok-serve_lines.ensures.whole in
-    let server = c.serve_lines.new.server in
-    let new = script_state server.setup.now server.tables.items server.guests.entries in (
+    let told = c.in-Err.ensures.fault in
+    let left = c.serve_lines-served.new.server in
+    let new = noting_of left.server.setup.now left.server.tables.items left.server.guests.entries left.lines left.bad in
+    let all = stopped_noted c.args.setup.now _ new told.0 c.in-Err.fault.done told.1 c.in-Ok.ensures told.4 in (
       told.0,
       told.1,
-      new,
+      new.script,
       told.2,
       told.3,
-      subst (λ (s : ScriptState). ServesAll Says s told.0 told.1 new) (λ i. record { setup = c.args.setup.now; tables = c.in-Ok.ensures.opened i; guests = c.new.ensures.empty i }) told.4,
+      subst (λ (n : ℕ). StopsAfter Says Stops (start c.args.setup.now) told.0 n told.1 new.script) (sym c.fault_of.ensures.done) all.0,
+      c.into_bad.ensures ∙ all.1 ∙ ap (λ n. noted (bad_among n told.0)) (sym c.fault_of.ensures.done),
     )
