@@ -76,19 +76,19 @@ class Server:
 class Proxy:
     """The program at work on a configuration, in a folder of its own."""
 
-    def __init__(self, server, lines, *words, threads=8, descriptors=None):
+    def __init__(self, server, lines, *words, threads=8, descriptors=None, others='', environment=None):
         self.room = tempfile.TemporaryDirectory(prefix='stickd-')
         self.port, self.path = free_port(), os.path.join(self.room.name, 'commands')
         conf = os.path.join(self.room.name, 'proxy.cfg')
         with open(conf, 'w', encoding='utf-8') as file:
-            file.write('\n    '.join(['listen www', f'bind 127.0.0.1:{self.port}', *lines, f'server one 127.0.0.1:{server}']) + '\n')
-        self.descriptors = descriptors
+            file.write('\n    '.join(['listen www', f'bind 127.0.0.1:{self.port}', *lines, f'server one 127.0.0.1:{server}']) + '\n' + others)
+        self.descriptors, self.environment = descriptors, environment
         self.words = ['run', conf, '--socket', self.path, '--threads', str(threads), *words]
         self.start()
 
     def start(self):
         self.program = subprocess.Popen([*PROGRAM, *self.words], stdin=subprocess.DEVNULL, stdout=subprocess.PIPE,
-                                        stderr=subprocess.PIPE, text=True, preexec_fn=self.limit)
+                                        stderr=subprocess.PIPE, text=True, preexec_fn=self.limit, env=self.environment)
         wait_for('the program answers', lambda: self.program.poll() is not None or self.is_up())
         assert self.program.poll() is None, f'it ended at once: {self.program.stderr.read()}'
 
