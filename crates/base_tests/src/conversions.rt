@@ -82,6 +82,39 @@ static MORE_CONVERSIONS: [Conversion; 7] = [
     (Given::Text(""), KeyType::Text(32), None),
 ];
 
+static BINARY_CONVERSIONS: [Conversion; 11] = [
+    (PLAIN, KeyType::Binary(4), Some("0a000001")),
+    (PLAIN, KeyType::Binary(6), Some("0a0000010000")),
+    (PLAIN, KeyType::Binary(1), Some("0a")),
+    (
+        MAPPED,
+        KeyType::Binary(16),
+        Some("00000000000000000000ffff0a000001"),
+    ),
+    (WIDE, KeyType::Binary(4), Some("20010db8")),
+    (
+        WIDE,
+        KeyType::Binary(17),
+        Some("20010db800000000000000000000000100"),
+    ),
+    (NUMBER, KeyType::Binary(4), Some("00000050")),
+    (NUMBER, KeyType::Binary(3), Some("000000")),
+    (NUMBER, KeyType::Binary(5), Some("0000005000")),
+    (TEXT, KeyType::Binary(3), Some("31302e")),
+    (Given::Text(""), KeyType::Binary(32), None),
+];
+
+#[test]
+fn binary_conversions(rt: HostRuntime) -> Result<(), Fail> {
+    for (given, kind, printed) in BINARY_CONVERSIONS.iter() {
+        assert!(rt;
+            converts(rt.alloc(), *given, *kind, *printed)?,
+            "{printed:?}"
+        );
+    }
+    Ok(())
+}
+
 #[test]
 fn conversions(rt: HostRuntime) -> Result<(), Fail> {
     for (given, kind, printed) in CONVERSIONS.iter() {

@@ -189,7 +189,7 @@ fn ipv6_texts(rt: HostRuntime) {
 }
 
 /// Texts of no key, and why not.
-static REFUSED: [(KeyType, &str, KeyFault); 8] = [
+static REFUSED: [(KeyType, &str, KeyFault); 17] = [
     (KeyType::Ip, "127.0.0.01", KeyFault::Malformed),
     (KeyType::Ip, "256.0.0.1", KeyFault::OutOfRange),
     (KeyType::Ip, "1.2.3", KeyFault::Malformed),
@@ -202,10 +202,19 @@ static REFUSED: [(KeyType, &str, KeyFault); 8] = [
         KeyFault::OutOfRange,
     ),
     (KeyType::Text(32), "", KeyFault::Malformed),
+    (KeyType::Binary(4), "", KeyFault::Malformed),
+    (KeyType::Binary(4), "0", KeyFault::Malformed),
+    (KeyType::Binary(4), "0a0", KeyFault::Malformed),
+    (KeyType::Binary(4), "0g", KeyFault::Malformed),
+    (KeyType::Binary(4), "0x0a", KeyFault::Malformed),
+    (KeyType::Binary(4), "@`/:", KeyFault::Malformed),
+    (KeyType::Binary(4), "+a -", KeyFault::Malformed),
+    (KeyType::Binary(1), "0a0", KeyFault::Malformed),
+    (KeyType::Binary(1), "0a0b0G", KeyFault::Malformed),
 ];
 
 /// Texts of keys, and how these are printed.
-static READ: [(KeyType, &str, &str); 6] = [
+static READ: [(KeyType, &str, &str); 12] = [
     (KeyType::Ip, "127.0.0.1", "127.0.0.1"),
     (KeyType::Integer, "4294967295", "4294967295"),
     (KeyType::Integer, "0007", "7"),
@@ -216,6 +225,16 @@ static READ: [(KeyType, &str, &str); 6] = [
         "xxxxxxxxxxxxxxxxxxxxxxxxxxxxxxxx",
     ),
     (KeyType::Text(32), "a b\\", "a\\x20b\\x5c"),
+    (KeyType::Binary(4), "0a00", "0a000000"),
+    (KeyType::Binary(4), "0a000001", "0a000001"),
+    (KeyType::Binary(3), "DEADBEEF", "deadbe"),
+    (KeyType::Binary(1), "aAbBcC", "aa"),
+    (KeyType::Binary(8), "0123456789abcdef", "0123456789abcdef"),
+    (
+        KeyType::Binary(17),
+        "ABCDEF",
+        "abcdef0000000000000000000000000000",
+    ),
 ];
 
 #[test]
@@ -236,6 +255,27 @@ fn has_bytes(alloc: Global, kind: KeyType, text: &str, bytes: &[u8]) -> bool {
     }
 }
 
+/// Texts in hexadecimal, and the bytes that they stand for, from RFC 4648, section 10.
+static BASE16: [(&str, u32, &str); 6] = [
+    ("66", 1, "f"),
+    ("666F", 2, "fo"),
+    ("666F6F", 3, "foo"),
+    ("666F6F62", 4, "foob"),
+    ("666F6F6261", 5, "fooba"),
+    ("666F6F626172", 6, "foobar"),
+];
+
+#[test]
+fn base16(rt: HostRuntime) {
+    for (digits, length, text) in BASE16.iter() {
+        let kind = KeyType::Binary(*length);
+        assert!(rt;
+            has_bytes(rt.alloc(), kind, digits, text.as_bytes()),
+            "{digits}"
+        );
+    }
+}
+
 /// Whether a text's key is printed so where it doesn't fit this kind.
 fn is_misfit(alloc: Global, kind: KeyType, text: &str, other: KeyType, printed: &str) -> bool {
     match key_of(alloc, kind, text) {
@@ -252,6 +292,16 @@ fn key_bytes(rt: HostRuntime) {
     assert!(rt; has_bytes(rt.alloc(), KeyType::Integer, "258", &[0, 0, 1, 2]));
     let printed = "\\x00\\x00\\x01\\x02";
     assert!(rt; is_misfit(rt.alloc(), KeyType::Integer, "258", KeyType::Ipv6, printed));
+    let printed = "\\x0aA\\x00\\x00";
+    assert!(rt;
+        is_misfit(
+            rt.alloc(),
+            KeyType::Binary(4),
+            "0a41",
+            KeyType::Binary(2),
+            printed
+        )
+    );
 }
 
 /// Texts, and the shards of their keys among so many. The published FNV-1a hashes of "a" and of "foobar" are

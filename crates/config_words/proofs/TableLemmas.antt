@@ -1,8 +1,9 @@
 -- What a line stick-table declares is within its limits.
 use Rattle.std.proofs.Common.{◌≡◌, ◌≤◌, ◌<◌, ◌^◌, ℕ, Bool, true, false, not, cond, Option, Some, None, Result, Ok, Err, List, [], ◌∷◌, IfOk, IfSome, refl, subst, lit≤}
-use Rattle.std.specs.Prelude.{codes}
+use Rattle.std.specs.Prelude.{codes, option_map}
 use Rattle.std.specs.Str.{bytes_eq}
 use Rattle.stick_key.specs.declared.kind.KeyType.{KeyType}
+use Rattle.stick_key.specs.declared.kind.KeyType.TheVariants.{Ip, Ipv6, Integer, Text, Binary}
 use Rattle.table_model.specs.Limits.{IsKeyType}
 use Rattle.line_text.specs.Number.{number_of}
 use Rattle.line_text.specs.Parts.{parts, is_byte}
@@ -11,7 +12,7 @@ use Rattle.rule_model.specs.Served.{IsTable}
 use Rattle.rule_model.specs.declared.faults.Fault.{Fault}
 use Rattle.rule_model.specs.declared.faults.Fault.TheVariants.{UnknownKeyword, BadNumber, BadSize, UnknownType}
 use Rattle.config_words.specs.Numbers.{bounded_number, digits_of, size_of, size_unit, suffix_of, time_of, times}
-use Rattle.config_words.specs.Table.{complete, found, kind_of, no_settings, once, pairs_of, table_of, with_items, with_setting, with_settings}
+use Rattle.config_words.specs.Table.{complete, found, kind_of, no_settings, once, pairs_of, table_of, with_items, with_length, with_setting, with_settings}
 use Rattle.config_words.specs.declared.table.Settings.{Settings}
 use Rattle.config_words.proofs.NumberLemmas.{time_of-bounds, within-bounds}
 
@@ -42,11 +43,20 @@ kind_of-IsKeyType : (word : List ℕ) → IfSome (kind_of word) IsKeyType
 unfolding kind_of
 kind_of-IsKeyType word =
     some_if (bytes_eq word (codes "ip")) _ _ tt (some_if (bytes_eq word (codes "ipv6")) _ _ tt
-    (some_if (bytes_eq word (codes "integer")) _ _ tt (some_if (bytes_eq word (codes "string")) _ _ (lit≤ tt, lit≤ tt) tt)))
+    (some_if (bytes_eq word (codes "integer")) _ _ tt (some_if (bytes_eq word (codes "string")) _ _ (lit≤ tt, lit≤ tt)
+    (some_if (bytes_eq word (codes "binary")) _ _ (lit≤ tt, lit≤ tt) tt))))
   where
     some_if : (test : Bool) (one other : Option KeyType) → IfSome one IsKeyType → IfSome other IsKeyType → IfSome (cond test one other) IsKeyType
     some_if true one other h k = h
     some_if false one other h k = k
+
+with_length-IsKeyType : (length : ℕ) (kind : Option KeyType) → (1 ≤ length) × (length ≤ 1024) → IfSome (option_map (with_length length) kind) IsKeyType
+with_length-IsKeyType length None bounds = tt
+with_length-IsKeyType length (Some Ip) bounds = tt
+with_length-IsKeyType length (Some Ipv6) bounds = tt
+with_length-IsKeyType length (Some Integer) bounds = tt
+with_length-IsKeyType length (Some (Text n)) bounds = bounds
+with_length-IsKeyType length (Some (Binary n)) bounds = bounds
 
 found-is : {A : Type 0} (set : Option A) (fault : Fault) (a : A) → found set fault ≡ Ok a → set ≡ Some a
 found-is (Some b) fault a e = cc
@@ -64,7 +74,7 @@ with_setting-AreSet old word value h =
     are_set _ (if_found IsKeyType (kind_of value) UnknownType kind (kind_of-IsKeyType value) e) h.size h.expire)))
     (ok_if AreSet (bytes_eq word (codes "len")) _ _
     (ok_bind AreSet (demand old.takes_length UnknownKeyword) _ (λ _ _. ok_bind AreSet (bounded_number 1 1024 value) _ (λ length e.
-    are_set _ (within-bounds 1 1024 BadNumber (number_of value) length e) h.size h.expire)))
+    are_set _ (with_length-IsKeyType length old.kind (within-bounds 1 1024 BadNumber (number_of value) length e)) h.size h.expire)))
     (ok_if AreSet (bytes_eq word (codes "size")) _ _
     (ok_bind AreSet (once old.size) _ (λ _ _. ok_bind AreSet (size_of value) _ (λ size e. are_set _ h.kind (size_of-bounds value size e) h.expire)))
     (ok_if AreSet (bytes_eq word (codes "expire")) _ _

@@ -3,8 +3,8 @@ use Rattle.std.specs.Prelude.{refl, ◌≡◌, false, [], ◌∷◌, codes, Some
 use Rattle.line_text.specs.Number.{number_of}
 use Rattle.stored_data.specs.Names.{datum_of}
 use Rattle.stored_data.specs.declared.datum.Datum.TheVariants.{ConnCur, ConnRate}
-use Rattle.stick_key.specs.declared.kind.KeyType.TheVariants.{Ip}
-use Rattle.rule_model.specs.declared.faults.Fault.TheVariants.{BadNumber, BadSize, UnknownType}
+use Rattle.stick_key.specs.declared.kind.KeyType.TheVariants.{Ip, Binary}
+use Rattle.rule_model.specs.declared.faults.Fault.TheVariants.{BadNumber, BadSize, UnknownKeyword, UnknownType}
 use Rattle.config_words.specs.Lines.{words_of}
 use Rattle.config_words.specs.Numbers.{size_of, size_unit, time_of, time_unit}
 use Rattle.config_words.specs.Table.{kind_of, table_of, with_item, with_setting}
@@ -54,3 +54,21 @@ table-rate_without_period = refl
 table-without_size : table_of (words_of (codes "type ip store conn_cur")) ≡ Err BadSize
 unfolding table_of with_setting kind_of size_of size_unit time_of time_unit number_of with_item datum_of
 table-without_size = refl
+
+table-binary : table_of (words_of (codes "type binary len 4 size 10"))
+    ≡ Ok (record { kind = Binary 4; size = 10; expire = None; nopurge = false; columns = [] })
+unfolding table_of with_setting kind_of size_of size_unit number_of
+table-binary = refl
+
+table-binary_of_32_bytes : table_of (words_of (codes "type binary size 10"))
+    ≡ Ok (record { kind = Binary 32; size = 10; expire = None; nopurge = false; columns = [] })
+unfolding table_of with_setting kind_of size_of size_unit number_of
+table-binary_of_32_bytes = refl
+
+table-binary_too_long : table_of (words_of (codes "type binary len 1025 size 10")) ≡ Err BadNumber
+unfolding table_of with_setting kind_of size_of size_unit number_of
+table-binary_too_long = refl
+
+table-length_behind_size : table_of (words_of (codes "type binary size 10 len 4")) ≡ Err UnknownKeyword
+unfolding table_of with_setting kind_of size_of size_unit number_of
+table-length_behind_size = refl

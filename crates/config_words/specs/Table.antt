@@ -1,10 +1,10 @@
 -- A line `stick-table`.
-use Rattle.std.specs.Prelude.{ℕ, Bool, true, false, not, List, [], ◌∷◌, codes, is_some, Option, Some, None, Result, Ok, Err, if◌then◌else◌}
+use Rattle.std.specs.Prelude.{ℕ, Bool, true, false, not, List, [], ◌∷◌, codes, is_some, option_map, Option, Some, None, Result, Ok, Err, if◌then◌else◌}
 use Rattle.std.specs.Str.{bytes_eq}
 use Rattle.line_text.specs.Parts.{parts, is_byte}
 use Rattle.line_text.specs.Words.{is_some_text}
 use Rattle.stick_key.specs.declared.kind.KeyType.{KeyType}
-use Rattle.stick_key.specs.declared.kind.KeyType.TheVariants.{Ip, Ipv6, Integer, Text}
+use Rattle.stick_key.specs.declared.kind.KeyType.TheVariants.{Ip, Ipv6, Integer, Text, Binary}
 use Rattle.stored_data.specs.Data.{is_rate}
 use Rattle.stored_data.specs.Names.{datum_of}
 use Rattle.stored_data.specs.Stored.{is_column, with_column}
@@ -49,20 +49,31 @@ pairs_of [] = []
 pairs_of (word ∷ []) = (word, []) ∷ []
 pairs_of (word ∷ value ∷ words) = if bytes_eq word (codes "nopurge") then (word, []) ∷ pairs_of (value ∷ words) else (word, value) ∷ pairs_of words
 
--- the kind of key of a name; a text has 32 bytes where no length is said
+-- the kind of key of a name; texts and binary keys have 32 bytes where no length is said
 unfoldable pub kind_of : List ℕ → Option KeyType
 kind_of word =
     if bytes_eq word (codes "ip") then Some Ip
     else (if bytes_eq word (codes "ipv6") then Some Ipv6
     else (if bytes_eq word (codes "integer") then Some Integer
     else (if bytes_eq word (codes "string") then Some (Text 32)
-    else None)))
+    else (if bytes_eq word (codes "binary") then Some (Binary 32)
+    else None))))
 
-abbrev pub is_text : KeyType → Bool
-is_text (Text n) = true
-is_text Ip = false
-is_text Ipv6 = false
-is_text Integer = false
+-- the kinds that have a length of their own
+abbrev pub has_length : KeyType → Bool
+has_length (Text n) = true
+has_length (Binary n) = true
+has_length Ip = false
+has_length Ipv6 = false
+has_length Integer = false
+
+-- such a kind, of this length
+abbrev pub with_length : ℕ → KeyType → KeyType
+with_length length (Text n) = Text length
+with_length length (Binary n) = Binary length
+with_length length Ip = Ip
+with_length length Ipv6 = Ipv6
+with_length length Integer = Integer
 
 abbrev pub no_settings : Settings
 no_settings = record { kind = None; takes_length = false; size = None; expire = None; nopurge = false; columns = [] }
@@ -71,18 +82,18 @@ no_settings = record { kind = None; takes_length = false; size = None; expire = 
 abbrev pub once : {A : Type 0} → Option A → Result (Unit {0}) Fault
 once set = demand (not (is_some set)) UnknownKeyword
 
--- what is set so far, and one more setting: a keyword with its value. A length stands right behind type string
+-- what is set so far, and one more setting: a keyword with its value. A length stands right behind type string or type binary
 unfoldable pub with_setting : Settings → List ℕ → List ℕ → Result Settings Fault
 with_setting old word value =
     let settings = record old { takes_length = false } in
     if bytes_eq word (codes "type") then (do
       first ← once old.kind
       kind ← found (kind_of value) UnknownType
-      Ok (record settings { kind = Some kind; takes_length = is_text kind }))
+      Ok (record settings { kind = Some kind; takes_length = has_length kind }))
     else (if bytes_eq word (codes "len") then (do
       behind ← demand old.takes_length UnknownKeyword
       length ← bounded_number 1 1024 value
-      Ok (record settings { kind = Some (Text length) }))
+      Ok (record settings { kind = option_map (with_length length) old.kind }))
     else (if bytes_eq word (codes "size") then (do
       first ← once old.size
       size ← size_of value

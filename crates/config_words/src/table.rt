@@ -1,8 +1,9 @@
 //! A line `stick-table`.
 
-ghost use Rattle.std.specs.Prelude.{◌≡◌, ◌∷◌};
+ghost use Rattle.std.specs.Prelude.{◌≡◌, ◌∷◌, option_map};
 ghost use Rattle.line_text.specs.Words.{words_left};
 ghost use Rattle.rule_model.specs.Reading.{Gives, Leaves};
+ghost use Rattle.config_words.specs.Table as spec;
 ghost use Rattle.config_words.specs.Table.{complete, kind_of, no_settings, once, pairs_of, table_of, with_setting, with_settings};
 
 use crate::columns::add_items;
@@ -19,7 +20,7 @@ use stored_data::StoredSet;
 #[derive(Drop)]
 pub struct Settings {
     pub kind: Option<KeyType>,
-    /// Whether `len` may come next: it stands right behind `type string`.
+    /// Whether `len` may come next: it stands right behind `type string` or `type binary`.
     pub takes_length: bool,
     pub size: Option<u32>,
     /// In ms.
@@ -41,8 +42,28 @@ fn read_kind(word: &[u8]) -> Option<KeyType>
         Some(KeyType::Integer)
     } else if word == b"string".as_slice() {
         Some(KeyType::Text(32))
+    } else if word == b"binary".as_slice() {
+        Some(KeyType::Binary(32))
     } else {
         None
+    }
+}
+
+/// Whether keys of this kind have a length of their own.
+fn has_length(kind: KeyType) -> bool
+    ensures { result ≡ spec.has_length kind }
+{
+    matches!(kind, KeyType::Text(_) | KeyType::Binary(_))
+}
+
+/// The kind of this length, where such keys have one.
+fn with_length(kind: KeyType, length: u32) -> KeyType
+    ensures { result ≡ spec.with_length length kind }
+{
+    match kind {
+        KeyType::Text(_) => KeyType::Text(length),
+        KeyType::Binary(_) => KeyType::Binary(length),
+        KeyType::Ip | KeyType::Ipv6 | KeyType::Integer => kind,
     }
 }
 
@@ -54,6 +75,13 @@ fn take_value<'a>(keyword: &[u8], words: &mut Words<'a>) -> &'a [u8]
         return b"";
     }
     next_or_empty(words)
+}
+
+/// The kind that is set, if any, with this length.
+fn resized(kind: Option<KeyType>, length: u32) -> Option<KeyType>
+    ensures { result ≡ option_map (spec.with_length length) kind }
+{
+    kind.map(|kind| with_length(kind, length))
 }
 
 impl Settings {
@@ -83,12 +111,13 @@ impl Settings {
                 return Err(ReadError::Wrong(Fault::UnknownType));
             };
             self.kind = Some(kind);
-            self.takes_length = matches!(kind, KeyType::Text(_));
+            self.takes_length = has_length(kind);
             return Ok(());
         }
         if keyword == b"len".as_slice() {
             demand(takes_length, Fault::UnknownKeyword)?;
-            self.kind = Some(KeyType::Text(read_bounded(value, 1, 1_024)?));
+            let length = read_bounded(value, 1, 1_024)?;
+            self.kind = resized(self.kind, length);
             return Ok(());
         }
         if keyword == b"size".as_slice() {

@@ -18,6 +18,9 @@ const DATA: [Datum; 3] = [Datum::Gpc0, Datum::ConnCnt, Datum::ConnCur];
 /// The ms for which an entry lives.
 const EXPIRE: u32 = 500;
 
+/// How many entries go at once where a table is full.
+const PURGE: u32 = 3;
+
 /// What a table of integers is made with, whose entries live for 500 ms.
 pub fn spec(alloc: Global, size: u32, max_refs: u32, life: u64) -> Result<Spec, NoMemory>
     requires size { (1 ≤ size) × (size ≤ 2 ^ 30) }
@@ -37,6 +40,7 @@ pub fn spec(alloc: Global, size: u32, max_refs: u32, life: u64) -> Result<Spec, 
         size,
         expire: Some(EXPIRE),
         nopurge: false,
+        purge: PURGE,
         columns,
         max_refs,
         life,

@@ -8,7 +8,8 @@ use crate::calls::{
 };
 use crate::telling::{are_answers, last_ticket};
 use crate::worked::{
-    DATES, END_OF_LIFE, Example, Keys, NO_TICKET, ONE_REFERENCE, PURGING, Told, event_of, spec,
+    DATES, END_OF_LIFE, Example, Keys, NO_TICKET, ONE_REFERENCE, PURGING, PURGING_ALL, PURGING_TWO,
+    Told, event_of, spec,
 };
 use pooled_table::StickTable;
 use sequence::NoMemory;
@@ -155,7 +156,14 @@ fn tells_twice(alloc: Global, example: &Example) -> Result<bool, NoMemory> {
 
 #[test]
 fn a_call_is_answered_twice(rt: HostRuntime) -> Result<(), Fail> {
-    for example in [&END_OF_LIFE, &DATES, &ONE_REFERENCE, &PURGING] {
+    for example in [
+        &END_OF_LIFE,
+        &DATES,
+        &ONE_REFERENCE,
+        &PURGING,
+        &PURGING_TWO,
+        &PURGING_ALL,
+    ] {
         assert!(rt; tells_twice(rt.alloc(), example)?);
     }
     Ok(())
@@ -171,7 +179,14 @@ fn pooled_tells(alloc: Global, keys: Keys, example: &Example) -> Result<bool, No
 
 #[test]
 fn worked_examples_are_told(rt: HostRuntime) -> Result<(), Fail> {
-    for example in [&END_OF_LIFE, &DATES, &ONE_REFERENCE, &PURGING] {
+    for example in [
+        &END_OF_LIFE,
+        &DATES,
+        &ONE_REFERENCE,
+        &PURGING,
+        &PURGING_TWO,
+        &PURGING_ALL,
+    ] {
         assert!(rt; pooled_tells(rt.alloc(), Keys::Short, example)?);
         assert!(rt; pooled_tells(rt.alloc(), Keys::Long, example)?);
     }

@@ -14,6 +14,7 @@ use stick_table::{PlainTable, Reply, Ticket};
 /// Ten entries and four references.
 static FOUR_REFERENCES: Example = Example {
     size: 10,
+    purge: 1,
     expire: None,
     max_refs: 4,
     life: 1_000,

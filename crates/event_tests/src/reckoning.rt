@@ -33,13 +33,14 @@ pub struct Connection {
     pub moment: u64,
 }
 
-/// What a table is made with: its greatest number of entries, their life in ms, whether it keeps what it has, its
-/// greatest number of references, the end of its own life, and the period of its rate in ms.
+/// What a table is made with: its greatest number of entries, their life in ms, whether it keeps what it has, how many
+/// entries go at once where it is full, its greatest number of references, the end of its own life, and the period of its rate in ms.
 #[derive(Clone, Copy)]
 pub struct Limits {
     pub size: u32,
     pub expire: Option<u32>,
     pub nopurge: bool,
+    pub purge: u32,
     pub max_refs: u32,
     pub life: u64,
     pub period: u32,
@@ -228,12 +229,18 @@ impl Reckoning {
         if self.limits.nopurge {
             return false;
         }
-        match oldest(&self.entries, &self.held) {
-            Some(entry) => {
-                self.remove(entry.key);
-                true
+        let before = self.entries.len();
+        self.purge();
+        self.entries.len() < before
+    }
+
+    /// Removes the oldest entries without references, as many as go at once.
+    fn purge(&mut self) {
+        for _place in 0..self.limits.purge {
+            match oldest(&self.entries, &self.held) {
+                Some(entry) => self.remove(entry.key),
+                None => return,
             }
-            None => false,
         }
     }
 

@@ -50,6 +50,19 @@ fn life(random: &mut Random) -> u64
     }
 }
 
+/// How many entries go at once where a table is full.
+fn purge(random: &mut Random) -> u32
+    ensures { (1 ≤ result) × (result ≤ 1024) }
+{
+    match random.below(5) {
+        0 => 1,
+        1 => 2,
+        2 => 3,
+        3 => 8,
+        _ => 1_024,
+    }
+}
+
 /// What a table of so many entries is made with: numbers are its keys, and it has 1 to 10 references.
 pub fn spec(random: &mut Random, size: u32, columns: StoredSet) -> Spec
     requires { (1 ≤ size) × (size ≤ 100) }
@@ -60,6 +73,7 @@ pub fn spec(random: &mut Random, size: u32, columns: StoredSet) -> Spec
         size,
         expire: expire(random),
         nopurge: random.below(3) == 0,
+        purge: purge(random),
         columns,
         max_refs: random.below(10) + 1,
         life: life(random),

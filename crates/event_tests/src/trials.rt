@@ -73,6 +73,7 @@ fn limits(spec: &Spec, period: u32) -> Limits {
         size: spec.size,
         expire: spec.expire,
         nopurge: spec.nopurge,
+        purge: spec.purge,
         max_refs: spec.max_refs,
         life: spec.life,
         period,

@@ -64,6 +64,7 @@ pub type Told = (u32, Ask, Tell);
 /// tells, one after another.
 pub struct Example {
     pub size: u32,
+    pub purge: u32,
     pub expire: Option<u32>,
     pub max_refs: u32,
     pub life: u64,
@@ -73,6 +74,7 @@ pub struct Example {
 /// The table has one event left for the release.
 pub static END_OF_LIFE: Example = Example {
     size: 10,
+    purge: 1,
     expire: None,
     max_refs: 2,
     life: 4,
@@ -91,6 +93,7 @@ pub static END_OF_LIFE: Example = Example {
 
 pub static DATES: Example = Example {
     size: 100,
+    purge: 1,
     expire: Some(30_000),
     max_refs: 8,
     life: 1_000,
@@ -109,6 +112,7 @@ pub static DATES: Example = Example {
 
 pub static ONE_REFERENCE: Example = Example {
     size: 10,
+    purge: 1,
     expire: None,
     max_refs: 1,
     life: 1_000,
@@ -125,6 +129,7 @@ pub static ONE_REFERENCE: Example = Example {
 /// A full table of two entries, which tracks the first host at 1 ms, and purges the second for the third at 3 ms.
 pub static PURGING: Example = Example {
     size: 2,
+    purge: 1,
     expire: None,
     max_refs: 8,
     life: 1_000,
@@ -148,9 +153,53 @@ pub static PURGING: Example = Example {
     ],
 };
 
+/// A full table that purges two: the first host and the third, as the second is tracked. Then there is a place.
+pub static PURGING_TWO: Example = Example {
+    size: 4,
+    purge: 2,
+    expire: None,
+    max_refs: 8,
+    life: 1_000,
+    rows: &[
+        (0, Ask::Put(1, 1), Tell::Created),
+        (1, Ask::Track(2), Tell::Tracked(2, (2, 1, 0, 0))),
+        (2, Ask::Put(3, 3), Tell::Created),
+        (3, Ask::Put(4, 4), Tell::Created),
+        (4, Ask::Put(5, 5), Tell::Created),
+        (
+            4,
+            Ask::ListAll,
+            Tell::Rows(3, &[(2, 1, 0, 0), (4, 0, 0, 4), (5, 0, 0, 5)]),
+        ),
+        (5, Ask::Put(6, 6), Tell::Created),
+        (
+            5,
+            Ask::ListAll,
+            Tell::Rows(4, &[(2, 1, 0, 0), (4, 0, 0, 4), (5, 0, 0, 5), (6, 0, 0, 6)]),
+        ),
+    ],
+};
+
+/// A full table that purges all that it can, as they are fewer than it may.
+pub static PURGING_ALL: Example = Example {
+    size: 3,
+    purge: 8,
+    expire: None,
+    max_refs: 8,
+    life: 1_000,
+    rows: &[
+        (0, Ask::Track(1), Tell::Tracked(1, (1, 1, 0, 0))),
+        (1, Ask::Put(2, 2), Tell::Created),
+        (2, Ask::Put(3, 3), Tell::Created),
+        (3, Ask::Put(4, 4), Tell::Created),
+        (3, Ask::ListAll, Tell::Rows(2, &[(1, 1, 0, 0), (4, 0, 0, 4)])),
+    ],
+};
+
 /// Events that need no ticket.
 pub static RUN: Example = Example {
     size: 10,
+    purge: 1,
     expire: Some(1_000),
     max_refs: 4,
     life: 8,
@@ -211,6 +260,7 @@ pub fn spec(alloc: Global, keys: Keys, example: &Example) -> Result<Spec, NoMemo
         size: example.size.clamp(1, 100),
         expire: expire(example),
         nopurge: false,
+        purge: example.purge.clamp(1, 1_024),
         columns,
         max_refs: example.max_refs.clamp(1, 100),
         life: example.life.min(1_000),

@@ -26,6 +26,7 @@ fn spec(alloc: Global, life: u64) -> Spec
         size: 10,
         expire: None,
         nopurge: false,
+        purge: 1,
         columns: StoredSet::new(alloc),
         max_refs: 4,
         life,

@@ -1,6 +1,6 @@
 -- A shard whose references have no slots: each event is answered as before, but for the slots.
 use Rattle.std.proofs.Common.{◌≡◌, ℕ, refl, sym, ap, subst, ◌∙◌, arith, Bool, true, false, cond, not, nat_eq, nat_le, nat_lt, ◌&&◌, ◌||◌, List, [], ◌∷◌, ◌++◌, length, map, filter, count_by, Option, Some, None, is_some, unwrap_or}
-use Rattle.std.specs.Prelude.{option_map, if◌then◌else◌}
+use Rattle.std.specs.Prelude.{option_map, max, if◌then◌else◌}
 use Rattle.std.specs.BTreeMap.{insert_entry}
 use Rattle.std.specs.List.{AllByRecursion, IsDistinct, list_all}
 use Rattle.std.specs.Option.{option_map_or}
@@ -147,7 +147,7 @@ stored_by is_kept spec records key found =
     option_map (λ roomy. insert_entry key_cmp roomy key found) (if is_some (record_at key records) then Some records
     else (if nat_lt (length records) spec.size then Some records
     else (if spec.nopurge || list_all (λ (entry : Key × Record). is_kept entry.0) records then None
-    else Some (filter (λ (entry : Key × Record). not (not (is_kept entry.0) && nat_lt (count_by (λ (other : Key × Record). not (is_kept other.0) && nat_lt other.1.stamp entry.1.stamp) records) 1)) records))))
+    else Some (filter (λ (entry : Key × Record). not (not (is_kept entry.0) && nat_lt (count_by (λ (other : Key × Record). not (is_kept other.0) && nat_lt other.1.stamp entry.1.stamp) records) (max 1 spec.purge))) records))))
 
 pub stored_plain : (spec : Spec) (tickets : List (Ticket × Key)) (records : List (Key × Record)) (key : Key) (found : Record) → stored_in spec (plain_tickets tickets) records key found ≡ stored_in spec tickets records key found
 stored_plain spec tickets records key found = (λ i. stored_by (λ k. nat_lt 0 (refs_plain k tickets i)) spec records key found)

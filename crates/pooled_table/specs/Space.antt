@@ -1,11 +1,22 @@
 -- Room for one more entry.
-use Rattle.std.specs.Prelude.{◌≡◌, ◌<◌, List, length, Some, None}
+use Rattle.std.specs.Prelude.{◌≡◌, ◌<◌, ◌≤◌, ℕ, List, length, slice_get, Option, Some, None}
 use Rattle.entry_store.specs.Stock.{Stock, IsStock, held_count}
 use Rattle.table_model.specs.Key.{Key}
-use Rattle.table_model.specs.Room.{room_in}
+use Rattle.table_model.specs.Room.{purged, room_in}
 use Rattle.table_model.specs.declared.rows.Ticket.{Ticket}
 use Rattle.table_model.specs.declared.specification.Spec.{Spec}
 use Rattle.pooled_table.specs.Shown.{records_of, AreCounted, IsRising, IsLeft}
+
+-- a purge of so many: the rest of the records is what the definition leaves, and where one can go, one went at least
+pub record IsPurged (purge : ℕ) (old new : Stock) : Type 0 where
+  pub records : (expire : Option ℕ) (tickets : List (Ticket × Key)) → AreCounted old tickets → purged purge tickets (records_of expire old) ≡ records_of expire new
+  pub fewer : 1 ≤ purge → (front : ℕ) → slice_get old.queue 0 ≡ Some front → held_count new < held_count old
+  pub left : IsLeft old new
+  pub stock : IsStock new
+  pub rising : IsRising new new.queue
+  pub columns : new.columns ≡ old.columns
+  pub newest : new.newest ≡ old.newest
+  pub size : length new.slots ≡ length old.slots
 
 -- room was made: of the records that there were the rest is what the definition leaves, and a slot is free
 pub record IsRoomy (spec : Spec) (old new : Stock) : Type 0 where

@@ -6,7 +6,7 @@ use Rattle.shard_locks.specs.ShardsState.{ShardsState}
 
 -- all but the seed of its hashes
 abbrev pub unseeded : Spec → Spec
-unseeded spec = record { kind = spec.kind; size = spec.size; expire = spec.expire; nopurge = spec.nopurge; columns = spec.columns; max_refs = spec.max_refs; life = spec.life; seed = 0 }
+unseeded spec = record { kind = spec.kind; size = spec.size; expire = spec.expire; nopurge = spec.nopurge; purge = spec.purge; columns = spec.columns; max_refs = spec.max_refs; life = spec.life; seed = 0 }
 
 abbrev pub but_for_seed : ShardsState → ShardsState
 but_for_seed table = record { spec = unseeded table.spec; shards = table.shards; keep = table.keep }

@@ -43,6 +43,7 @@ pub fn spec(alloc: Global) -> Result<Spec, NoMemory>
         size: 10,
         expire: None,
         nopurge: false,
+        purge: 1,
         columns: columns(alloc)?,
         max_refs: 10,
         life: 1_000_000,

@@ -17,7 +17,7 @@ use Rattle.rule_eval.specs.declared.wants.Want.TheVariants.{Done, Look, Track}
 
 -- ten addresses with their current connections
 abbrev pub addresses : Spec
-addresses = record { kind = Ip; size = 10; expire = None; nopurge = false; columns = record { datum = ConnCur; period = 0 } ∷ []; max_refs = 65536; life = 2 ^ 62; seed = 0 }
+addresses = record { kind = Ip; size = 10; expire = None; nopurge = false; purge = 1; columns = record { datum = ConnCur; period = 0 } ∷ []; max_refs = 65536; life = 2 ^ 62; seed = 0 }
 
 -- track-sc0 src, and reject if { sc0_conn_cur gt 1 }
 abbrev pub one_each : Setup

@@ -85,8 +85,12 @@ fn converts(samples: Samples, expression: &KeyExpression, kind: KeyType) -> bool
     match expression {
         KeyExpression::Source => address_converts(samples.src, kind),
         KeyExpression::SourcePort | KeyExpression::DestinationPort | KeyExpression::Integer(_) =>
-            matches!(kind, KeyType::Integer | KeyType::Text(_)),
-        KeyExpression::Text(text) => matches!(kind, KeyType::Text(_)) && text.len() > 0,
+            matches!(
+                kind,
+                KeyType::Integer | KeyType::Text(_) | KeyType::Binary(_)
+            ),
+        KeyExpression::Text(text) => matches!(kind, KeyType::Text(_) | KeyType::Binary(_))
+            && text.len() > 0,
     }
 }
 

@@ -1,5 +1,5 @@
 -- Tables within their limits can be opened.
-use Rattle.std.proofs.Common.{◌≡◌, ◌+◌, ℕ, Option, Some, None, List, [], ◌∷◌, length, cond, is_some, refl, ap, ◌∙◌, arith, lit≤, IfSome}
+use Rattle.std.proofs.Common.{◌≡◌, ◌+◌, ◌≤◌, ℕ, Option, Some, None, List, [], ◌∷◌, length, map, cond, is_some, refl, ap, ◌∙◌, arith, lit≤, IfSome}
 use Rattle.std.specs.List.{cons_option, count_by}
 use Rattle.std.specs.Option.{option_map}
 use Rattle.std.proofs.lemmas.List.Elements.{All-cons, All-nil, All-head, All-tail}
@@ -8,10 +8,10 @@ use Rattle.table_model.specs.Limits.{IsTableSpec}
 use Rattle.rule_model.specs.declared.sections.TableSpec.{TableSpec}
 use Rattle.rule_model.specs.declared.sections.Section.{Section}
 use Rattle.rule_model.specs.declared.sections.NamedSpec.{NamedSpec}
-use Rattle.rule_model.specs.Served.{IsTable, AreTables, AreTableSpecs, spec_of, tables_of}
+use Rattle.rule_model.specs.Served.{IsTable, AreTables, AreTableSpecs, named_with_purge, spec_of, tables_of}
 
 spec_of-IsTableSpec : (table : TableSpec) → IsTable table → IsTableSpec (spec_of table)
-spec_of-IsTableSpec table h = record { kind = h.kind; size = h.size; expire = h.expire; max_refs = (lit≤ tt, lit≤ tt); life = lit≤ tt }
+spec_of-IsTableSpec table h = record { kind = h.kind; size = h.size; expire = h.expire; purge = (lit≤ tt, lit≤ tt); max_refs = (lit≤ tt, lit≤ tt); life = lit≤ tt }
 
 -- one section more in front
 with_one : (section : Section) (table : Option TableSpec) (tables : List NamedSpec) → IfSome table IsTable → AreTableSpecs tables
@@ -42,3 +42,13 @@ length-tables_of (section ∷ sections) =
 
 pub counted_tables : (sections slice : List Section) (count : ℕ) → slice ≡ sections → count ≡ count_by (λ (section : Section). is_some section.table) slice → count ≡ length (tables_of sections)
 counted_tables sections slice count e counted = counted ∙ length-tables_of slice ∙ ap (λ s. length (tables_of s)) e
+
+-- tables that purge otherwise, within the limits, are within theirs
+pub with_purges : (purge : ℕ) (tables : List NamedSpec) → (1 ≤ purge) × (purge ≤ 1024) → AreTableSpecs tables → AreTableSpecs (map (named_with_purge purge) tables)
+with_purges purge [] within h = All-nil (λ (named : NamedSpec). IsTableSpec named.spec)
+with_purges purge (named ∷ tables) within h =
+    let P : NamedSpec → Type 0 = λ (n : NamedSpec). IsTableSpec n.spec in
+    let one : IsTableSpec named.spec = All-head P named tables h in
+    All-cons P (named_with_purge purge named) (map (named_with_purge purge) tables)
+    (record { kind = one.kind; size = one.size; expire = one.expire; purge = within; max_refs = one.max_refs; life = one.life })
+    (with_purges purge tables within (All-tail P named tables h))

@@ -1,5 +1,5 @@
 -- What is served of a configuration.
-use Rattle.std.specs.Prelude.{ℕ, ◌^◌, ◌≤◌, ◌<◌, Bool, true, false, ◌&&◌, ltb, List, [], Option, Some, None, IfSome, All}
+use Rattle.std.specs.Prelude.{ℕ, ◌^◌, ◌≤◌, ◌<◌, Bool, true, false, ◌&&◌, ltb, List, [], map, Option, Some, None, IfSome, All}
 use Rattle.std.specs.List.{find, filter_map}
 use Rattle.std.specs.Option.{option_or, option_map, option_and_then}
 use Rattle.std.specs.Str.{bytes_eq}
@@ -29,7 +29,7 @@ has_backend Listen = true
 
 -- how a declared table is made
 abbrev pub spec_of : TableSpec → Spec
-spec_of table = record { kind = table.kind; size = table.size; expire = table.expire; nopurge = table.nopurge; columns = table.columns; max_refs = 65536; life = 2 ^ 62; seed = 0 }
+spec_of table = record { kind = table.kind; size = table.size; expire = table.expire; nopurge = table.nopurge; purge = 1; columns = table.columns; max_refs = 65536; life = 2 ^ 62; seed = 0 }
 
 -- a section's table, under the section's name
 abbrev pub table_of : Section → Option NamedSpec
@@ -72,6 +72,13 @@ setup_with sections shards (Some proxy) = record { tables = tables_of sections; 
 
 unfoldable pub setup_of : Config → ℕ → Setup
 setup_of config shards = setup_with config.sections shards (proxy_of config.sections)
+
+-- the same, each table, where it is full, removing so many of its oldest entries for a new one
+abbrev pub named_with_purge : ℕ → NamedSpec → NamedSpec
+named_with_purge purge named = record named { spec = record named.spec { purge = purge } }
+
+abbrev pub with_purge : ℕ → Setup → Setup
+with_purge purge setup = record setup { tables = map (named_with_purge purge) setup.tables }
 
 -- the first table that has fewer places than there are shards
 abbrev pub narrow_table_of : Setup → Option NamedSpec

@@ -17,4 +17,4 @@ pub use criteria::{Acl, Criterion, Fetch, Measure, Operator, Pattern};
 pub use faults::{Fault, ReadError};
 pub use rules::{Condition, Rule, Term};
 pub use sections::{Config, Name, NamedSpec, Section, SectionKind, Setup, TableSpec};
-pub use served::{LIFE, MAX_REFS};
+pub use served::{LIFE, MAX_REFS, PURGE};

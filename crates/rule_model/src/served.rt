@@ -1,12 +1,12 @@
 //! What is served of a configuration.
 
-ghost use Rattle.std.specs.Prelude.{◌≡◌, ◌≤◌, ◌-◌, ◌^◌, ◌∷◌, [], None, All, IfNone, IfOk, is_some, length, min};
+ghost use Rattle.std.specs.Prelude.{◌≡◌, ◌≤◌, ◌-◌, ◌^◌, ◌∷◌, [], None, All, IfNone, IfOk, is_some, length, map, min};
 ghost use Rattle.std.specs.List.{count_by, sum_by};
 ghost use Rattle.std.specs.Option.{option_map, option_and_then};
 ghost use Rattle.table_model.specs.Limits.{IsTableSpec};
 ghost use Rattle.rule_model.specs.declared.sections.Section.{Section};
 ghost use Rattle.rule_model.specs.Served as spec;
-ghost use Rattle.rule_model.specs.Served.{AreTables, AreTableSpecs, backend_named, narrow_table_of, proxy_of, server_of, setup_of, spec_of, tables_of};
+ghost use Rattle.rule_model.specs.Served.{AreTables, AreTableSpecs, backend_named, named_with_purge, narrow_table_of, proxy_of, server_of, setup_of, spec_of, tables_of};
 
 use crate::{Config, Name, NamedSpec, Rule, Section, SectionKind, Setup, TableSpec};
 use address_text::Endpoint;
@@ -16,6 +16,9 @@ use table_model::Spec;
 
 /// The greatest number of outstanding references of a table's shard.
 pub const MAX_REFS: u32 = 65_536;
+
+/// How many of its oldest entries a full table removes at once, where that isn't said.
+pub const PURGE: u32 = 1;
 
 /// The life of a table's shard: what its events and its outstanding references come to at most.
 pub const LIFE: u64 = 1 << 62;
@@ -46,6 +49,7 @@ impl TableSpec {
             size: self.size,
             expire: self.expire,
             nopurge: self.nopurge,
+            purge: PURGE,
             columns: self.columns.copy()?,
             max_refs: MAX_REFS,
             life: LIFE,
@@ -141,6 +145,24 @@ fn count_rules(sections: &[Section]) -> usize
     count
 }
 
+/// Each table, where it is full, removes so many of its oldest entries for a new one.
+fn set_purges(tables: &mut [NamedSpec], purge: u32)
+    ensures { tables.new ≡ map (named_with_purge purge) tables.old }
+{
+    for named in tables.iter_mut() {
+        named.spec.purge = purge;
+    }
+}
+
+/// The same tables, but that each removes so many.
+fn purging_tables(tables: Sequence<NamedSpec>, purge: u32) -> Sequence<NamedSpec>
+    ensures { result ≡ map (named_with_purge purge) tables }
+{
+    let mut tables = tables.into_vec();
+    set_purges(tables.as_mut_slice(), purge);
+    Sequence::from_vec(tables)
+}
+
 impl Setup {
     /// One table, and no proxy.
     pub fn of_table(alloc: Global, name: &[u8], spec: Spec) -> Result<Setup, NoMemory>
@@ -158,6 +180,28 @@ impl Setup {
             server: None,
             shards: 1,
         })
+    }
+
+    /// The same, but that each table, where it is full, removes so many of its oldest entries for a new one, 1 to 1,024.
+    pub fn with_purge(self, purge: u32) -> Setup
+        requires { (1 ≤ purge) × (purge ≤ 1024) }
+        ensures purge { result ≡ spec.with_purge purge self }
+        ensures limits { AreTableSpecs self.tables → AreTableSpecs result.tables }
+    {
+        let Setup {
+            tables,
+            rules,
+            bind,
+            server,
+            shards,
+        } = self;
+        Setup {
+            tables: purging_tables(tables, purge),
+            rules,
+            bind,
+            server,
+            shards,
+        }
     }
 
     /// The first table that has fewer places than there are shards. It can't be opened, since each shard has a place.

@@ -35,6 +35,7 @@ fn table(alloc: Global, name: u8, kind: KeyType, data: &[Datum]) -> Result<Named
         size: 10,
         expire: None,
         nopurge: false,
+        purge: 1,
         columns: columns(alloc, data)?,
         max_refs: 10,
         life: 1000,

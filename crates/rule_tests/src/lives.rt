@@ -32,6 +32,7 @@ fn setup(alloc: Global, rejects: bool) -> Result<Setup, NoMemory> {
         size: 10,
         expire: None,
         nopurge: false,
+        purge: 1,
         columns: StoredSet::new(alloc),
         max_refs: 10,
         life: 1000,

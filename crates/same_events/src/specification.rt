@@ -4,6 +4,13 @@ ghost use Rattle.std.specs.Prelude.{◌≡◌, ◌↔◌, IsTrue};
 use crate::same_columns;
 use table_model::Spec;
 
+/// Whether two tables make room alike.
+fn same_when_full(spec: &Spec, other: &Spec) -> bool
+    ensures { IsTrue result ↔ ((spec.now.nopurge ≡ other.now.nopurge) × (spec.now.purge ≡ other.now.purge)) }
+{
+    spec.nopurge == other.nopurge && spec.purge == other.purge
+}
+
 /// Whether two specifications are the same.
 pub fn same_spec(spec: &Spec, other: &Spec) -> bool
     ensures { IsTrue result ↔ (spec.now ≡ other.now) }
@@ -11,7 +18,7 @@ pub fn same_spec(spec: &Spec, other: &Spec) -> bool
     spec.kind == other.kind
         && spec.size == other.size
         && spec.expire == other.expire
-        && spec.nopurge == other.nopurge
+        && same_when_full(spec, other)
         && same_columns(spec.columns.columns(), other.columns.columns())
         && spec.max_refs == other.max_refs
         && spec.life == other.life

@@ -2,7 +2,7 @@
 use Rattle.std.proofs.Common.{◌≡◌, inl, inr, refl, sym, ap, subst, ◌∙◌, arith, ℕ, true, Result, Ok, Err, List}
 use Rattle.stick_key.specs.KeyText.{IsMalformed, IsOutOfRange, Reads, ReadsOneKey}
 use Rattle.stick_key.specs.declared.kind.KeyType.{KeyType}
-use Rattle.stick_key.specs.declared.kind.KeyType.TheVariants.{Ip, Ipv6, Integer, Text}
+use Rattle.stick_key.specs.declared.kind.KeyType.TheVariants.{Ip, Ipv6, Integer, Text, Binary}
 use Rattle.stick_key.specs.Dotted.{AreBytes}
 use Rattle.table_model.specs.Key.{Key}
 use Rattle.table_model.specs.declared.events.Event.{Event}
@@ -24,12 +24,14 @@ not_malformed Ip text key reads wrong = wrong reads.0
 not_malformed Ipv6 text key reads wrong = wrong key reads
 not_malformed Integer text key reads wrong = wrong reads.0
 not_malformed (Text n) text key reads wrong = reads.0 wrong
+not_malformed (Binary n) text key reads wrong = wrong reads.0
 
 in_range : (kind : KeyType) (text : List ℕ) (key : Key) → Reads kind text key → IsOutOfRange kind text → ⊥
 in_range Ip text key reads wrong = wrong.1 (subst AreBytes reads.2 reads.1)
 in_range Ipv6 text key reads wrong = wrong
 in_range Integer text key reads wrong = absurd (omega (arith, reads.1, wrong.1))
 in_range (Text n) text key reads wrong = wrong
+in_range (Binary n) text key reads wrong = wrong
 
 not_wrong : (kind : KeyType) (text : List ℕ) (key : Key) (message : Message) → Reads kind text key → ReadsKey kind text (Err message) → IsAmple {X = Key} (Err message) → ⊥
 not_wrong kind text key InvalidKey reads (inl wrong) ample = not_malformed kind text key reads wrong

@@ -4,7 +4,7 @@ ghost use Rattle.std.specs.Prelude.{◌≡◌, ◌≤◌, IfOk};
 ghost use Rattle.connection_drive.specs.Tables.{CanOpen};
 ghost use Rattle.script.specs.BuiltIn.{built_in as specified};
 
-use rule_model::{Action, KeyExpression, LIFE, MAX_REFS, Rule, Setup, Slot};
+use rule_model::{Action, KeyExpression, LIFE, MAX_REFS, PURGE, Rule, Setup, Slot};
 use sequence::{NoMemory, Sequence};
 use std::alloc::Global;
 use stick_key::KeyType;
@@ -29,6 +29,7 @@ pub fn built_in(alloc: Global, shards: u32) -> Result<Setup, NoMemory>
         size: 100,
         expire: None,
         nopurge: false,
+        purge: PURGE,
         columns,
         max_refs: MAX_REFS,
         life: LIFE,

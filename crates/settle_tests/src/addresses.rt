@@ -43,6 +43,7 @@ pub fn spec(alloc: Global) -> Result<Spec, NoMemory>
         size: 10,
         expire: Some(1_000),
         nopurge: false,
+        purge: 1,
         columns,
         max_refs: 10,
         life: 1_000,

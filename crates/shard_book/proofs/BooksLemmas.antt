@@ -60,7 +60,7 @@ shard_places size shards i some places =
 pub part_limits : (spec : Spec) (shards i : ℕ) → IsTableSpec spec → 1 ≤ shards → shards ≤ spec.size → IsTableSpec (part_of spec shards i)
 part_limits spec shards i limits some places =
     let part = shard_places spec.size shards i some places in
-    record { kind = limits.kind; size = (part.0, omega (arith, part.1, limits.size.1)); expire = limits.expire; max_refs = limits.max_refs; life = limits.life }
+    record { kind = limits.kind; size = (part.0, omega (arith, part.1, limits.size.1)); expire = limits.expire; purge = limits.purge; max_refs = limits.max_refs; life = limits.life }
 
 -- ---- places of lists
 

@@ -1,5 +1,6 @@
 mod AddressLaws
 mod DottedLemmas
+mod HexadecimalLemmas
 mod Ipv6AddressLemmas
 mod Ipv6Bytes
 mod Ipv6Digits

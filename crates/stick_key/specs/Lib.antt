@@ -1,6 +1,7 @@
 pub mod AddressOf
 pub mod Convert
 pub mod Dotted
+pub mod Hexadecimal
 pub mod Ipv6Canonical
 pub mod Ipv6Printed
 pub mod Ipv6Reader

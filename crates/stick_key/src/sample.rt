@@ -1,11 +1,14 @@
 //! Keys made of samples.
-ghost use Rattle.std.specs.Prelude.{◌≡◌, ◌==◌, IfOk, IfErr, IsOk, length, take, Some, None, false, if◌then◌else◌};
+ghost use Rattle.std.specs.Prelude.{◌≡◌, ◌==◌, ◌≤◌, IfOk, IfErr, IsOk, length, take, Some, None, false, if◌then◌else◌};
 ghost use Rattle.stick_key.specs.Convert.{converted, takes_memory};
+ghost use Rattle.stick_key.specs.Hexadecimal.{fitted};
+ghost use Rattle.stick_key.specs.declared.kind.KeyType.TheVariants.{Binary};
 
 use crate::ipv6::{mapped, print_ipv6, unmapped};
 use crate::text::{print_dotted, print_integer};
 use crate::{KeyFault, KeyType, NoMemory, StickKey};
 use sequence::Sequence;
+use smallvec::SmallVec;
 use std::alloc::Global;
 
 /// A list of bytes.
@@ -38,12 +41,48 @@ fn text_key(alloc: Global, text: &[u8], limit: u32) -> Result<Option<StickKey>, 
     Ok(Some(StickKey::from_bytes(alloc, cut(text, limit))?))
 }
 
-/// The key that a sample gives a table of this kind, if any. Only a text takes memory, and `Memory` is the one fault.
+/// The key of so many bytes that begins with these.
+fn binary_key(alloc: Global, bytes: &[u8], count: u32) -> Result<StickKey, NoMemory>
+    ensures key { IfOk result (λ key. key ≡ fitted count bytes.now) }
+    ensures inline { count ≤ 16 → IsOk result }
+{
+    StickKey::fitted(SmallVec::from_slice(alloc, cut(bytes, count))?, count)
+}
+
+/// The key of so many bytes that a sample gives, if any: an address and a number give their bytes, and so does a text that has
+/// some.
+fn convert_to_binary(
+    alloc: Global,
+    sample: &Sample,
+    count: u32,
+) -> Result<Option<StickKey>, KeyFault>
+    ensures converted { IfOk result (λ found. found ≡ converted sample.now (Binary count)) }
+    ensures fault { IfErr result (λ fault. fault ≡ KeyFault.Memory) }
+    ensures memory { count ≤ 16 → IsOk result }
+{
+    match sample {
+        Sample::V4(address) => Ok(Some(binary_key(alloc, address, count)?)),
+        Sample::V6(address) => Ok(Some(binary_key(alloc, address, count)?)),
+        Sample::Number(number) => Ok(Some(binary_key(alloc, &number.to_be_bytes(), count)?)),
+        Sample::Text(text) => {
+            if text.as_slice().is_empty() {
+                return Ok(None);
+            }
+            Ok(Some(binary_key(alloc, text.as_slice(), count)?))
+        }
+    }
+}
+
+/// The key that a sample gives a table of this kind, if any. Only a text, or more than sixteen bytes, takes memory, and
+/// `Memory` is the one fault.
 pub fn convert(alloc: Global, sample: &Sample, kind: KeyType) -> Result<Option<StickKey>, KeyFault>
     ensures converted { IfOk result (λ found. found ≡ converted sample.now kind) }
     ensures fault { IfErr result (λ fault. fault ≡ KeyFault.Memory) }
     ensures memory { takes_memory kind ≡ false → IsOk result }
 {
+    if let KeyType::Binary(count) = kind {
+        return convert_to_binary(alloc, sample, count);
+    }
     match (sample, kind) {
         (Sample::V4(address), KeyType::Ip) => Ok(Some(StickKey::from_bytes(alloc, address)?)),
         (Sample::V4(address), KeyType::Ipv6) => {

@@ -2,6 +2,7 @@
 
 ghost use Rattle.std.specs.Prelude.{◌≤◌};
 
+use crate::configuration::Keeping;
 use clap::{Arg, ArgAction, ArgMatches, Command, Error, value_parser};
 use std::alloc::{AllocError, Global};
 
@@ -79,7 +80,8 @@ fn replay_command<'a>(alloc: Global) -> Result<Command<'a>, AllocError> {
         .about("Replay a timed script of connections and commands on standard input")
         .after_help(REPLAY_HELP)
         .arg(file)?
-        .arg(shards_option(alloc))
+        .arg(shards_option(alloc))?
+        .arg(purge_option(alloc))
 }
 
 /// The option that says in how many parts each table is kept.
@@ -90,6 +92,16 @@ fn shards_option<'a>(alloc: Global) -> Arg<'a> {
         .value_parser(value_parser!(u32).range(1..=64))
         .default_value("1")
         .help("In how many parts each table is kept, 1 to 64")
+}
+
+/// The option that says how many entries go at once where a table is full.
+fn purge_option<'a>(alloc: Global) -> Arg<'a> {
+    Arg::new(alloc, "purge")
+        .long("purge")
+        .value_name("N")
+        .value_parser(value_parser!(u32).range(1..=1024))
+        .default_value("1")
+        .help("How many of its oldest entries a full table removes for a new one, 1 to 1024")
 }
 
 /// The option that says how long a server may take to accept a connection.
@@ -157,6 +169,7 @@ fn run_command<'a>(alloc: Global) -> Result<Command<'a>, AllocError> {
         .arg(socket)?
         .arg(threads)?
         .arg(shards_option(alloc))?
+        .arg(purge_option(alloc))?
         .arg(connections)?
         .arg(connect_option(alloc))?
         .arg(client_option(alloc))?
@@ -179,9 +192,29 @@ pub fn read_command_line<'a>(alloc: Global, words: &'a [String]) -> Result<ArgMa
 }
 
 /// In how many parts each table is kept. That it is 1 to 64 was seen as the command line was read.
-pub fn read_shards(arguments: &ArgMatches<'_>) -> u32
+fn read_shards(arguments: &ArgMatches<'_>) -> u32
     ensures some { 1 ≤ result }
     ensures few { result ≤ 64 }
 {
     arguments.get_one::<u32>("shards").unwrap_or(1).clamp(1, 64)
+}
+
+/// How many of its oldest entries a full table removes for a new one. That it is 1 to 1,024 was seen as the command line
+/// was read.
+fn read_purge(arguments: &ArgMatches<'_>) -> u32
+    ensures some { 1 ≤ result }
+    ensures few { result ≤ 1024 }
+{
+    arguments.get_one::<u32>("purge").unwrap_or(1).clamp(1, 1024)
+}
+
+/// How each table is kept.
+pub fn read_keeping(arguments: &ArgMatches<'_>) -> Keeping
+    ensures shards { (1 ≤ result.shards) × (result.shards ≤ 64) }
+    ensures purge { (1 ≤ result.purge) × (result.purge ≤ 1024) }
+{
+    Keeping {
+        shards: read_shards(arguments),
+        purge: read_purge(arguments),
+    }
 }

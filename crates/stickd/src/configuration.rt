@@ -94,28 +94,38 @@ fn report_narrow<R: Eprint>(rt: &R, named: &NamedSpec) -> io::Result<()> {
     }
 }
 
-/// What is served by a configuration, or without one, each table in so many shards. None where that can't be had, which
+/// How each table is kept: in so many shards, and removing so many of its oldest entries for a new one where it is full.
+#[derive(Clone, Copy, Debug)]
+pub struct Keeping {
+    /// 1 to 64.
+    pub shards: u32,
+    /// 1 to 1,024.
+    pub purge: u32,
+}
+
+/// What is served by a configuration, or without one, each table kept in this way. None where that can't be had, which
 /// is said on standard error.
 pub fn open_setup<R: Files + Eprint + AllocGlobal>(
     rt: &R,
     path: Option<&str>,
-    shards: u32,
+    keeping: Keeping,
 ) -> io::Result<Option<Setup>>
-    requires some { 1 ≤ shards }
-    requires few { shards ≤ 64 }
+    requires shards { (1 ≤ keeping.shards) × (keeping.shards ≤ 64) }
+    requires purge { (1 ≤ keeping.purge) × (keeping.purge ≤ 1024) }
     ensures { IfOk result (λ opened. IfSome opened CanOpen) }
 {
     let made = match path {
         Some(path) => match read_file(rt, path, Detail::Short)? {
-            Some(config) => setup_of(rt.alloc(), &config, shards),
+            Some(config) => setup_of(rt.alloc(), &config, keeping.shards),
             None => return Ok(None),
         },
-        None => built_in_setup(rt.alloc(), shards),
+        None => built_in_setup(rt.alloc(), keeping.shards),
     };
     let Ok(setup) = made else {
         eprintln!(rt; "stickd: out of memory")?;
         return Ok(None);
     };
+    let setup = setup.with_purge(keeping.purge);
     if let Some(narrow) = setup.narrow_table() {
         report_narrow(rt, narrow)?;
         return Ok(None);

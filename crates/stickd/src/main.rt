@@ -10,8 +10,8 @@ mod run_plan;
 
 use byte_ports::{StreamSink, StreamSource};
 use clap::ArgMatches;
-use command_line::{read_command_line, read_shards};
-use configuration::{Detail, open_setup, read_file};
+use command_line::{read_command_line, read_keeping};
+use configuration::{Detail, Keeping, open_setup, read_file};
 use log::Log;
 use proxy::{ProxyRuntime, run_pooled};
 use run_plan::read_plan;
@@ -103,7 +103,7 @@ fn run_command<R: ProxyRuntime + RandomSource + Files + Input + Print + Eprint +
     let done = match matches.subcommand() {
         Some(("check", arguments)) => check(rt, arguments)?,
         Some(("run", arguments)) => return serve(rt, arguments),
-        Some((_, arguments)) => replay(rt, arguments.get_str("FILE"), read_shards(arguments))?,
+        Some((_, arguments)) => replay(rt, arguments.get_str("FILE"), read_keeping(arguments))?,
         None => false,
     };
     Ok(status_of(done))
@@ -138,16 +138,16 @@ fn check<R: Files + Print + Eprint + AllocGlobal>(
     Ok(true)
 }
 
-/// Replays the script on standard input on the tables of a configuration, each in so many shards.
+/// Replays the script on standard input on the tables of a configuration, each kept in this way.
 fn replay<R: Files + Input + Print + Eprint + AllocGlobal>(
     rt: &R,
     path: Option<&str>,
-    shards: u32,
+    keeping: Keeping,
 ) -> io::Result<bool>
-    requires some { 1 ≤ shards }
-    requires few { shards ≤ 64 }
+    requires shards { (1 ≤ keeping.shards) × (keeping.shards ≤ 64) }
+    requires purge { (1 ≤ keeping.purge) × (keeping.purge ≤ 1024) }
 {
-    let Some(setup) = open_setup(rt, path, shards)? else {
+    let Some(setup) = open_setup(rt, path, keeping)? else {
         return Ok(false);
     };
     let mut reader = StreamSource::new(rt.reader());
@@ -178,7 +178,7 @@ fn report_bad_lines<R: Eprint>(rt: &R, bad: &BadLines) -> io::Result<()> {
     Ok(())
 }
 
-/// Runs the proxy of a configuration, each of its tables in so many shards.
+/// Runs the proxy of a configuration, each of its tables kept as the command line says.
 fn serve<R: ProxyRuntime + RandomSource + Files + Print + Eprint + AllocGlobal>(
     rt: &R,
     arguments: &ArgMatches<'_>,
@@ -191,7 +191,7 @@ fn serve<R: ProxyRuntime + RandomSource + Files + Print + Eprint + AllocGlobal>(
         }
     };
     let path = arguments.get_str("FILE");
-    let Some(setup) = open_setup(rt, path, read_shards(arguments))? else {
+    let Some(setup) = open_setup(rt, path, read_keeping(arguments))? else {
         return Ok(ExitCode::FAILURE);
     };
     let is_done = run_pooled(rt.alloc(), rt, &setup, plan)?;

@@ -30,6 +30,7 @@ fn setup(alloc: Global, max_refs: u32, life: u64) -> Result<Setup, AllocError>
         size: 10,
         expire: None,
         nopurge: false,
+        purge: 1,
         columns,
         max_refs,
         life,

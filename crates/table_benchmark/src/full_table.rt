@@ -21,9 +21,10 @@ pub enum Work {
     Expire,
 }
 
-/// What the table is made with: entries that live for an hour.
-fn spec(alloc: Global, size: u32) -> Result<Spec, AllocError>
-    requires { (1 ≤ size) × (size ≤ 2 ^ 30) }
+/// What the table is made with: entries that live for an hour, so many of which go at once where it is full.
+fn spec(alloc: Global, size: u32, purge: u32) -> Result<Spec, AllocError>
+    requires size { (1 ≤ size) × (size ≤ 2 ^ 30) }
+    requires purge { (1 ≤ purge) × (purge ≤ 1024) }
     ensures { IfOk result IsTableSpec }
 {
     let mut columns = StoredSet::new(alloc);
@@ -44,6 +45,7 @@ fn spec(alloc: Global, size: u32) -> Result<Spec, AllocError>
         size,
         expire: Some(3_600_000),
         nopurge: false,
+        purge,
         columns,
         max_refs: 1_024,
         life: 1 << 62,
@@ -84,11 +86,12 @@ pub struct FullTable<T: Table> {
 }
 
 impl<T: Table> FullTable<T> {
-    /// A table of this size, each place of which is taken.
-    pub fn new(alloc: Global, size: u32) -> Result<FullTable<T>, AllocError>
-        requires { (1 ≤ size) × (size ≤ 2 ^ 30) }
+    /// A table of this size, each place of which is taken. For a new key so many entries go at once.
+    pub fn new(alloc: Global, size: u32, purge: u32) -> Result<FullTable<T>, AllocError>
+        requires size { (1 ≤ size) × (size ≤ 2 ^ 30) }
+        requires purge { (1 ≤ purge) × (purge ≤ 1024) }
     {
-        let mut table = T::open(alloc, spec(alloc, size)?)?;
+        let mut table = T::open(alloc, spec(alloc, size, purge)?)?;
         for number in 0..size {
             let event = put(alloc, number)?;
             drop(table.step(&event));

@@ -4,6 +4,8 @@
 //! threads share, and prints no times.
 #![tactic(auto)]
 
+ghost use Rattle.std.specs.Prelude.{◌≤◌};
+
 mod full_index;
 mod full_order;
 mod full_pool;
@@ -90,23 +92,26 @@ fn number_of(rt: &HostRuntime, place: usize) -> io::Result<Option<u32>> {
 
 fn print_usage<R: Print>(rt: &R) -> io::Result<()> {
     println!(rt;
-        "usage: table_benchmark plain|pooled SIZE COUNT, or parts|keys COUNT, or locks ROUNDS, or stress --help"
+        "usage: table_benchmark plain|pooled SIZE COUNT [PURGE], or parts|keys COUNT, or locks ROUNDS, or stress --help"
     )
 }
 
-/// Times what is asked for, by the numbers of the command line.
+/// Times what is asked for, by the numbers of the command line. A full table removes so many entries at once.
 fn print_times(
     rt: &HostRuntime,
     subject: Subject,
     first: u32,
     second: Option<u32>,
-) -> io::Result<()> {
+    purge: u32,
+) -> io::Result<()>
+    requires { (1 ≤ purge) × (purge ≤ 1024) }
+{
     match (subject, second) {
         (Subject::Plain, Some(count)) if 1 <= first && first <= 1 << 30 => {
-            print_table_times::<PlainTable, HostRuntime>(rt, rt.alloc(), first, count)
+            print_table_times::<PlainTable, HostRuntime>(rt, rt.alloc(), first, count, purge)
         }
         (Subject::Pooled, Some(count)) if 1 <= first && first <= 1 << 30 => {
-            print_table_times::<StickTable, HostRuntime>(rt, rt.alloc(), first, count)
+            print_table_times::<StickTable, HostRuntime>(rt, rt.alloc(), first, count, purge)
         }
         (Subject::Parts, None) => print_part_times(rt, rt.alloc(), first),
         (Subject::Keys, None) => print_key_times(rt, rt.alloc(), first),
@@ -114,11 +119,15 @@ fn print_times(
     }
 }
 
-/// Times what is asked for, where the command line has the number that each has.
+/// Times what is asked for, where the command line has the number that each has. A full table removes one entry at once
+/// where the fourth word doesn't say how many, 1 to 1,024.
 fn print_subject(rt: &HostRuntime, subject: Subject) -> io::Result<()> {
+    let purge = number_of(rt, 4)?.unwrap_or(1);
     match number_of(rt, 2)? {
-        Some(first) => print_times(rt, subject, first, number_of(rt, 3)?),
-        None => print_usage(rt),
+        Some(first) if 1 <= purge && purge <= 1024 => {
+            print_times(rt, subject, first, number_of(rt, 3)?, purge)
+        }
+        _ => print_usage(rt),
     }
 }
 

@@ -45,16 +45,19 @@ static WORKS: [(&str, Work); 6] = [
     ("put on a new key, the oldest purged", Work::Renew),
 ];
 
-/// Prints the times of so many rounds on a table of this size.
+/// Prints the times of so many rounds on a table of this size, which removes so many entries at once where it is full. New
+/// keys come last: until then each place is taken.
 pub fn print_table_times<T: Table, R: Clock + Print>(
     rt: &R,
     alloc: Global,
     size: u32,
     count: u32,
+    purge: u32,
 ) -> io::Result<()>
-    requires { (1 ≤ size) × (size ≤ 2 ^ 30) }
+    requires size { (1 ≤ size) × (size ≤ 2 ^ 30) }
+    requires purge { (1 ≤ purge) × (purge ≤ 1024) }
 {
-    let mut full = FullTable::<T>::new(alloc, size)?;
+    let mut full = FullTable::<T>::new(alloc, size, purge)?;
     for (name, work) in WORKS.iter() {
         print_time(rt, &mut full, name, *work, count)?;
     }

@@ -1,12 +1,12 @@
 -- A purge takes the oldest untracked records.
-use Rattle.std.proofs.Common.{◌≡◌, ℕ, ◌+◌, ◌≤◌, ◌<◌, refl, sym, ◌∙◌, ap, arith, List, [], ◌∷◌, length, map, filter, count_by, get_or, zero, suc, Bool, true, false, cond, not, ◌&&◌, ◌||◌, nat_eq, nat_lt, ◌⊎◌, inl, inr}
+use Rattle.std.proofs.Common.{◌≡◌, ℕ, ◌+◌, ◌-◌, ◌≤◌, ◌<◌, refl, sym, ◌∙◌, ap, arith, List, [], ◌∷◌, length, map, filter, count_by, get_or, zero, suc, Bool, true, false, cond, not, ◌&&◌, ◌||◌, nat_eq, nat_lt, min, ◌⊎◌, inl, inr}
 use Rattle.std.specs.Prelude.{Contains}
 use Rattle.std.specs.List.{AllByRecursion, IsDistinct, list_any}
 use Rattle.std.proofs.lemmas.Bool.{false≢true, true≢false}
 use Rattle.std.proofs.lemmas.Bool.Decides.{nat_tests}
 use Rattle.std.proofs.lemmas.List.Elements.{All-contains_itself, recursion_from_All}
 use Rattle.std.proofs.lemmas.List.Filters.{length-filter_both}
-use Rattle.std.proofs.lemmas.List.Sums.{sum_by-cons}
+use Rattle.std.proofs.lemmas.List.Sums.{sum_by-cons, length-filter}
 use Rattle.std.proofs.lemmas.List.{length-map}
 use Rattle.std.proofs.lemmas.Map.Steps.{length-le_from_distinct_below}
 use Rattle.table_model.specs.Key.{Key}
@@ -40,6 +40,9 @@ any-below n q (x ∷ xs) below found =
       | false ↦ λ _ rest. any-below n q xs below.1 rest
     ] refl found
 
+either : (a b : ℕ) → nat_eq a b ≡ false → (a < b) ⊎ (b < a)
+either a b h = elim (nat_lt a b) as (λ c. nat_lt a b ≡ c → (a < b) ⊎ (b < a)) [ true ↦ λ lt. inl (lt-from a b lt) | false ↦ λ ge. inr (grind (arith, nat_tests)) ] refl
+
 -- ---- how many of those that fail a test have a lower stamp
 module _ {E : Type 0} (t : E → Bool) (stamp : E → ℕ) (all : List E) where
   abbrev older_than : ℕ → E → Bool
@@ -69,6 +72,30 @@ module _ {E : Type 0} (t : E → Bool) (stamp : E → ℕ) (all : List E) where
 
   all-rise : AllByRecursion Rises all
   all-rise = recursion_from_All Rises all (λ k d below. rises (get_or all k d) (All-contains_itself all k d below))
+
+  abbrev free_count : ℕ
+  free_count = count_by (λ e. not (t e)) all
+
+  -- fewer are before one that fails the test than fail it
+  Low : E → Type 0
+  Low e = t e ≡ false → rank (stamp e) + 1 ≤ free_count
+
+  low : (e : E) → Contains all e → Low e
+  unfolding Low
+  low e there fails =
+      count-more-at (older_than (stamp e)) (λ x. not (t x)) (λ x. older_free (t x) (nat_lt (stamp x) (stamp e))) all there.0 e there.1 there.2
+      (ap (λ c. not c && nat_lt (stamp e) (stamp e)) fails ∙ not_below (stamp e)) (ap not fails)
+    where
+      not_below : (a : ℕ) → nat_lt a a ≡ false
+      not_below a = grind (arith, nat_tests)
+
+      older_free : (b c : Bool) → cond (not b && c) 1 0 ≤ cond (not b) 1 0
+      older_free true c = omega arith
+      older_free false true = omega arith
+      older_free false false = omega arith
+
+  all-low : AllByRecursion Low all
+  all-low = recursion_from_All Low all (λ k d below. low (get_or all k d) (All-contains_itself all k d below))
 
   -- those whose rank is below a number
   module _ (purge : ℕ) where
@@ -105,9 +132,6 @@ module _ {E : Type 0} (t : E → Bool) (stamp : E → ℕ) (all : List E) where
       )
       | false ↦ λ _. apart e es fails rise later.1 differ.1
     ] refl
-      where
-        either : (a b : ℕ) → nat_eq a b ≡ false → (a < b) ⊎ (b < a)
-        either a b h = elim (nat_lt a b) as (λ c. nat_lt a b ≡ c → (a < b) ⊎ (b < a)) [ true ↦ λ lt. inl (lt-from a b lt) | false ↦ λ ge. inr (grind (arith, nat_tests)) ] refl
 
     ranks-differ : (es : List E) → AllByRecursion Rises es → IsDistinct nat_eq (map stamp es) → IsDistinct nat_eq (map (λ e. rank (stamp e)) (filter goes es))
     unfolding IsDistinct
@@ -123,6 +147,79 @@ module _ {E : Type 0} (t : E → Bool) (stamp : E → ℕ) (all : List E) where
         let ranks : List ℕ = map (λ e. rank (stamp e)) (filter goes all) in
         let few = length-le_from_distinct_below ranks purge (ranks-differ all all-rise differ) (λ q found. any-below purge q ranks (ranks-below all) found) in
         omega (arith, few, length-map (filter goes all) (λ e. rank (stamp e)))
+
+    -- those that fail the test and stay
+    abbrev stays : E → Bool
+    stays e = not (t e) && not (nat_lt (rank (stamp e)) purge)
+
+    fails-stays : (e : E) → stays e ≡ true → t e ≡ false
+    fails-stays e h = go (t e) (and-left (not (t e)) (not (nat_lt (rank (stamp e)) purge)) h)
+      where
+        go : (b : Bool) → not b ≡ true → b ≡ false
+        go true h = absurd (false≢true h)
+        go false h = refl
+
+    ranked-above : (e : E) → stays e ≡ true → purge ≤ rank (stamp e)
+    ranked-above e h = go (nat_lt (rank (stamp e)) purge) refl (and-right (not (t e)) (not (nat_lt (rank (stamp e)) purge)) h)
+      where
+        not_less : (a b : ℕ) → nat_lt a b ≡ false → b ≤ a
+        not_less a b h = grind (arith, nat_tests)
+
+        go : (b : Bool) → nat_lt (rank (stamp e)) purge ≡ b → not b ≡ true → purge ≤ rank (stamp e)
+        go true is h = absurd (false≢true h)
+        go false is h = not_less (rank (stamp e)) purge is
+
+    -- their ranks, counted from that number
+    lifts-below : (es : List E) → AllByRecursion Low es → AllByRecursion (λ m. m < free_count - purge) (map (λ e. rank (stamp e) - purge) (filter stays es))
+    unfolding Low
+    lifts-below [] low = tt
+    lifts-below (e ∷ es) low = elim (stays e) as (λ b. stays e ≡ b → AllByRecursion (λ m. m < free_count - purge) (map (λ e. rank (stamp e) - purge) (cond b (e ∷ filter stays es) (filter stays es)))) [
+      | true ↦ λ is. (omega (arith, ranked-above e is, low.0 (fails-stays e is)), lifts-below es low.1)
+      | false ↦ λ _. lifts-below es low.1
+    ] refl
+
+    apart-stays : (e : E) (es : List E) → t e ≡ false → purge ≤ rank (stamp e) → Rises e → AllByRecursion Rises es → AllByRecursion (λ s. nat_eq (stamp e) s ≡ false) (map stamp es)
+        → AllByRecursion (λ m. nat_eq (rank (stamp e) - purge) m ≡ false) (map (λ e. rank (stamp e) - purge) (filter stays es))
+    unfolding Rises
+    apart-stays e [] fails above rise later differ = tt
+    apart-stays e (x ∷ es) fails above rise later differ = elim (stays x) as (λ b. stays x ≡ b → AllByRecursion (λ m. nat_eq (rank (stamp e) - purge) m ≡ false) (map (λ e. rank (stamp e) - purge) (cond b (x ∷ filter stays es) (filter stays es)))) [
+      | true ↦ λ is. (
+        elim (either (stamp e) (stamp x) differ.0) [
+          | inl lt ↦ differ-above (rank (stamp e) - purge) (rank (stamp x) - purge) (omega (arith, rise (stamp x) fails lt, above))
+          | inr gt ↦ differ-below (rank (stamp e) - purge) (rank (stamp x) - purge) (omega (arith, later.0 (stamp e) (fails-stays x is) gt, ranked-above x is))
+        ],
+        apart-stays e es fails above rise later.1 differ.1,
+      )
+      | false ↦ λ _. apart-stays e es fails above rise later.1 differ.1
+    ] refl
+
+    lifts-differ : (es : List E) → AllByRecursion Rises es → IsDistinct nat_eq (map stamp es) → IsDistinct nat_eq (map (λ e. rank (stamp e) - purge) (filter stays es))
+    unfolding IsDistinct
+    lifts-differ [] rise differ = tt
+    lifts-differ (e ∷ es) rise differ = elim (stays e) as (λ b. stays e ≡ b → IsDistinct nat_eq (map (λ e. rank (stamp e) - purge) (cond b (e ∷ filter stays es) (filter stays es)))) [
+      | true ↦ λ is. (apart-stays e es (fails-stays e is) (ranked-above e is) rise.0 rise.1 differ.0, lifts-differ es rise.1 differ.1)
+      | false ↦ λ _. lifts-differ es rise.1 differ.1
+    ] refl
+
+    few-stay : IsDistinct nat_eq (map stamp all) → length (filter stays all) ≤ free_count - purge
+    few-stay differ =
+        let lifts : List ℕ = map (λ e. rank (stamp e) - purge) (filter stays all) in
+        let few = length-le_from_distinct_below lifts (free_count - purge) (lifts-differ all all-rise differ) (λ q found. any-below (free_count - purge) q lifts (lifts-below all all-low) found) in
+        omega (arith, few, length-map (filter stays all) (λ e. rank (stamp e) - purge))
+
+    parts : (es : List E) → count_by goes es + count_by stays es ≡ count_by (λ e. not (t e)) es
+    parts [] = refl
+    parts (e ∷ es) =
+        omega (arith, one (t e) (nat_lt (rank (stamp e)) purge), parts es, sum_by-cons (λ x. cond {A = ℕ} (goes x) 1 0) e es, sum_by-cons (λ x. cond {A = ℕ} (stays x) 1 0) e es, sum_by-cons (λ x. cond {A = ℕ} (not (t x)) 1 0) e es)
+      where
+        one : (b c : Bool) → ◌≡◌ {A = ℕ} (cond (not b && c) 1 0 + cond (not b && not c) 1 0) (cond (not b) 1 0)
+        one true c = refl
+        one false true = refl
+        one false false = refl
+
+    -- they are as many as the number, or all that fail the test
+    exact-go : IsDistinct nat_eq (map stamp all) → length (filter goes all) ≡ min purge free_count
+    exact-go differ = omega (arith, few-go differ, few-stay differ, parts all, length-filter goes all, length-filter stays all)
 
     -- each of them has a lower stamp than each that stays and fails the test
     older-goes : (gone left : E) → goes gone ≡ true → t left ≡ false → goes left ≡ false → stamp gone < stamp left
@@ -146,5 +243,6 @@ purge-law purge tickets records differ =
       untracked = λ gone is. fails-from tracked stamp_in records purge gone is;
       oldest = λ gone left is free stays. older-goes tracked stamp_in records purge gone left is free stays;
       few = omega (arith, few, both);
+      exact = omega (arith, exact-go tracked stamp_in records purge differ, both);
       some = λ free least. purged-fewer purge tickets records least free;
     }

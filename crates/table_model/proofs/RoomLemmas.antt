@@ -1,14 +1,16 @@
--- Where there is room for a record, there are at most as many as the size, and only the oldest untracked one is gone.
-use Rattle.std.proofs.Common.{◌≡◌, ℕ, ◌+◌, ◌≤◌, refl, sym, ◌∙◌, ap, subst, arith, List, [], ◌∷◌, length, filter, count_by, Bool, true, false, cond, not, ◌&&◌, nat_lt}
+-- Where there is room for a record, there are at most as many as the size, and only the oldest untracked ones are gone.
+use Rattle.std.proofs.Common.{◌≡◌, ℕ, ◌+◌, ◌≤◌, refl, sym, ◌∙◌, ap, subst, arith, List, [], ◌∷◌, length, filter, count_by, Bool, true, false, cond, not, ◌&&◌, ◌||◌, nat_lt, max, Some, None}
 use Rattle.std.specs.List.{AllByRecursion, list_all}
 use Rattle.std.proofs.lemmas.Bool.{false≢true, true≢false}
 use Rattle.std.proofs.lemmas.Bool.Decides.{nat_tests}
 use Rattle.std.proofs.lemmas.List.Sums.{sum_by-cons}
 use Rattle.table_model.specs.Key.{Key}
 use Rattle.table_model.specs.State.{is_tracked}
-use Rattle.table_model.specs.Room.{count_older, is_purged, purged, all_tracked}
+use Rattle.table_model.specs.Laws.{RoomLaw}
+use Rattle.table_model.specs.Room.{count_older, is_purged, purged, purge_of, all_tracked, room_in}
 use Rattle.table_model.specs.declared.rows.Ticket.{Ticket}
 use Rattle.table_model.specs.declared.rows.Record.{Record}
+use Rattle.table_model.specs.declared.specification.Spec.{Spec}
 use Rattle.table_model.proofs.TestLemmas.{lt-to}
 use Rattle.table_model.proofs.EntryLemmas.{length-filter-le}
 
@@ -71,3 +73,22 @@ purged-fewer purge tickets records least_one h =
     let none : ◌≡◌ {A = ℕ} (count_older tickets records some.0) 0 = none_older tracked stamp records some.0 some.1.below in
     some.1.there (λ entry. not (is_purged purge tickets records entry))
     (λ entry free is. ap not ((λ i. not (free i) && nat_lt (count_older tickets records (is i)) purge) ∙ ap (λ n. nat_lt n purge) none ∙ lt-to 0 purge (omega arith)))
+
+-- ---- room in a full table
+not_below : (a b : ℕ) → b ≤ a → nat_lt a b ≡ false
+not_below a b le = grind (arith, nat_tests)
+
+one_at_least : (n : ℕ) → 1 ≤ n → max 1 n ≡ n
+one_at_least n some = omega arith
+
+-- a full table that may purge is left without as many of the oldest as it is made with
+pub room-purged : (spec : Spec) (tickets : List (Ticket × Key)) (records : List (Key × Record)) → 1 ≤ spec.purge → spec.size ≤ length records → spec.nopurge ≡ false → all_tracked tickets records ≡ false
+    → room_in spec tickets records ≡ Some (purged spec.purge tickets records)
+room-purged spec tickets records some full purges free =
+    ap (λ b. cond b (Some records) (cond (spec.nopurge || all_tracked tickets records) None (Some (purged (purge_of spec) tickets records)))) (not_below (length records) spec.size full)
+    ∙ ap (λ b. cond (b || all_tracked tickets records) None (Some (purged (purge_of spec) tickets records))) purges
+    ∙ ap (λ b. cond b None (Some (purged (purge_of spec) tickets records))) free
+    ∙ ap (λ n. Some (purged n tickets records)) (one_at_least spec.purge some)
+
+pub room-law : RoomLaw
+room-law spec tickets records limits full purges free = room-purged spec tickets records limits.purge.0 full purges free

@@ -1,5 +1,5 @@
 -- Laws of steps and runs.
-use Rattle.std.specs.Prelude.{◌≡◌, ℕ, ◌≤◌, ◌<◌, ◌+◌, ◌↔◌, nat_eq, List, [], ◌∷◌, ◌++◌, length, map, filter, max, not, ◌||◌, IfSome, true, false, IsTrue, Some, ◌⊎◌, Contains, All}
+use Rattle.std.specs.Prelude.{◌≡◌, ℕ, ◌≤◌, ◌<◌, ◌+◌, ◌↔◌, nat_eq, List, [], ◌∷◌, ◌++◌, length, map, filter, count_by, min, max, not, ◌||◌, IfSome, true, false, IsTrue, Some, ◌⊎◌, Contains, All}
 use Rattle.table_model.specs.Key.{Key}
 use Rattle.table_model.specs.State.{State, same_ticket, key_of, refs, is_tracked, record_at, row_of, outlives, empty_table}
 use Rattle.stored_data.specs.Acts.{acted, answer}
@@ -12,9 +12,9 @@ use Rattle.table_model.specs.Step.{Step, put_pairs, subject_of, ticket_of}
 use Rattle.table_model.specs.Counted.{IsTallied, counted_since, steps_of}
 use Rattle.table_model.specs.Run.{Run, StoredRun, LastingRun, CanRedoAll, redone_all}
 use Rattle.std.specs.List.{IsDistinct}
-use Rattle.table_model.specs.Room.{is_purged, purged, all_tracked}
+use Rattle.table_model.specs.Room.{is_purged, purged, all_tracked, room_in}
 use Rattle.table_model.specs.Legal.{IsLegal, stamp_in}
-use Rattle.table_model.specs.Limits.{IsTableEvent}
+use Rattle.table_model.specs.Limits.{IsTableSpec, IsTableEvent}
 use Rattle.table_model.specs.Refusals.{has_life, IsRefused}
 use Rattle.table_model.specs.Passed.{passing_looks, passed_count}
 use Rattle.table_model.specs.declared.events.Stored.{Stored}
@@ -152,16 +152,22 @@ TallyLaw = (spec : Spec) (events : List Event) (replies : List Reply) (new : Sta
 -- ---- purges
 
 -- the records that are purged: each is untracked, and was refreshed before each untracked one that is left; they are as
--- many at most as are to be purged, and there is one where some record is untracked
+-- many as are to be purged, or all untracked ones where these are fewer, and so there is one where some record is untracked
 pub record PurgesOldest (purge : ℕ) (tickets : List (Ticket × Key)) (records : List (Key × Record)) : Type 0 where
   pub untracked : (gone : Key × Record) → is_purged purge tickets records gone ≡ true → is_tracked gone.0 tickets ≡ false
   pub oldest : (gone left : Key × Record) → is_purged purge tickets records gone ≡ true → is_tracked left.0 tickets ≡ false → is_purged purge tickets records left ≡ false → gone.1.stamp < left.1.stamp
   pub few : length records ≤ length (purged purge tickets records) + purge
+  pub exact : length records ≡ length (purged purge tickets records) + min purge (count_by (λ (entry : Key × Record). not (is_tracked entry.0 tickets)) records)
   pub some : all_tracked tickets records ≡ false → 1 ≤ purge → length (purged purge tickets records) + 1 ≤ length records
 
 -- of records whose stamps differ, as those of every legal state, a purge takes the oldest untracked ones
 abbrev pub PurgeLaw : Type 0
 PurgeLaw = (purge : ℕ) (tickets : List (Ticket × Key)) (records : List (Key × Record)) → IsDistinct nat_eq (map stamp_in records) → PurgesOldest purge tickets records
+
+-- a full table that may purge is left without as many of its oldest untracked records as it is made with
+abbrev pub RoomLaw : Type 0
+RoomLaw = (spec : Spec) (tickets : List (Ticket × Key)) (records : List (Key × Record)) → IsTableSpec spec →
+    spec.size ≤ length records → spec.nopurge ≡ false → all_tracked tickets records ≡ false → room_in spec tickets records ≡ Some (purged spec.purge tickets records)
 
 -- ---- references
 

@@ -1,7 +1,7 @@
 -- What a table can be made with, and which events it takes.
 use Rattle.std.specs.Prelude.{ℕ, ◌≤◌, ◌<◌, ◌^◌, IfSome, List, [], All}
 use Rattle.stick_key.specs.declared.kind.KeyType.{KeyType}
-use Rattle.stick_key.specs.declared.kind.KeyType.TheVariants.{Text}
+use Rattle.stick_key.specs.declared.kind.KeyType.TheVariants.{Text, Binary}
 use Rattle.stored_data.specs.Data.{greatest}
 use Rattle.stored_data.specs.Laws.{HasTag}
 use Rattle.table_model.specs.declared.specification.Spec.{Spec}
@@ -9,15 +9,17 @@ use Rattle.table_model.specs.declared.rows.Cell.{Cell}
 use Rattle.table_model.specs.declared.events.Event.{Event}
 use Rattle.table_model.specs.declared.events.Event.TheVariants.{Get, Track, Look, Count, Release, Put, Clear, ClearWhere, List as ListRows, Expire}
 
--- a text has 1 to 1,024 bytes
+-- texts and binary keys have 1 to 1,024 bytes
 abbrev pub IsKeyType : KeyType → Type 0
 IsKeyType (Text n) = (1 ≤ n) × (n ≤ 1024)
+IsKeyType (Binary n) = (1 ≤ n) × (n ≤ 1024)
 IsKeyType _ = Unit {0}
 
 pub record IsTableSpec (spec : Spec) : Type 0 where
   pub kind : IsKeyType spec.kind
   pub size : (1 ≤ spec.size) × (spec.size ≤ 2 ^ 30)
   pub expire : IfSome spec.expire (λ life. (1 ≤ life) × (life < 2 ^ 31))
+  pub purge : (1 ≤ spec.purge) × (spec.purge ≤ 1024)
   pub max_refs : (1 ≤ spec.max_refs) × (spec.max_refs ≤ 2 ^ 20)
   pub life : spec.life ≤ 2 ^ 62
 

@@ -1,5 +1,5 @@
 -- Room for one more record.
-use Rattle.std.specs.Prelude.{ℕ, nat_lt, Bool, not, ◌&&◌, ◌||◌, if◌then◌else◌, List, length, filter, count_by, Option, Some, None, is_some}
+use Rattle.std.specs.Prelude.{ℕ, nat_lt, max, Bool, not, ◌&&◌, ◌||◌, if◌then◌else◌, List, length, filter, count_by, Option, Some, None, is_some}
 use Rattle.std.specs.BTreeMap.{insert_entry}
 use Rattle.std.specs.Option.{option_map}
 use Rattle.std.specs.List.{list_all}
@@ -23,9 +23,9 @@ purged purge tickets records = filter (λ (entry : Key × Record). not (is_purge
 abbrev pub all_tracked : List (Ticket × Key) → List (Key × Record) → Bool
 all_tracked tickets records = list_all (λ (entry : Key × Record). is_tracked entry.0 tickets) records
 
--- how many of the oldest make room for a new record
+-- how many of the oldest make room for a new record: as many as the table is made with, and one at least
 abbrev pub purge_of : Spec → ℕ
-purge_of spec = 1
+purge_of spec = max 1 spec.purge
 
 -- the records with room for one more: as they are below the size; else, unless that is ruled out, without the oldest untracked
 abbrev pub room_in : Spec → List (Ticket × Key) → List (Key × Record) → Option (List (Key × Record))

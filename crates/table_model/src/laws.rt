@@ -1,6 +1,6 @@
 //! Laws of stick tables: what every run of every table keeps. Each is the contract of a function that does nothing.
 
-ghost use Rattle.table_model.specs.Laws.{CountLaw, EmptyLegalLaw, ExpiryLaw, JoinLaw, LastingLaw, LimitLaw, NeverLostLaw, OneRunLaw, PurgeLaw, RedoLaw, ReferenceLaw, RunLegalLaw, StepLegalLaw, StoredCountLaw, StoredJoinLaw, TallyLaw, TicketsLaw};
+ghost use Rattle.table_model.specs.Laws.{CountLaw, EmptyLegalLaw, ExpiryLaw, JoinLaw, LastingLaw, LimitLaw, NeverLostLaw, OneRunLaw, PurgeLaw, RedoLaw, ReferenceLaw, RoomLaw, RunLegalLaw, StepLegalLaw, StoredCountLaw, StoredJoinLaw, TallyLaw, TicketsLaw};
 
 /// The limit law: in every run from a legal state, for every key and limit, at most `limit` references of the key are
 /// out that had, in this run, a look whose row has at most `limit` references.
@@ -80,9 +80,11 @@ pub fn tally()
 {}
 
 /// A purge takes the oldest untracked entries: each that it takes was refreshed before each untracked one that it
-/// leaves, and they are as many at most as are to be purged.
+/// leaves, and they are as many as are to be purged, or all untracked ones where these are fewer. In a full table as many
+/// are to be purged as its specification says.
 pub fn purge()
-    ensures { PurgeLaw }
+    ensures oldest { PurgeLaw }
+    ensures room { RoomLaw }
 {}
 
 /// In a legal state a reference that is out has an entry, and a look, a count and a release are answered from it:

@@ -16,6 +16,9 @@ pub struct Spec {
     pub expire: Option<u32>,
     /// Whether a full table keeps what it has, and takes no new entry.
     pub nopurge: bool,
+    /// How many of the entries that no reference holds a full table removes for a new one, those that were refreshed
+    /// first, 1 to 1,024.
+    pub purge: u32,
     /// The data that it stores.
     pub columns: StoredSet,
     /// The greatest number of outstanding references, 1 to 2^20.
@@ -36,6 +39,7 @@ impl Spec {
             size: self.size,
             expire: self.expire,
             nopurge: self.nopurge,
+            purge: self.purge,
             columns: self.columns.copy()?,
             max_refs: self.max_refs,
             life: self.life,

@@ -4,7 +4,7 @@ use Rattle.std.specs.List.{flat_map, find}
 use Rattle.std.specs.Option.{option_map_or}
 use Rattle.stick_key.specs.KeyText.{text as key_text}
 use Rattle.stick_key.specs.declared.kind.KeyType.{KeyType}
-use Rattle.stick_key.specs.declared.kind.KeyType.TheVariants.{Ip, Ipv6, Integer, Text}
+use Rattle.stick_key.specs.declared.kind.KeyType.TheVariants.{Ip, Ipv6, Integer, Text, Binary}
 use Rattle.stored_data.specs.Data.{place, name, is_rate}
 use Rattle.stored_data.specs.declared.datum.Datum.{Datum}
 use Rattle.stored_data.specs.declared.stored_set.Column.{Column}
@@ -17,6 +17,7 @@ kind_word Ip = codes "ip"
 kind_word Ipv6 = codes "ipv6"
 kind_word Integer = codes "integer"
 kind_word (Text n) = codes "string"
+kind_word (Binary n) = codes "binary"
 
 -- # table: T, type: TYPE, size:S, used:U
 abbrev pub header_text : List ℕ → KeyType → ℕ → ℕ → List ℕ

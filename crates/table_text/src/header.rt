@@ -17,6 +17,7 @@ pub fn kind_word(kind: KeyType) -> &'static str
         KeyType::Ipv6 => "ipv6",
         KeyType::Integer => "integer",
         KeyType::Text(_) => "string",
+        KeyType::Binary(_) => "binary",
     }
 }
 

@@ -64,6 +64,7 @@ fn table(alloc: Global) -> Result<NamedSpec, NoMemory>
         size: 10,
         expire: None,
         nopurge: false,
+        purge: 1,
         columns,
         max_refs: 10,
         life: 1_000_000,

@@ -91,6 +91,7 @@ fn make_room(
     tickets: &[(Ticket, StickKey)],
     spec: &Spec,
 ) -> bool
+    requires { 1 ≤ spec.now.purge }
     ensures room { MatchBool result
         (room_in spec.now tickets.now records.old.items ≡ Some records.new.items)
         (room_in spec.now tickets.now records.old.items ≡ None) }
@@ -104,7 +105,7 @@ fn make_room(
     if spec.nopurge || all_tracked(records, tickets) {
         return false;
     }
-    drop_oldest(records, tickets, 1);
+    drop_oldest(records, tickets, spec.purge);
     true
 }
 
@@ -116,7 +117,8 @@ pub(crate) fn store(
     key: StickKey,
     found: Record,
 ) -> bool
-    requires { vec_len records.old < vec_capacity records.old }
+    requires place { vec_len records.old < vec_capacity records.old }
+    requires purge { 1 ≤ spec.now.purge }
     ensures stored { MatchBool result
         (stored_in spec.now tickets.now records.old.items key found ≡ Some records.new.items)
         (stored_in spec.now tickets.now records.old.items key found ≡ None) }

@@ -22,6 +22,7 @@ fn tables_of(alloc: Global) -> Result<Vec<Named<Books<PlainTable>>>, AllocError>
         size: 10,
         expire: None,
         nopurge: false,
+        purge: 1,
         columns: StoredSet::new(alloc),
         max_refs: 10,
         life: 1 << 62,
