@@ -192,7 +192,11 @@ pub static PURGING_ALL: Example = Example {
         (1, Ask::Put(2, 2), Tell::Created),
         (2, Ask::Put(3, 3), Tell::Created),
         (3, Ask::Put(4, 4), Tell::Created),
-        (3, Ask::ListAll, Tell::Rows(2, &[(1, 1, 0, 0), (4, 0, 0, 4)])),
+        (
+            3,
+            Ask::ListAll,
+            Tell::Rows(2, &[(1, 1, 0, 0), (4, 0, 0, 4)]),
+        ),
     ],
 };
 

@@ -129,6 +129,26 @@ fn server_option<'a>(alloc: Global) -> Arg<'a> {
         .help("How long a server may be silent [default: for ever]")
 }
 
+/// The limit of all connections together.
+fn connections_option<'a>(alloc: Global) -> Arg<'a> {
+    Arg::new(alloc, "connections")
+        .long("connections")
+        .value_name("N")
+        .value_parser(value_parser!(u32).range(1..))
+        .default_value("10000")
+        .help("How many connections are open at once at most, on all threads together")
+}
+
+/// When the record of a part of a table begins again.
+fn roll_option<'a>(alloc: Global) -> Arg<'a> {
+    Arg::new(alloc, "roll-at")
+        .long("roll-at")
+        .value_name("N")
+        .value_parser(value_parser!(u32).range(1..))
+        .default_value("65536")
+        .help("How many calls of a part of a table are recorded before its record begins again")
+}
+
 /// `stickd run`.
 fn run_command<'a>(alloc: Global) -> Result<Command<'a>, AllocError> {
     let file = Arg::new(alloc, "FILE")
@@ -150,18 +170,6 @@ fn run_command<'a>(alloc: Global) -> Result<Command<'a>, AllocError> {
         .value_name("N")
         .value_parser(value_parser!(u64))
         .help("Stop once N connections have ended, and settle the tables");
-    let roll_at = Arg::new(alloc, "roll-at")
-        .long("roll-at")
-        .value_name("N")
-        .value_parser(value_parser!(u32).range(1..))
-        .default_value("65536")
-        .help("How many calls of a part of a table are recorded before its record begins again");
-    let connections = Arg::new(alloc, "connections")
-        .long("connections")
-        .value_name("N")
-        .value_parser(value_parser!(u32).range(1..))
-        .default_value("10000")
-        .help("How many connections are open at once at most, on all threads together");
     Command::new(alloc, "run")
         .about("Run the proxy, and answer commands on a socket")
         .after_help(RUN_HELP)
@@ -170,12 +178,12 @@ fn run_command<'a>(alloc: Global) -> Result<Command<'a>, AllocError> {
         .arg(threads)?
         .arg(shards_option(alloc))?
         .arg(purge_option(alloc))?
-        .arg(connections)?
+        .arg(connections_option(alloc))?
         .arg(connect_option(alloc))?
         .arg(client_option(alloc))?
         .arg(server_option(alloc))?
         .arg(stop_after)?
-        .arg(roll_at)
+        .arg(roll_option(alloc))
 }
 
 /// Reads the words of a command line, the program's name first.
@@ -205,7 +213,10 @@ fn read_purge(arguments: &ArgMatches<'_>) -> u32
     ensures some { 1 ≤ result }
     ensures few { result ≤ 1024 }
 {
-    arguments.get_one::<u32>("purge").unwrap_or(1).clamp(1, 1024)
+    arguments
+        .get_one::<u32>("purge")
+        .unwrap_or(1)
+        .clamp(1, 1024)
 }
 
 /// How each table is kept.
