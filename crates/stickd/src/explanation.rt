@@ -108,7 +108,7 @@ fn cause_of(kind: ReadError, line: &[u8]) -> &'static str {
             "A table needs 'size N', 1 to 1g, a decimal number with k, m or g for 2^10, 2^20 or 2^30 behind it."
         }
         Fault::UnknownType => {
-            "A table needs 'type ip', 'ipv6', 'integer' or 'string'; a datum of 'store' stands once, a rate with its period, as conn_rate(10s), and none counts HTTP requests."
+            "A table needs 'type ip', 'ipv6', 'integer', 'string' or 'binary'; a datum of 'store' stands once, a rate with its period, as conn_rate(10s), and none counts HTTP requests."
         }
         Fault::UnknownTable => unknown_table(word),
         Fault::SecondName => second_name(word),
@@ -180,7 +180,7 @@ fn section_unknown(word: &[u8]) -> &'static str {
 /// Why a number or a time is bad, in a line that begins so.
 fn bad_number(word: &[u8]) -> &'static str {
     if word == b"stick-table".as_slice() {
-        return "A time is 1 ms to 2147483647 ms, which is less than 25 days, a decimal number with us, ms, s, m, h or d behind it; the length of a string is 1 to 1024.";
+        return "A time is 1 ms to 2147483647 ms, which is less than 25 days, a decimal number with us, ms, s, m, h or d behind it; the length of a string or of a binary key is 1 to 1024.";
     }
     "The slot of an action is 0 to 2, as in sc-inc-gpc0(0), and a number at most 4294967295."
 }
