@@ -38,6 +38,7 @@ class Refused:
         self.refusals = Refusals(self.room.name)
         self.server = Server(echoes)
         self.proxy = Proxy(self.server.port, [TABLE, TRACK], *words, threads=1, environment=self.refusals.environment(shim))
+        wait_for_rest(self.proxy, 1)
 
     def __enter__(self):
         return self
@@ -46,6 +47,13 @@ class Refused:
         self.proxy.__exit__()
         self.server.__exit__()
         self.room.cleanup()
+
+    def serve_one(self):
+        """Serves a client, behind which each thread has what it takes to begin with: one that lacked it would end the program. What
+        the table keeps of the client is cleared."""
+        wait_for('one is served', lambda: visit(self.proxy) == SAID)
+        wait_for('it is gone', self.proxy.is_unused)
+        self.proxy.command('clear table www\n')
 
     def each(self, work):
         """Does work, which is handed a number, with the first allocation refused, the second, and so on, until some runs on end meet
@@ -80,6 +88,7 @@ def commands_refused(given):
     report, counts = Report(), []
     with tempfile.TemporaryDirectory() as room, Refused(given, build_shim(room)) as refused:
         proxy = refused.proxy
+        refused.serve_one()
         for command in COMMANDS:
             proxy.command('clear table www\n' + PREPARED)
             fresh = proxy.command(command + '\n'), proxy.command(LISTING)
@@ -112,6 +121,7 @@ def connections_refused(given):
             wanted = [(SAID, before + 1)] + ([(b'', before), (b'', before + 1)] if met else [])
             report.check((found, after) in wanted, f'allocation {number} refused: {found!r}, {before} and {after} connections')
             return met
+        refused.serve_one()
         report.tell(f'{refused.each(come)} allocations refused')
         wait_for('one is served', lambda: visit(refused.proxy) == SAID)
     return report
@@ -125,7 +135,6 @@ def is_end(status, written, said):
 def settle_refused(given, shim, number):
     """A proxy that stops behind its first connection, with this allocation refused as that comes: its status, and what it wrote."""
     with Refused(given, shim, '--stop-after', '1', '--shards', '2') as refused:
-        wait_for_rest(refused.proxy, 1)
         refused.refusals.refuse(number)
         visit(refused.proxy)
         return (*refused.proxy.ended(), refused.refusals.were_met())
@@ -178,6 +187,7 @@ def nothing_but_refusals(given):
     report = Report()
     with tempfile.TemporaryDirectory() as room, Refused(given, build_shim(room)) as refused:
         proxy = refused.proxy
+        refused.serve_one()
         proxy.command(PREPARED)
         before = proxy.command(LISTING)
         refused.refusals.refuse_all(True)

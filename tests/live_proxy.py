@@ -2,6 +2,7 @@
 of them are on 127.0.0.0/8 alone, and every wait has an end."""
 import contextlib
 import os
+import random
 import re
 import resource
 import socket
@@ -24,10 +25,15 @@ def reject_above(limit):
 
 
 def free_port():
-    """A port of 127.0.0.1 that nobody has."""
-    with socket.socket() as taken:
-        taken.bind(('127.0.0.1', 0))
-        return taken.getsockname()[1]
+    """A port of 127.0.0.1 that nobody has, below those that the system gives clients: one that connects before anybody listens
+    there could be given that very port, and would hold it by a connection to itself."""
+    with open('/proc/sys/net/ipv4/ip_local_port_range', encoding='ascii') as ports:
+        above = int(ports.read().split()[0])
+    while True:
+        port = random.SystemRandom().randrange(10_000, above)
+        with contextlib.suppress(OSError), socket.socket() as taken:
+            taken.bind(('127.0.0.1', port))
+            return port
 
 
 def read_all(stream):
