@@ -123,6 +123,44 @@ fn one_thread_is_answered(rt: HostRuntime) -> Result<(), Fail> {
     Ok(())
 }
 
+/// How many calls the records of a table have, and how many once they have begun again.
+fn begun_again(mut books: Books<PlainTable>) -> Result<(u64, u64), NoMemory> {
+    let recorded = books.recorded();
+    books.roll()?;
+    Ok((recorded, books.recorded()))
+}
+
+/// Whether the lines of a table were answered so, and what its records have before and after they begin again.
+fn rolled_by(
+    mut tables: Vec<Named<Books<PlainTable>>>,
+    are_answered: bool,
+) -> Option<(bool, u64, u64)> {
+    match tables.pop() {
+        Some(table) => match begun_again(table.keeper) {
+            Ok((before, after)) => Some((are_answered, before, after)),
+            Err(_) => None,
+        },
+        None => None,
+    }
+}
+
+/// Has the lines answered by one thread's table, and its records begin again.
+fn answered_and_rolled(alloc: Global) -> Option<(bool, u64, u64)> {
+    match serve_books(alloc) {
+        Ok(mut tables) => {
+            let are_answered = are_answered(alloc, &mut tables, &LINES);
+            rolled_by(tables, are_answered)
+        }
+        Err(_) => None,
+    }
+}
+
+#[test]
+fn records_of_one_thread_begin_again(rt: HostRuntime) -> Result<(), Fail> {
+    assert!(rt; answered_and_rolled(rt.alloc()) == Some((true, 14, 0)));
+    Ok(())
+}
+
 /// Whether a seat's lines were answered so, and how many events of each shard the seat made.
 fn made_by<R: Wait>(
     mut tables: Vec<Named<Seated<'_, PlainTable, R>>>,
