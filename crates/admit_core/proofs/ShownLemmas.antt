@@ -7,13 +7,15 @@ use Rattle.std.proofs.lemmas.Bool.{false≢true}
 use Rattle.std.proofs.lemmas.Map.Entries.{All-lookup}
 use Rattle.stored_data.specs.Acts.{acted, changed_field, content_of, is_kept, put_content, shown, with_value, zero_field, zero_of}
 use Rattle.stored_data.specs.Data.{place}
+use Rattle.stored_data.specs.Fields.{Element, elements, plain, same_field}
 use Rattle.stored_data.specs.Stored.{is_column}
 use Rattle.stored_data.specs.declared.act.Act.{Act}
 use Rattle.stored_data.specs.declared.act.Act.TheVariants.{Connection}
-use Rattle.stored_data.specs.declared.datum.Datum.{Datum}
 use Rattle.stored_data.specs.declared.datum.Datum.TheVariants.{ConnCur}
+use Rattle.stored_data.specs.declared.field.Field.{Field}
 use Rattle.stored_data.specs.declared.stored_set.Column.{Column}
 use Rattle.stored_data.specs.declared.values.StoredValue.{StoredValue}
+use Rattle.stored_data.proofs.SameFields.{other_place}
 use Rattle.table_model.specs.Key.{Key, key_cmp, same_key}
 use Rattle.table_model.specs.Laws.{values_after}
 use Rattle.table_model.specs.Legal.{AreDataOf, AreFieldsOf, IsLegal}
@@ -37,50 +39,59 @@ use Rattle.rule_eval.proofs.ShownLemmas.{shown_lem}
 use Rattle.rule_eval.specs.Readings.{value_in}
 use Rattle.admit_core.specs.Shown.{LookLaw, ReadingLaw, RowLaw, is_reading}
 
--- ---- data without a datum
+-- ---- data without a field
 
-acted_none : (fields : List StoredValue) (now : ℕ) (act : Act) (datum : Datum) → content_of fields datum ≡ None → content_of (acted fields now act) datum ≡ None
-acted_none [] now act datum h = refl
-acted_none (field ∷ fields) now act datum h =
-    elim (place field.datum == place datum) as (λ b. option_map (λ (f : StoredValue). f.content) (cond b (Some field) (find (λ (f : StoredValue). place f.datum == place datum) fields)) ≡ None
-    → option_map (λ (f : StoredValue). f.content) (cond b (Some (changed_field now act field)) (find (λ (f : StoredValue). place f.datum == place datum) (acted fields now act))) ≡ None) [
+acted_none : (values : List StoredValue) (now : ℕ) (act : Act) (field : Field) → content_of values field ≡ None → content_of (acted values now act) field ≡ None
+acted_none [] now act field h = refl
+acted_none (stored ∷ values) now act field h =
+    elim (same_field stored.field field) as (λ b. option_map (λ (s : StoredValue). s.content) (cond b (Some stored) (find (λ (s : StoredValue). same_field s.field field) values)) ≡ None
+    → option_map (λ (s : StoredValue). s.content) (cond b (Some (changed_field now act stored)) (find (λ (s : StoredValue). same_field s.field field) (acted values now act))) ≡ None) [
       | true ↦ λ h. cc
-      | false ↦ λ h. acted_none fields now act datum h
+      | false ↦ λ h. acted_none values now act field h
     ] h
 
-put_none : (fields : List StoredValue) (other datum : Datum) (value : ℕ) → content_of fields datum ≡ None → content_of (with_value fields other value) datum ≡ None
-put_none [] other datum value h = refl
-put_none (field ∷ fields) other datum value h =
-    elim (place field.datum == place other) as (λ c. content_of (cond c (record { datum = field.datum; content = put_content value field.content }) field ∷ with_value fields other value) datum ≡ None) [
-      | true ↦ elim (place field.datum == place datum) as (λ b. option_map (λ (f : StoredValue). f.content) (cond b (Some field) (find (λ (f : StoredValue). place f.datum == place datum) fields)) ≡ None
-          → option_map (λ (f : StoredValue). f.content) (cond b (Some (record { datum = field.datum; content = put_content value field.content })) (find (λ (f : StoredValue). place f.datum == place datum) (with_value fields other value))) ≡ None) [
+put_none : (values : List StoredValue) (other field : Field) (value : ℕ) → content_of values field ≡ None → content_of (with_value values other value) field ≡ None
+put_none [] other field value h = refl
+put_none (stored ∷ values) other field value h =
+    elim (same_field stored.field other) as (λ c. content_of (cond c (record { field = stored.field; content = put_content value stored.content }) stored ∷ with_value values other value) field ≡ None) [
+      | true ↦ elim (same_field stored.field field) as (λ b. option_map (λ (s : StoredValue). s.content) (cond b (Some stored) (find (λ (s : StoredValue). same_field s.field field) values)) ≡ None
+          → option_map (λ (s : StoredValue). s.content) (cond b (Some (record { field = stored.field; content = put_content value stored.content })) (find (λ (s : StoredValue). same_field s.field field) (with_value values other value))) ≡ None) [
             | true ↦ λ h. cc
-            | false ↦ λ h. put_none fields other datum value h
+            | false ↦ λ h. put_none values other field value h
           ] h
-      | false ↦ elim (place field.datum == place datum) as (λ b. option_map (λ (f : StoredValue). f.content) (cond b (Some field) (find (λ (f : StoredValue). place f.datum == place datum) fields)) ≡ None
-          → option_map (λ (f : StoredValue). f.content) (cond b (Some field) (find (λ (f : StoredValue). place f.datum == place datum) (with_value fields other value))) ≡ None) [
+      | false ↦ elim (same_field stored.field field) as (λ b. option_map (λ (s : StoredValue). s.content) (cond b (Some stored) (find (λ (s : StoredValue). same_field s.field field) values)) ≡ None
+          → option_map (λ (s : StoredValue). s.content) (cond b (Some stored) (find (λ (s : StoredValue). same_field s.field field) (with_value values other value))) ≡ None) [
             | true ↦ λ h. cc
-            | false ↦ λ h. put_none fields other datum value h
+            | false ↦ λ h. put_none values other field value h
           ] h
     ]
 
-puts_none : (pairs : List Cell) (fields : List StoredValue) (datum : Datum) → content_of fields datum ≡ None → content_of (put_pairs pairs fields) datum ≡ None
-puts_none [] fields datum h = h
-puts_none (pair ∷ pairs) fields datum h = puts_none pairs (with_value fields pair.datum pair.value) datum (put_none fields pair.datum datum pair.value h)
+puts_none : (pairs : List Cell) (values : List StoredValue) (field : Field) → content_of values field ≡ None → content_of (put_pairs pairs values) field ≡ None
+puts_none [] values field h = h
+puts_none (pair ∷ pairs) values field h = puts_none pairs (with_value values pair.field pair.value) field (put_none values pair.field field pair.value h)
+
+-- a field of another datum is not that of conn_cur
+not_conn_cur : (field : Field) → (place field.datum == place ConnCur) ≡ false → same_field field (plain ConnCur) ≡ false
+not_conn_cur field is = other_place field (plain ConnCur) is
 
 -- a new record has none of conn_cur
-zero_none : (columns : List Column) → content_of (zero_of columns) ConnCur ≡ None
-zero_none [] = refl
-zero_none (column ∷ columns) =
-    elim (place column.datum == place ConnCur) as (λ b. (place column.datum == place ConnCur) ≡ b → content_of (map zero_field (cond (not b) (column ∷ filter is_kept columns) (filter is_kept columns))) ConnCur ≡ None) [
-      | true ↦ λ is. zero_none columns
-      | false ↦ λ is. ap (λ b. option_map (λ (f : StoredValue). f.content) (cond b (Some (zero_field column)) (find (λ (f : StoredValue). place f.datum == place ConnCur) (zero_of columns)))) is ∙ zero_none columns
+zeros_none : (all : List Element) → content_of (map zero_field (filter is_kept all)) (plain ConnCur) ≡ None
+zeros_none [] = refl
+zeros_none (element ∷ all) =
+    elim (place element.field.datum == place ConnCur) as (λ b. (place element.field.datum == place ConnCur) ≡ b → content_of (map zero_field (cond (not b) (element ∷ filter is_kept all) (filter is_kept all))) (plain ConnCur) ≡ None) [
+      | true ↦ λ is. zeros_none all
+      | false ↦ λ is.
+          ap (λ b. option_map (λ (s : StoredValue). s.content) (cond b (Some (zero_field element)) (find (λ (s : StoredValue). same_field s.field (plain ConnCur)) (map zero_field (filter is_kept all)))))
+          (not_conn_cur element.field is) ∙ zeros_none all
     ] refl
 
-values_none : (clock : ℕ) (event : Event) (values : List StoredValue) → content_of values ConnCur ≡ None → content_of (values_after clock event values) ConnCur ≡ None
-values_none clock (Track now key) values h = acted_none values clock Connection ConnCur h
-values_none clock (Count now ticket act) values h = acted_none values clock act ConnCur h
-values_none clock (Put now key pairs) values h = puts_none pairs values ConnCur h
+zero_none : (columns : List Column) → content_of (zero_of columns) (plain ConnCur) ≡ None
+zero_none columns = zeros_none (elements columns)
+
+values_none : (clock : ℕ) (event : Event) (values : List StoredValue) → content_of values (plain ConnCur) ≡ None → content_of (values_after clock event values) (plain ConnCur) ≡ None
+values_none clock (Track now key) values h = acted_none values clock Connection (plain ConnCur) h
+values_none clock (Count now ticket act) values h = acted_none values clock act (plain ConnCur) h
+values_none clock (Put now key pairs) values h = puts_none pairs values (plain ConnCur) h
 values_none clock (Get now key) values h = h
 values_none clock (Look now ticket) values h = h
 values_none clock (Release now ticket) values h = h
@@ -93,7 +104,7 @@ values_none clock (Expire now) values h = h
 
 -- no record has any of conn_cur
 abbrev KeepsNone : State → Type 0
-KeepsNone state = (key : Key) (found : Record) → record_at key state.records ≡ Some found → content_of found.values ConnCur ≡ None
+KeepsNone state = (key : Key) (found : Record) → record_at key state.records ≡ Some found → content_of found.values (plain ConnCur) ≡ None
 
 begun_none : (old : State) (now : ℕ) → IsOrderly old → KeepsNone old → KeepsNone (begun old now)
 begun_none old now orderly keeps key found is =
@@ -102,20 +113,20 @@ begun_none old now orderly keeps key found is =
       | inr left_out ↦ cc
     ]
 
-found_none : (state : State) (key : Key) (o : Option Record) → record_at key state.records ≡ o → KeepsNone state → content_of (unwrap_or o (zero_record state.spec.columns)).values ConnCur ≡ None
+found_none : (state : State) (key : Key) (o : Option Record) → record_at key state.records ≡ o → KeepsNone state → content_of (unwrap_or o (zero_record state.spec.columns)).values (plain ConnCur) ≡ None
 found_none state key None is keeps = zero_none state.spec.columns
 found_none state key (Some found) is keeps = keeps key found is
 
 step_none : (old : State) (event : Event) (reply : Reply) (new : State) → IsOrderly old → KeepsNone old → Step old event reply new → KeepsNone new
 step_none old event reply new orderly keeps step key found is = go (step_fate old event reply new key orderly step)
   where
-    go : Fate old (begun old (moment_of event)) event reply key (record_at key new.records) → content_of found.values ConnCur ≡ None
+    go : Fate old (begun old (moment_of event)) event reply key (record_at key new.records) → content_of found.values (plain ConnCur) ≡ None
     go (gone free none) = cc
     go (same now untold) = begun_none old (moment_of event) orderly keeps key found (sym now ∙ is)
     go (made after now of_it told values) =
         let begins : State = begun old (moment_of event) in
         let one : found ≡ after = cc in
-        ap (λ (r : Record). content_of r.values ConnCur) one ∙ ap (λ vs. content_of vs ConnCur) values
+        ap (λ (r : Record). content_of r.values (plain ConnCur)) one ∙ ap (λ vs. content_of vs (plain ConnCur)) values
         ∙ values_none begins.clock event (found_or_zero begins key).values (found_none begins key (record_at key begins.records) refl (begun_none old (moment_of event) orderly keeps))
 
 record Keeps (spec : Spec) (state : State) : Type 0 where
@@ -152,26 +163,27 @@ look_law spec events replies state now ticket r later stored run step =
 
 -- ---- legal states
 
-kept_none : (column : Column) (columns : List Column) (fields : List StoredValue) → ((fs : List StoredValue) → AreFieldsOf (filter is_kept columns) fs → content_of fs ConnCur ≡ None) → (place column.datum == place ConnCur) ≡ false
-    → AreFieldsOf (column ∷ filter is_kept columns) fields → content_of fields ConnCur ≡ None
-kept_none column columns [] later is are = absurd are
-kept_none column columns (field ∷ fields) later is are =
-    ap (λ b. option_map (λ (f : StoredValue). f.content) (cond b (Some field) (find (λ (f : StoredValue). place f.datum == place ConnCur) fields))) (ap (λ d. place d == place ConnCur) are.0.datum ∙ is) ∙ later fields are.1
+kept_none : (element : Element) (all : List Element) (values : List StoredValue) → ((rest : List StoredValue) → AreFieldsOf (filter is_kept all) rest → content_of rest (plain ConnCur) ≡ None) → (place element.field.datum == place ConnCur) ≡ false
+    → AreFieldsOf (element ∷ filter is_kept all) values → content_of values (plain ConnCur) ≡ None
+kept_none element all [] later is are = absurd are
+kept_none element all (stored ∷ values) later is are =
+    ap (λ b. option_map (λ (s : StoredValue). s.content) (cond b (Some stored) (find (λ (s : StoredValue). same_field s.field (plain ConnCur)) values)))
+    (ap (λ (f : Field). same_field f (plain ConnCur)) are.0.field ∙ not_conn_cur element.field is) ∙ later values are.1
 
-fields_none : (columns : List Column) (fields : List StoredValue) → AreFieldsOf (filter is_kept columns) fields → content_of fields ConnCur ≡ None
+fields_none : (all : List Element) (values : List StoredValue) → AreFieldsOf (filter is_kept all) values → content_of values (plain ConnCur) ≡ None
 fields_none [] [] are = refl
-fields_none [] (field ∷ fields) are = absurd are
-fields_none (column ∷ columns) fields are =
-    elim (place column.datum == place ConnCur) as (λ b. (place column.datum == place ConnCur) ≡ b → AreFieldsOf (cond (not b) (column ∷ filter is_kept columns) (filter is_kept columns)) fields → content_of fields ConnCur ≡ None) [
-      | true ↦ λ is are. fields_none columns fields are
-      | false ↦ λ is are. kept_none column columns fields (λ fs later. fields_none columns fs later) is are
+fields_none [] (stored ∷ values) are = absurd are
+fields_none (element ∷ all) values are =
+    elim (place element.field.datum == place ConnCur) as (λ b. (place element.field.datum == place ConnCur) ≡ b → AreFieldsOf (cond (not b) (element ∷ filter is_kept all) (filter is_kept all)) values → content_of values (plain ConnCur) ≡ None) [
+      | true ↦ λ is are. fields_none all values are
+      | false ↦ λ is are. kept_none element all values (λ rest later. fields_none all rest later) is are
     ] refl are
 
 legal_none : (state : State) → IsLegal state → KeepsNone state
 legal_none state legal key found is =
     let all : IfSome (record_at key state.records) (λ (r : Record). AreDataOf state.spec.columns r.values) = All-lookup (λ (r : Record). AreDataOf state.spec.columns r.values) (same_key key) state.records legal.values in
     let here : AreDataOf state.spec.columns found.values = subst (λ o. IfSome o (λ (r : Record). AreDataOf state.spec.columns r.values)) is all in
-    fields_none state.spec.columns found.values here
+    fields_none (elements state.spec.columns) found.values here
 
 row_shows : (state : State) (key : Key) (found : Record) → is_column state.spec.columns ConnCur ≡ true → KeepsNone state → record_at key state.records ≡ Some found → value_in (row state key found).cells ConnCur ≡ refs key state.tickets
 row_shows state key found stored keeps is = shown_lem state.spec.columns state.clock (refs key state.tickets) key found stored (ap (option_map (shown state.clock)) (keeps key found is))

@@ -1,5 +1,6 @@
 -- Worked examples of connections, which the checker computes.
 use Rattle.std.specs.Prelude.{refl, ◌≡◌, ℕ, [], ◌∷◌, Some, None}
+use Rattle.stored_data.specs.Fields.{same_field}
 use Rattle.stored_data.specs.declared.act.Act.TheVariants.{BytesIn, BytesOut, Session}
 use Rattle.table_model.specs.State.{State, empty_table}
 use Rattle.table_model.specs.Step.{after}
@@ -46,16 +47,16 @@ wants-look = refl
 
 -- beyond the limit it is rejected, and gives its reference back
 wants-turn : need (is_shown 2) ≡ Turn
-unfolding need_of took_of effect judged
+unfolding need_of took_of effect judged same_field
 wants-turn = refl
 
 gives-back : need (turned (is_shown 2)) ≡ Release Sc0
-unfolding need_of took_of effect judged
+unfolding need_of took_of effect judged same_field
 gives-back = refl
 
 -- within it its session is counted
 counts-session : need (is_shown 1) ≡ Count Sc0 Session
-unfolding need_of took_of effect judged
+unfolding need_of took_of effect judged same_field
 counts-session = refl
 
 -- ---- the life of one that holds two references

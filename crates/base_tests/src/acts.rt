@@ -1,15 +1,15 @@
-//! Every act on all fourteen data.
+//! Every act on all fourteen data that are no arrays, and on arrays.
 
 use crate::data::{DATA, GREATEST_32, GREATEST_64, column_of, columns_of};
 use std::alloc::{AllocError, Global};
 use std::test::Fail;
-use stored_data::{Act, Datum, StoredSet, Values};
+use stored_data::{Act, Datum, Field, StoredSet, Values};
 
 /// What the data show at a moment, in the order of printing, and 0 for what they do not show.
 fn shown(values: &Values, now: u64) -> [u64; 14] {
     let mut row: [u64; 14] = [0; 14];
     for i in 0..14usize {
-        row[i] = values.get(DATA[i], now).unwrap_or(0);
+        row[i] = values.get(Field::plain(DATA[i]), now).unwrap_or(0);
     }
     row
 }
@@ -29,7 +29,7 @@ static NUMBERS: [(Datum, u64); 7] = [
 fn sample(alloc: Global, set: &StoredSet) -> Result<Values, AllocError> {
     let mut values = Values::zero(alloc, set)?;
     for (datum, number) in NUMBERS.iter() {
-        values.put(*datum, *number);
+        values.put(Field::plain(*datum), *number);
     }
     Ok(values)
 }
@@ -41,7 +41,7 @@ fn is_at_zero(new: &Values, datum: Datum) -> bool {
     } else {
         Some(0)
     };
-    new.get(datum, 5) == wanted
+    new.get(Field::plain(datum), 5) == wanted
 }
 
 #[test]
@@ -166,8 +166,8 @@ static COUNTINGS: [Counting; 6] = [
 /// stored; a put into either, each clear and the tag, which count in no rate; and then the rate at
 /// once, after half of the next period, and after the whole of it.
 fn rate_alone(values: &mut Values, counting: &Counting) -> [Option<u64>; 8] {
-    let (rate, counter, act, _, _) = *counting;
-    let counted = values.act(1000, act);
+    let (rate, counter) = (Field::plain(counting.0), Field::plain(counting.1));
+    let counted = values.act(1000, counting.2);
     values.put(rate, 77);
     values.put(counter, 77);
     [
@@ -201,7 +201,8 @@ fn rates_alone(rt: HostRuntime) -> Result<(), Fail> {
 
 /// Whether an act is answered, and counter and rate then show, that the counter has stopped.
 fn stops(before: &Values, counting: &Counting) -> Result<bool, AllocError> {
-    let (rate, counter, act, amount, greatest) = *counting;
+    let (rate, counter) = (Field::plain(counting.0), Field::plain(counting.1));
+    let (act, amount, greatest) = (counting.2, counting.3, counting.4);
     let mut values = before.copy()?;
     values.put(counter, greatest);
     let told = [
@@ -228,10 +229,10 @@ fn past_32_bits(values: &mut Values) -> [Option<u64>; 6] {
     [
         values.act(0, Act::SetGpt0(4_294_967_295)),
         values.act(0, Act::IncGpc0),
-        values.get(Datum::Gpt0, 0),
+        values.get(Field::plain(Datum::Gpt0), 0),
         values.act(0, Act::BytesIn(GREATEST_32)),
         values.act(0, Act::BytesIn(1)),
-        values.get(Datum::BytesInRate, 0),
+        values.get(Field::plain(Datum::BytesInRate), 0),
     ]
 }
 
@@ -256,9 +257,9 @@ fn values_past_32_bits(rt: HostRuntime) -> Result<(), Fail> {
 fn bytes_shown(values: &mut Values) -> [Option<u64>; 4] {
     [
         values.act(30_000, Act::BytesOut(200)),
-        values.get(Datum::BytesOutRate, 30_000),
-        values.get(Datum::BytesOutRate, 90_000),
-        values.get(Datum::BytesOutRate, 150_000),
+        values.get(Field::plain(Datum::BytesOutRate), 30_000),
+        values.get(Field::plain(Datum::BytesOutRate), 90_000),
+        values.get(Field::plain(Datum::BytesOutRate), 150_000),
     ]
 }
 

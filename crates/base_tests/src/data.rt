@@ -1,18 +1,18 @@
 //! The table of data, and columns of them.
 ghost use Rattle.std.specs.Prelude.{◌≡◌, ◌≤◌, ◌<◌, ◌^◌};
-ghost use Rattle.stored_data.specs.Data.{is_rate};
-ghost use Rattle.stored_data.specs.Stored.{IsPeriod};
+ghost use Rattle.stored_data.specs.Data.{is_rate, is_array};
+ghost use Rattle.stored_data.specs.Stored.{IsPeriod, IsCount};
 
 use std::alloc::{AllocError, Global};
 use std::test::Fail;
-use stored_data::{Column, Datum, StoredSet, in_range, name, read_datum, settable};
+use stored_data::{Column, Datum, Field, StoredSet, in_range, name, read_datum, settable};
 
 /// The greatest value of a number of 32 bits, and of one of 64.
 pub const GREATEST_32: u64 = 4_294_967_295;
 
 pub const GREATEST_64: u64 = 18_446_744_073_709_551_615;
 
-/// Every datum in the order of printing.
+/// Every datum that is no array, in the order of printing.
 pub static DATA: [Datum; 14] = [
     Datum::Gpt0,
     Datum::Gpc0,
@@ -30,17 +30,18 @@ pub static DATA: [Datum; 14] = [
     Datum::Gpc1Rate,
 ];
 
-/// The column of a datum, where it is a rate over this period.
+/// The column of a datum, where it is a rate over this period, and where it is an array of three elements.
 pub fn column_of(datum: Datum, period: u32) -> Column
     requires some { 1 ≤ period }
     requires limit { period < 2 ^ 31 }
     ensures same { result.datum ≡ datum }
     ensures period { IsPeriod (is_rate result.datum) result.period }
+    ensures count { IsCount (is_array result.datum) result.count }
 {
-    if datum.is_rate() {
-        Column { datum, period }
-    } else {
-        Column { datum, period: 0 }
+    Column {
+        datum,
+        period: if datum.is_rate() { period } else { 0 },
+        count: if datum.is_array() { 3 } else { 0 },
     }
 }
 
@@ -48,7 +49,7 @@ pub fn column_of(datum: Datum, period: u32) -> Column
 pub fn columns_of(alloc: Global, data: &[Datum]) -> Result<StoredSet, AllocError> {
     let mut set = StoredSet::new(alloc);
     for datum in data {
-        if !set.holds(*datum) {
+        if !set.holds(*datum) && !set.excludes(*datum) {
             set.add(column_of(*datum, 10_000))?;
         }
     }
@@ -59,7 +60,7 @@ pub fn columns_of(alloc: Global, data: &[Datum]) -> Result<StoredSet, AllocError
 /// rate.
 type Said = (u8, Datum, &'static str, u64, bool, bool);
 
-static DATA_SAID: [Said; 14] = [
+static DATA_SAID: [Said; 16] = [
     (1, Datum::Gpt0, "gpt0", GREATEST_32, true, false),
     (2, Datum::Gpc0, "gpc0", GREATEST_32, true, false),
     (3, Datum::Gpc0Rate, "gpc0_rate", GREATEST_32, false, true),
@@ -102,6 +103,8 @@ static DATA_SAID: [Said; 14] = [
     ),
     (13, Datum::Gpc1, "gpc1", GREATEST_32, true, false),
     (14, Datum::Gpc1Rate, "gpc1_rate", GREATEST_32, false, true),
+    (15, Datum::Gpt, "gpt", GREATEST_32, true, false),
+    (16, Datum::Gpc, "gpc", GREATEST_32, true, false),
 ];
 
 /// Whether a datum has this place and this name, and is read by it.
@@ -115,8 +118,9 @@ fn is_in_range(said: &Said) -> bool {
     let (_, datum, _, greatest, can_be_set, rate) = *said;
     let wide = greatest == GREATEST_64;
     let kept = (datum.greatest() == greatest) & (datum.is_rate() == rate);
-    let taken = (settable(datum) == can_be_set) & in_range(datum, greatest);
-    let cut = (in_range(datum, 4_294_967_296) == wide) & (in_range(datum, GREATEST_64) == wide);
+    let field = Field::plain(datum);
+    let taken = (settable(datum) == can_be_set) & in_range(field, greatest);
+    let cut = (in_range(field, 4_294_967_296) == wide) & (in_range(field, GREATEST_64) == wide);
     kept & taken & cut
 }
 
@@ -129,7 +133,7 @@ fn data_are_in_their_table(rt: HostRuntime) {
 
 static NO_DATA: [&str; 8] = [
     "",
-    "gpc",
+    "gpc[0]",
     "gpc2",
     "GPC0",
     " gpc0",
@@ -149,18 +153,22 @@ static SOME_COLUMNS: [Column; 4] = [
     Column {
         datum: Datum::Gpt0,
         period: 0,
+        count: 0,
     },
     Column {
         datum: Datum::ConnRate,
         period: 10_000,
+        count: 0,
     },
     Column {
         datum: Datum::BytesInCnt,
         period: 0,
+        count: 0,
     },
     Column {
         datum: Datum::Gpc1,
         period: 0,
+        count: 0,
     },
 ];
 

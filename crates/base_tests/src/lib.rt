@@ -11,6 +11,8 @@ mod conversions;
 #[cfg(test)]
 mod data;
 #[cfg(test)]
+mod elements;
+#[cfg(test)]
 mod gathering;
 #[cfg(test)]
 mod keys;

@@ -1,8 +1,8 @@
 -- On pairs that are read.
 use Rattle.std.proofs.Common.{◌≡◌, ℕ, Result, Ok, Err, List, [], ◌∷◌, ◌++◌, append_assoc, refl, sym, ap, ◌∙◌, unwrap_or}
 use Rattle.line_text.specs.Number.{number_of}
+use Rattle.command_text.specs.FieldNames.{field_of}
 use Rattle.command_text.specs.Form.{datum_name}
-use Rattle.stored_data.specs.Names.{datum_of}
 use Rattle.table_model.specs.declared.rows.Cell.{Cell}
 use Rattle.command_text.specs.Request.{cell_of, cells_of, with_cell}
 use Rattle.command_text.specs.declared.message.Message.{Message}
@@ -22,7 +22,7 @@ behind-more prefix cell (Err message) = refl
 
 -- a pair more was read
 pub one_more : (prefix new : List Cell) (cell : Cell) (word value : List ℕ) (left mid rest : List (List ℕ)) → left ≡ word ∷ mid → mid ≡ value ∷ rest
-    → Ok cell ≡ cell_of (datum_of (unwrap_or (datum_name word) [])) (number_of value) → new ≡ prefix ++ cell ∷ [] → behind new (cells_of rest) ≡ behind prefix (cells_of left)
+    → Ok cell ≡ cell_of (field_of (unwrap_or (datum_name word) [])) (number_of value) → new ≡ prefix ++ cell ∷ [] → behind new (cells_of rest) ≡ behind prefix (cells_of left)
 one_more prefix new cell word value left mid rest first second is more =
     ap (λ cells. behind cells (cells_of rest)) more
     ∙ sym (behind-more prefix cell (cells_of rest))

@@ -5,7 +5,7 @@ use Rattle.std.specs.Str.{bytes_eq}
 use Rattle.table_model.specs.declared.filters.Op.{Op}
 use Rattle.table_model.specs.declared.filters.Op.TheVariants.{Eq, Ne, Le, Ge, Lt, Gt}
 
--- which entries: all, that of a key's text, or those whose value of a named datum compares so with a number's text
+-- which entries: all, that of a key's text, or those whose value of a named field compares so with a number's text
 pub data Choice : Type 0 where
   Everything : Choice
   OneKey : List ℕ → Choice

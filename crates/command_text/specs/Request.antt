@@ -4,8 +4,7 @@ use Rattle.line_text.specs.Number.{number_of}
 use Rattle.stick_key.specs.KeyText.{Reads, IsMalformed, IsOutOfRange, TakesMemory}
 use Rattle.stick_key.specs.declared.kind.KeyType.{KeyType}
 use Rattle.stored_data.specs.Data.{greatest}
-use Rattle.stored_data.specs.Names.{datum_of}
-use Rattle.stored_data.specs.declared.datum.Datum.{Datum}
+use Rattle.stored_data.specs.declared.field.Field.{Field}
 use Rattle.table_model.specs.Key.{Key}
 use Rattle.table_model.specs.declared.rows.Cell.{Cell}
 use Rattle.table_model.specs.declared.filters.Op.{Op}
@@ -15,6 +14,7 @@ use Rattle.table_model.specs.declared.events.Event.{Event}
 use Rattle.table_model.specs.declared.events.Event.TheVariants.{Put, ClearWhere, List as ListRows}
 use Rattle.table_model.specs.declared.events.Event.TheVariants as events
 use Rattle.command_text.specs.Form.{Choice, Everything, OneKey, Compare, Request, Show, Clear, Set, datum_name}
+use Rattle.command_text.specs.FieldNames.{field_of}
 use Rattle.command_text.specs.declared.message.Message.{Message}
 use Rattle.command_text.specs.declared.message.Message.TheVariants.{InvalidKey, NotStored, InvalidValue, OutOfMemory}
 
@@ -28,22 +28,22 @@ ReadsKey kind text (Err OutOfMemory) = TakesMemory kind text
 ReadsKey kind text (Err _) = ⊥
 
 -- data.X OP V: first the name, then the number
-abbrev pub compared : Option Datum → Op → Option ℕ → Result Filter Message
+abbrev pub compared : Option Field → Op → Option ℕ → Result Filter Message
 compared None op value = Err NotStored
-compared (Some datum) op None = Err InvalidValue
-compared (Some datum) op (Some bound) = Ok (filters.Compare datum op bound)
+compared (Some field) op None = Err InvalidValue
+compared (Some field) op (Some bound) = Ok (filters.Compare field op bound)
 
 abbrev pub ReadsFilter : KeyType → Choice → Result Filter Message → Type 0
 ReadsFilter kind Everything read = read ≡ Ok filters.Everything
 ReadsFilter kind (OneKey text) (Ok filter) = (key : Key) × ReadsKey kind text (Ok key) × (filter ≡ filters.Key key)
 ReadsFilter kind (OneKey text) (Err message) = ReadsKey kind text (Err message)
-ReadsFilter kind (Compare name op value) read = read ≡ compared (datum_of name) op (number_of value)
+ReadsFilter kind (Compare name op value) read = read ≡ compared (field_of name) op (number_of value)
 
--- a pair's datum and value, the value at most the greatest of the datum
-abbrev pub cell_of : Option Datum → Option ℕ → Result Cell Message
+-- a pair's field and value, the value at most the greatest of its datum
+abbrev pub cell_of : Option Field → Option ℕ → Result Cell Message
 cell_of None value = Err NotStored
-cell_of (Some datum) None = Err InvalidValue
-cell_of (Some datum) (Some value) = if nat_le value (greatest datum) then Ok (record { datum = datum; value = value }) else Err InvalidValue
+cell_of (Some field) None = Err InvalidValue
+cell_of (Some field) (Some value) = if nat_le value (greatest field.datum) then Ok (record { field = field; value = value }) else Err InvalidValue
 
 abbrev pub with_cell : Result Cell Message → Result (List Cell) Message → Result (List Cell) Message
 with_cell (Ok cell) (Ok cells) = Ok (cell ∷ cells)
@@ -54,7 +54,7 @@ with_cell (Err message) rest = Err message
 abbrev pub cells_of : List (List ℕ) → Result (List Cell) Message
 cells_of [] = Ok []
 cells_of (word ∷ []) = Ok []
-cells_of (word ∷ value ∷ rest) = with_cell (cell_of (datum_of (unwrap_or (datum_name word) [])) (number_of value)) (cells_of rest)
+cells_of (word ∷ value ∷ rest) = with_cell (cell_of (field_of (unwrap_or (datum_name word) [])) (number_of value)) (cells_of rest)
 
 -- key K and pairs: the key first, then pair by pair
 abbrev pub ReadsPut : KeyType → ℕ → List ℕ → List (List ℕ) → Result Event Message → Type 0

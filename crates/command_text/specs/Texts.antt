@@ -32,8 +32,8 @@ refusal_message (Behind count front) = Unavailable
 -- what a table's reply to a command is printed as; a listing is: the header, with the whole size and the number of all entries, and the rows that match
 abbrev pub reply_text : List ℕ → Spec → Reply → List ℕ
 reply_text table spec (Rows used rows) = header_text table spec.kind spec.size used ++ flat_map (row_text spec.kind spec.columns) rows ++ codes "\n"
-reply_text table spec (IsNotStored datum) = message_text NotStored
-reply_text table spec (IsNotSettable datum) = message_text NotSettable
+reply_text table spec (IsNotStored field) = message_text NotStored
+reply_text table spec (IsNotSettable field) = message_text NotSettable
 reply_text table spec Full = message_text TableFull
 reply_text table spec Absent = message_text KeyNotPresent
 reply_text table spec IsInUse = message_text InUse

@@ -10,7 +10,7 @@ ghost use Rattle.command_text.specs.Seen.{seen, seen_choice, words_of};
 use line_text::{Blanks, Words};
 use table_model::Op;
 
-/// Which entries a command means: all, that of a key, or those whose value of a datum compares so.
+/// Which entries a command means: all, that of a key, or those whose value of a field compares so.
 #[derive(Clone, Copy)]
 pub enum Choice<'a> {
     Everything,
@@ -23,7 +23,7 @@ pub enum Choice<'a> {
 pub enum Request<'a> {
     Show(Choice<'a>),
     Clear(Choice<'a>),
-    /// A key, and the pairs of a datum and a value.
+    /// A key, and the pairs of a field and a value.
     Set(&'a [u8], &'a [u8]),
 }
 

@@ -3,11 +3,13 @@
 #![tactic(auto)]
 
 mod answer_text;
+mod field_name;
 mod form;
 mod message;
 mod request;
 
 pub use answer_text::Answer;
+pub use field_name::read_field;
 pub use form::{Choice, Form, Request, read_form};
 pub use message::Message;
 pub use request::read_event;

@@ -2,9 +2,9 @@
 
 ghost use Rattle.std.specs.Prelude.{◌≡◌, ◌⊎◌, ◌<◌, ◌≤◌, ◌^◌, ℕ, List, [], All, IfOk, MatchResult, unwrap_or};
 ghost use Rattle.stored_data.specs.Data.{greatest};
-ghost use Rattle.stored_data.specs.Names.{datum_of};
 ghost use Rattle.table_model.specs.declared.rows.Cell.{Cell};
 ghost use Rattle.table_model.specs.Limits.{IsTableEvent};
+ghost use Rattle.command_text.specs.FieldNames.{field_of};
 ghost use Rattle.command_text.specs.Form as spec;
 ghost use Rattle.command_text.specs.Form.{datum_name as specified_name};
 ghost use Rattle.command_text.specs.Request.{Asks, ReadsFilter, ReadsKey, ReadsPut, cell_of, cells_of, compared as specified_compared};
@@ -12,11 +12,12 @@ ghost use Rattle.command_text.specs.Seen.{seen_choice, seen_request, words_of};
 ghost use Rattle.line_text.specs.Number.{number_of};
 
 use crate::Message;
+use crate::field_name::read_field;
 use crate::form::{Choice, Request, datum_name};
 use line_text::{Blanks, Words, read_number};
 use std::alloc::Global;
 use stick_key::{KeyFault, KeyType, StickKey, read_key};
-use stored_data::{in_range, read_datum};
+use stored_data::in_range;
 use table_model::{Cell, Cells, Event, Filter, Op};
 
 /// Reads a key's text.
@@ -32,15 +33,15 @@ fn read_key_text(alloc: Global, kind: KeyType, text: &[u8]) -> Result<StickKey, 
 }
 
 fn compared(name: &[u8], op: Op, value: &[u8]) -> Result<Filter, Message>
-    ensures { result ≡ specified_compared (datum_of name.now) op (number_of value.now) }
+    ensures { result ≡ specified_compared (field_of name.now) op (number_of value.now) }
 {
-    let Some(datum) = read_datum(name) else {
+    let Some(field) = read_field(name) else {
         return Err(Message::NotStored);
     };
     let Some(bound) = read_number(value) else {
         return Err(Message::InvalidValue);
     };
-    Ok(Filter::Compare(datum, op, bound))
+    Ok(Filter::Compare(field, op, bound))
 }
 
 /// Reads which entries are meant.
@@ -57,32 +58,32 @@ fn read_filter(alloc: Global, kind: KeyType, choice: Choice<'_>) -> Result<Filte
     }
 }
 
-/// Reads the datum and the value of a pair.
+/// Reads the field and the value of a pair.
 fn read_cell(word: &[u8], value: &[u8]) -> Result<Cell, Message>
-    ensures cell { result ≡ cell_of (datum_of (unwrap_or (specified_name word.now) [])) (number_of value.now) }
-    ensures in_range { IfOk result (λ cell. cell.value ≤ greatest cell.datum) }
+    ensures cell { result ≡ cell_of (field_of (unwrap_or (specified_name word.now) [])) (number_of value.now) }
+    ensures in_range { IfOk result (λ cell. cell.value ≤ greatest cell.field.datum) }
 {
     let name = match datum_name(word) {
         Some(name) => name,
         None => b"".as_slice(),
     };
-    let Some(datum) = read_datum(name) else {
+    let Some(field) = read_field(name) else {
         return Err(Message::NotStored);
     };
     let Some(value) = read_number(value) else {
         return Err(Message::InvalidValue);
     };
-    if !in_range(datum, value) {
+    if !in_range(field, value) {
         return Err(Message::InvalidValue);
     }
-    Ok(Cell { datum, value })
+    Ok(Cell { field, value })
 }
 
 /// Reads pairs, up to the first that is wrong.
 fn read_cells(alloc: Global, text: &[u8]) -> Result<Cells, Message>
     ensures cells { MatchResult result (λ cells. cells_of (words_of text.now) ≡ Ok cells)
         (λ message. (cells_of (words_of text.now) ≡ Err message) ⊎ (message ≡ Message.OutOfMemory)) }
-    ensures in_range { IfOk result (λ cells. All (λ (cell : Cell). cell.value ≤ greatest cell.datum) cells) }
+    ensures in_range { IfOk result (λ cells. All (λ (cell : Cell). cell.value ≤ greatest cell.field.datum) cells) }
 {
     let mut words = Words::new(text, Blanks::SpacesAndTabs);
     let mut cells = Cells::new(alloc);

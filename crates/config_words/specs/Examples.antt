@@ -2,7 +2,7 @@
 use Rattle.std.specs.Prelude.{refl, ◌≡◌, false, [], ◌∷◌, codes, Some, None, Ok, Err}
 use Rattle.line_text.specs.Number.{number_of}
 use Rattle.stored_data.specs.Names.{datum_of}
-use Rattle.stored_data.specs.declared.datum.Datum.TheVariants.{ConnCur, ConnRate}
+use Rattle.stored_data.specs.declared.datum.Datum.TheVariants.{ConnCur, ConnRate, Gpc0Rate, Gpt, Gpc}
 use Rattle.stick_key.specs.declared.kind.KeyType.TheVariants.{Ip, Binary}
 use Rattle.rule_model.specs.declared.faults.Fault.TheVariants.{BadNumber, BadSize, UnknownKeyword, UnknownType}
 use Rattle.config_words.specs.Lines.{words_of}
@@ -38,12 +38,12 @@ unfolding time_of time_unit number_of
 time-too_long = refl
 
 table-limit : table_of (words_of (codes "type ip size 100k expire 10m store conn_cur"))
-    ≡ Ok (record { kind = Ip; size = 102400; expire = Some 600000; nopurge = false; columns = record { datum = ConnCur; period = 0 } ∷ [] })
+    ≡ Ok (record { kind = Ip; size = 102400; expire = Some 600000; nopurge = false; columns = record { datum = ConnCur; period = 0; count = 0 } ∷ [] })
 unfolding table_of with_setting kind_of size_of size_unit time_of time_unit number_of with_item datum_of
 table-limit = refl
 
 table-rate : table_of (words_of (codes "size 10 type ip store conn_rate(10s)"))
-    ≡ Ok (record { kind = Ip; size = 10; expire = None; nopurge = false; columns = record { datum = ConnRate; period = 10000 } ∷ [] })
+    ≡ Ok (record { kind = Ip; size = 10; expire = None; nopurge = false; columns = record { datum = ConnRate; period = 10000; count = 0 } ∷ [] })
 unfolding table_of with_setting kind_of size_of size_unit time_of time_unit number_of with_item datum_of
 table-rate = refl
 
@@ -72,3 +72,41 @@ table-binary_too_long = refl
 table-length_behind_size : table_of (words_of (codes "type binary size 10 len 4")) ≡ Err UnknownKeyword
 unfolding table_of with_setting kind_of size_of size_unit number_of
 table-length_behind_size = refl
+
+table-arrays : table_of (words_of (codes "type ip size 10 store gpc(2),gpt(1)"))
+    ≡ Ok (record {
+      kind = Ip;
+      size = 10;
+      expire = None;
+      nopurge = false;
+      columns = record { datum = Gpt; period = 0; count = 1 } ∷ record { datum = Gpc; period = 0; count = 2 } ∷ [];
+    })
+unfolding table_of with_setting kind_of size_of size_unit number_of with_item datum_of
+table-arrays = refl
+
+table-array_without_count : table_of (words_of (codes "type ip size 10 store gpc")) ≡ Err UnknownType
+unfolding table_of with_setting kind_of size_of size_unit number_of with_item datum_of
+table-array_without_count = refl
+
+table-array_of_101 : table_of (words_of (codes "type ip size 10 store gpc(101)")) ≡ Err BadNumber
+unfolding table_of with_setting kind_of size_of size_unit number_of with_item datum_of
+table-array_of_101 = refl
+
+table-excluded_by_an_array : table_of (words_of (codes "type ip size 10 store gpc(2),gpc1")) ≡ Err UnknownType
+unfolding table_of with_setting kind_of size_of size_unit number_of with_item datum_of
+table-excluded_by_an_array = refl
+
+table-array_excluded_before_its_count : table_of (words_of (codes "type ip size 10 store gpt0,gpt(0)")) ≡ Err UnknownType
+unfolding table_of with_setting kind_of size_of size_unit number_of with_item datum_of
+table-array_excluded_before_its_count = refl
+
+table-array_beside_a_rate : table_of (words_of (codes "type ip size 10 store gpc(1),gpc0_rate(10s)"))
+    ≡ Ok (record {
+      kind = Ip;
+      size = 10;
+      expire = None;
+      nopurge = false;
+      columns = record { datum = Gpc0Rate; period = 10000; count = 0 } ∷ record { datum = Gpc; period = 0; count = 1 } ∷ [];
+    })
+unfolding table_of with_setting kind_of size_of size_unit time_of time_unit number_of with_item datum_of
+table-array_beside_a_rate = refl

@@ -5,9 +5,10 @@ use Rattle.line_text.specs.Parts.{parts, is_byte}
 use Rattle.line_text.specs.Words.{is_some_text}
 use Rattle.stick_key.specs.declared.kind.KeyType.{KeyType}
 use Rattle.stick_key.specs.declared.kind.KeyType.TheVariants.{Ip, Ipv6, Integer, Text, Binary}
-use Rattle.stored_data.specs.Data.{is_rate}
+use Rattle.stored_data.specs.Data.{is_rate, is_array}
 use Rattle.stored_data.specs.Names.{datum_of}
-use Rattle.stored_data.specs.Stored.{is_column, with_column}
+use Rattle.stored_data.specs.Stored.{is_column, is_excluded, with_column}
+use Rattle.stored_data.specs.declared.datum.Datum.{Datum}
 use Rattle.stored_data.specs.declared.stored_set.Column.{Column}
 use Rattle.rule_model.specs.declared.faults.Fault.{Fault}
 use Rattle.rule_model.specs.declared.faults.Fault.TheVariants.{UnknownKeyword, BadSize, UnknownType}
@@ -24,18 +25,29 @@ found None fault = Err fault
 
 -- ---- what is stored
 
--- what follows a datum's name: for a rate its period in parentheses, for another nothing
-abbrev pub period_of : Bool → List ℕ → Result ℕ Fault
-period_of true text = found (inside text) UnknownType >>= time_of
-period_of false text = demand (not (is_some_text text)) UnknownType >>= (λ _. Ok 0)
+-- the column of a datum, by what follows its name: for a rate its period in parentheses, for an array how many elements it has, 1 to 100, and for all else nothing
+abbrev pub column_of : Datum → List ℕ → Result Column Fault
+column_of datum text =
+    if is_rate datum then (do
+      inner ← found (inside text) UnknownType
+      period ← time_of inner
+      Ok (record { datum = datum; period = period; count = 0 }))
+    else (if is_array datum then (do
+      inner ← found (inside text) UnknownType
+      count ← bounded_number 1 100 inner
+      Ok (record { datum = datum; period = 0; count = count }))
+    else (do
+      ended ← demand (not (is_some_text text)) UnknownType
+      Ok (record { datum = datum; period = 0; count = 0 })))
 
--- the columns, and one more
+-- the columns, and one more, which none of them excludes
 unfoldable pub with_item : List Column → List ℕ → Result (List Column) Fault
 with_item columns text = do
   datum ← found (datum_of (before_parenthesis text)) UnknownType
   new ← demand (not (is_column columns datum)) UnknownType
-  period ← period_of (is_rate datum) (from_parenthesis text)
-  Ok (with_column columns (record { datum = datum; period = period }))
+  apart ← demand (not (is_excluded columns datum)) UnknownType
+  column ← column_of datum (from_parenthesis text)
+  Ok (with_column columns column)
 
 abbrev pub with_items : List Column → List (List ℕ) → Result (List Column) Fault
 with_items columns [] = Ok columns

@@ -3,32 +3,55 @@
 ghost use Rattle.std.specs.Prelude.{◌≡◌};
 ghost use Rattle.line_text.specs.Parts.{parts, is_byte};
 ghost use Rattle.rule_model.specs.Reading.{Leaves};
-ghost use Rattle.stored_data.specs.Data.{is_rate};
-ghost use Rattle.config_words.specs.Table.{period_of, with_item, with_items};
+ghost use Rattle.config_words.specs.Table.{column_of, with_item, with_items};
 
-use crate::numbers::read_time;
+use crate::numbers::{read_bounded, read_time};
 use line_text::{Parts, before_parenthesis, inside};
 use rule_model::{Fault, ReadError};
 use stored_data::{Column, Datum, StoredSet, read_datum};
 
-/// Reads what follows a datum's name: a rate's period in ms, and for another datum nothing, which is the period 0.
-fn read_period(datum: Datum, text: &[u8]) -> Result<u32, Fault>
-    ensures { result ≡ period_of (is_rate datum) text.now }
+/// The most elements of an array.
+const MOST_ELEMENTS: u32 = 100;
+
+/// Reads the column of a datum by what follows its name: for a rate its period in parentheses, for an array how
+/// many elements it has, and for all else nothing.
+fn read_column(datum: Datum, text: &[u8]) -> Result<Column, Fault>
+    ensures { result ≡ column_of datum text.now }
 {
-    if !datum.is_rate() {
-        return if text.is_empty() {
-            Ok(0)
-        } else {
-            Err(Fault::UnknownType)
+    if datum.is_rate() {
+        let Some(period) = inside(text) else {
+            return Err(Fault::UnknownType);
         };
+        let period = read_time(period)?;
+        return Ok(Column {
+            datum,
+            period,
+            count: 0,
+        });
     }
-    let Some(period) = inside(text) else {
+    if datum.is_array() {
+        let Some(count) = inside(text) else {
+            return Err(Fault::UnknownType);
+        };
+        let count = read_bounded(count, 1, MOST_ELEMENTS)?;
+        return Ok(Column {
+            datum,
+            period: 0,
+            count,
+        });
+    }
+    if !text.is_empty() {
         return Err(Fault::UnknownType);
-    };
-    read_time(period)
+    }
+    Ok(Column {
+        datum,
+        period: 0,
+        count: 0,
+    })
 }
 
-/// Adds the column of a datum's name, with a period in parentheses exactly where it is a rate.
+/// Adds the column of a datum's name, with a period in parentheses exactly where it is a rate, and a count exactly where
+/// it is an array.
 #[tactic(auto, unfolding(crate::specs::Table::with_item))]
 fn add_item(columns: &mut StoredSet, text: &[u8]) -> Result<(), ReadError>
     ensures { Leaves result columns.new (with_item columns.old text.now) }
@@ -37,11 +60,11 @@ fn add_item(columns: &mut StoredSet, text: &[u8]) -> Result<(), ReadError>
     let Some(datum) = read_datum(name) else {
         return Err(ReadError::Wrong(Fault::UnknownType));
     };
-    if columns.holds(datum) {
+    if columns.holds(datum) || columns.excludes(datum) {
         return Err(ReadError::Wrong(Fault::UnknownType));
     }
-    let period = read_period(datum, rest)?;
-    columns.add(Column { datum, period })?;
+    let column = read_column(datum, rest)?;
+    columns.add(column)?;
     Ok(())
 }
 

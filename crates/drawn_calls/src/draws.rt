@@ -10,7 +10,7 @@ use sequence::{NoMemory, Sequence};
 use std::alloc::Global;
 use stick_key::{KeyType, Sample, StickKey, convert};
 use stick_table::{Cell, Cells, Event, Filter, Op, Spec, Ticket};
-use stored_data::{Act, Column, Datum, StoredSet};
+use stored_data::{Act, Column, Datum, Field, StoredSet};
 
 /// The data that the tables store.
 const DATA: [Datum; 3] = [Datum::Gpc0, Datum::ConnCnt, Datum::ConnCur];
@@ -31,8 +31,12 @@ pub fn spec(alloc: Global, size: u32, max_refs: u32, life: u64) -> Result<Spec, 
 {
     let mut columns = StoredSet::new(alloc);
     for datum in DATA {
-        if !columns.holds(datum) {
-            columns.add(Column { datum, period: 0 })?;
+        if !columns.holds(datum) && !columns.excludes(datum) {
+            columns.add(Column {
+                datum,
+                period: 0,
+                count: 0,
+            })?;
         }
     }
     Ok(Spec {
@@ -73,7 +77,7 @@ fn act(random: &mut Random) -> Act {
 
 /// No pair, or one that can be put, mostly.
 fn pairs(alloc: Global, random: &mut Random) -> Result<Cells, NoMemory>
-    ensures { IfOk result (λ cells. All (λ (pair : Cell). pair.value ≤ greatest pair.datum) cells) }
+    ensures { IfOk result (λ cells. All (λ (pair : Cell). pair.value ≤ greatest pair.field.datum) cells) }
 {
     let datum = match random.below(12) {
         0 => return Ok(Sequence::new(alloc)),
@@ -83,7 +87,8 @@ fn pairs(alloc: Global, random: &mut Random) -> Result<Cells, NoMemory>
         _ => Datum::Gpc0,
     };
     let value = u64::from(random.below(6)).min(datum.greatest());
-    Sequence::from_slice(alloc, &[Cell { datum, value }])
+    let field = Field::plain(datum);
+    Sequence::from_slice(alloc, &[Cell { field, value }])
 }
 
 /// A filter of any kind.
@@ -92,8 +97,11 @@ pub fn filter(alloc: Global, random: &mut Random, keys: u32) -> Result<Filter, N
         0 => Ok(Filter::Everything),
         1 => Ok(Filter::Nothing),
         2 => Ok(Filter::Key(drawn_key(alloc, random, keys)?)),
-        3 => Ok(Filter::Compare(Datum::Gpc1, Op::Ge, 1)),
-        _ => Ok(Filter::Compare(Datum::Gpc0, Op::Lt, u64::from(random.below(5)))),
+        3 => Ok(Filter::Compare(Field::plain(Datum::Gpc1), Op::Ge, 1)),
+        _ => {
+            let bound = u64::from(random.below(5));
+            Ok(Filter::Compare(Field::plain(Datum::Gpc0), Op::Lt, bound))
+        }
     }
 }
 

@@ -17,7 +17,7 @@ pub use slot_handle::Handle;
 use std::alloc::Global;
 use std::marker::Model;
 use stick_key::StickKey;
-use stored_data::{Act, Datum, StoredSet, Values};
+use stored_data::{Act, Field, StoredSet, Values};
 use value_rows::Rows;
 
 /// The entries of a table by their keys, and the slots of those that no reference holds, in a queue. Contracts see what
@@ -143,12 +143,12 @@ impl Store {
         self.index.key_of(slot)
     }
 
-    /// What a datum of a slot's entry shows at a moment in ms.
-    pub fn get(&self, slot: u32, datum: Datum, now: u64) -> Option<u64>
+    /// What a field of a slot's entry shows at a moment in ms.
+    pub fn get(&self, slot: u32, field: Field, now: u64) -> Option<u64>
         requires { IsSome (held_at self.now slot) }
-        ensures { (held : Held) → held_at self.now slot ≡ Some held → result ≡ value_at held.values datum now }
+        ensures { (held : Held) → held_at self.now slot ≡ Some held → result ≡ value_at held.values field now }
     {
-        self.rows.get(slot, datum, now)
+        self.rows.get(slot, field, now)
     }
 
     /// A copy of the data of a slot's entry, where there is memory.
@@ -214,11 +214,11 @@ impl Store {
         self.rows.act(slot, now, act)
     }
 
-    /// Puts a value into a datum of a slot's entry, as `Values::put`.
-    pub fn put(&mut self, slot: u32, datum: Datum, value: u64)
+    /// Puts a value into a field of a slot's entry, as `Values::put`.
+    pub fn put(&mut self, slot: u32, field: Field, value: u64)
         requires { IsSome (held_at self.old slot) }
-        ensures { self.new ≡ with_values self.old slot (λ values. with_value values datum value) }
+        ensures { self.new ≡ with_values self.old slot (λ values. with_value values field value) }
     {
-        self.rows.put(slot, datum, value);
+        self.rows.put(slot, field, value);
     }
 }

@@ -40,8 +40,8 @@ pub fn is_same(a: &Reply, b: &Reply) -> bool {
             },
         ) => ticket.number == other_ticket.number && is_same_row(row, other),
         (Reply::Value(value), Reply::Value(other)) => value == other,
-        (Reply::NotSettable(datum), Reply::NotSettable(other)) => datum == other,
-        (Reply::NotStored(datum), Reply::NotStored(other)) => datum == other,
+        (Reply::NotSettable(field), Reply::NotSettable(other)) => field == other,
+        (Reply::NotStored(field), Reply::NotStored(other)) => field == other,
         (Reply::Written { created }, Reply::Written { created: other }) => created == other,
         (
             Reply::Cleared { removed, kept },

@@ -8,7 +8,7 @@ use std::alloc::AllocError;
 use std::cmp::Ordering;
 use stick_key::StickKey;
 use stick_table::{Cell, Event, Filter, Op, Refusal, Reply, Row, Ticket};
-use stored_data::{Act, Datum};
+use stored_data::{Act, Datum, Field};
 
 /// The keys are the numbers below this one.
 pub const KEYS: u32 = 10;
@@ -43,22 +43,22 @@ fn compares(op: Op, a: u64, b: u64) -> bool {
     }
 }
 
-fn is_not_stored(reply: &Reply, wanted: Datum) -> bool {
-    matches!(reply, Reply::NotStored(datum) if *datum == wanted)
+fn is_not_stored(reply: &Reply, wanted: Field) -> bool {
+    matches!(reply, Reply::NotStored(field) if *field == wanted)
 }
 
-fn is_not_settable(reply: &Reply, wanted: Datum) -> bool {
-    matches!(reply, Reply::NotSettable(datum) if *datum == wanted)
+fn is_not_settable(reply: &Reply, wanted: Field) -> bool {
+    matches!(reply, Reply::NotSettable(field) if *field == wanted)
 }
 
 /// Whether pairs can't be put; and then, whether the reply says so of the first that can't.
 fn put_fault(pairs: &[Cell], reply: &Reply) -> Option<bool> {
     for pair in pairs {
-        if is_rate_or_current(pair.datum) {
-            return Some(is_not_settable(reply, pair.datum));
+        if is_rate_or_current(pair.field.datum) {
+            return Some(is_not_settable(reply, pair.field));
         }
-        if !is_stored(pair.datum) {
-            return Some(is_not_stored(reply, pair.datum));
+        if !is_stored(pair.field.datum) {
+            return Some(is_not_stored(reply, pair.field));
         }
     }
     None
@@ -116,7 +116,7 @@ impl Reckoning {
     }
 
     fn is_cell(&self, entry: Entry, datum: Datum, cell: &Cell) -> bool {
-        cell.datum == datum && self.value(entry, datum) == Some(cell.value)
+        cell.field == Field::plain(datum) && self.value(entry, datum) == Some(cell.value)
     }
 
     fn are_cells(&self, entry: Entry, cells: &[Cell]) -> bool {
@@ -154,7 +154,7 @@ impl Reckoning {
             Filter::Everything => true,
             Filter::Nothing => false,
             Filter::Key(key) => is_number(key, entry.key),
-            Filter::Compare(datum, op, bound) => match self.value(entry, *datum) {
+            Filter::Compare(field, op, bound) => match self.value(entry, field.datum) {
                 Some(value) => compares(*op, value, *bound),
                 None => false,
             },
@@ -289,7 +289,7 @@ impl Reckoning {
     /// Whether a ClearWhere is to be replied so.
     fn is_clear_where(&mut self, filter: &Filter, reply: &Reply) -> bool {
         match not_stored(filter) {
-            Some(datum) => is_not_stored(reply, datum),
+            Some(field) => is_not_stored(reply, field),
             None => is_cleared(reply, self.clear_meant(filter)),
         }
     }
@@ -297,7 +297,7 @@ impl Reckoning {
     /// Whether a List is to be replied so.
     fn is_list(&self, filter: &Filter, reply: &Reply) -> bool {
         match not_stored(filter) {
-            Some(datum) => is_not_stored(reply, datum),
+            Some(field) => is_not_stored(reply, field),
             None => self.is_listing(filter, reply),
         }
     }

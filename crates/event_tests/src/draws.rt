@@ -9,19 +9,23 @@ use sequence::Sequence;
 use std::alloc::{AllocError, Global};
 use stick_key::{KeyType, Sample, StickKey, convert};
 use stick_table::{Cell, Cells, Event, Filter, Op, Ticket};
-use stored_data::{Act, Datum};
+use stored_data::{Act, Datum, Field};
 
 /// The greatest moment, in ms.
 const GREATEST_MOMENT: u64 = (1 << 62) - 1;
 
-/// What events are drawn of: the numbers below this one as keys, and data, of which one that stands here more often is
-/// named more often.
+/// A datum and an index, which is 0 for what is no array.
+pub type Place = (Datum, u32);
+
+/// What events are drawn of: the numbers below this one as keys, and fields and acts, of which one that stands here more
+/// often is drawn more often.
 #[derive(Clone, Copy)]
 pub struct Scope {
     pub keys: u32,
-    pub named: &'static [Datum; 12],
+    pub named: &'static [Place; 12],
     /// Those that are put, mostly.
-    pub put: &'static [Datum; 7],
+    pub put: &'static [Place; 7],
+    pub acts: &'static [Act; 9],
 }
 
 /// The key of a number: of all, or of few.
@@ -68,8 +72,8 @@ pub fn altered(ticket: Ticket, way: u32) -> Ticket {
     }
 }
 
-/// Acts, mostly on data that are stored.
-static ACTS: [Act; 9] = [
+/// Acts on counters that aren't arrays.
+pub static ACTS: [Act; 9] = [
     Act::IncGpc0,
     Act::IncGpc0,
     Act::IncGpc0,
@@ -83,40 +87,49 @@ static ACTS: [Act; 9] = [
 
 static OPS: [Op; 6] = [Op::Eq, Op::Ne, Op::Le, Op::Ge, Op::Lt, Op::Gt];
 
-fn act(random: &mut Random) -> Act {
-    ACTS[random.below(9) as usize]
+fn act(random: &mut Random, scope: Scope) -> Act {
+    let acts = scope.acts;
+    acts[random.below(9) as usize]
 }
 
-fn datum(random: &mut Random, scope: Scope) -> Datum {
+fn field_at(place: Place) -> Field {
+    Field {
+        datum: place.0,
+        index: place.1,
+    }
+}
+
+fn field(random: &mut Random, scope: Scope) -> Field {
     let named = scope.named;
-    named[random.below(12) as usize]
+    field_at(named[random.below(12) as usize])
 }
 
-/// A datum that can be put, mostly.
-fn put_datum(random: &mut Random, scope: Scope) -> Datum {
+/// A field that can be put, mostly.
+fn put_field(random: &mut Random, scope: Scope) -> Field {
     let put = scope.put;
     match put.get(random.below(8) as usize) {
-        Some(datum) => *datum,
-        None => datum(random, scope),
+        Some(place) => field_at(*place),
+        None => field(random, scope),
     }
 }
 
 /// A pair: a small value, or one near the greatest.
 fn pair(random: &mut Random, scope: Scope) -> Cell
-    ensures { result.value ≤ greatest result.datum }
+    ensures { result.value ≤ greatest result.field.datum }
 {
-    let datum = put_datum(random, scope);
+    let field = put_field(random, scope);
+    let greatest = field.datum.greatest();
     let small = u64::from(random.below(6));
     let value = match random.below(5) {
-        0 => datum.greatest().saturating_sub(small),
-        _ => small.min(datum.greatest()),
+        0 => greatest.saturating_sub(small),
+        _ => small.min(greatest),
     };
-    Cell { datum, value }
+    Cell { field, value }
 }
 
 /// No pair, one, or two.
 fn pairs(alloc: Global, random: &mut Random, scope: Scope) -> Result<Cells, AllocError>
-    ensures { IfOk result (λ cells. All (λ (pair : Cell). pair.value ≤ greatest pair.datum) cells) }
+    ensures { IfOk result (λ cells. All (λ (pair : Cell). pair.value ≤ greatest pair.field.datum) cells) }
 {
     let first = pair(random, scope);
     let second = pair(random, scope);
@@ -134,9 +147,9 @@ fn filter(alloc: Global, random: &mut Random, scope: Scope) -> Result<Filter, Al
         1 => Ok(Filter::Nothing),
         2 => Ok(Filter::Key(key(alloc, random, scope)?)),
         _ => {
-            let datum = datum(random, scope);
+            let field = field(random, scope);
             let op = OPS[random.below(6) as usize];
-            Ok(Filter::Compare(datum, op, u64::from(random.below(5))))
+            Ok(Filter::Compare(field, op, u64::from(random.below(5))))
         }
     }
 }
@@ -165,7 +178,7 @@ pub fn event(
         0 => Ok(Event::Get(now, key(alloc, random, scope)?)),
         1..=6 => Ok(Event::Track(now, key(alloc, random, scope)?)),
         7..=8 => Ok(Event::Look(now, ticket)),
-        9..=11 => Ok(Event::Count(now, ticket, act(random))),
+        9..=11 => Ok(Event::Count(now, ticket, act(random, scope))),
         12..=14 => Ok(Event::Release(now, ticket)),
         15..=18 => put(alloc, random, scope, now),
         19 => Ok(Event::Clear(now, key(alloc, random, scope)?)),

@@ -1,10 +1,10 @@
-//! Random events on many pooled tables, each compared with what a plain one answers.
+//! Random events on many pooled tables, every other one of arrays, each compared with what a plain one answers.
 ghost use Rattle.std.specs.Prelude.{◌<◌, ◌^◌, IfOk};
 ghost use Rattle.table_model.specs.Limits.{IsTableEvent};
 
 use crate::alike::is_alike;
 use crate::calls::{Answer, Answers, copied, open, step};
-use crate::draws::{self, Scope};
+use crate::draws::{self, ACTS, Place, Scope};
 use crate::tables::{columns, spec};
 use crate::telling::told_ticket;
 use crate::trials::ask;
@@ -14,7 +14,7 @@ use std::alloc::{AllocError, Global};
 use std::test::Fail;
 use stick_key::StickKey;
 use stick_table::{Event, Filter, PlainTable, Ticket};
-use stored_data::Datum;
+use stored_data::{Act, Datum};
 
 /// The data that each table stores.
 static STORED: [Datum; 6] = [
@@ -26,29 +26,77 @@ static STORED: [Datum; 6] = [
     Datum::BytesInCnt,
 ];
 
-static NAMED: [Datum; 12] = [
-    Datum::Gpc0,
-    Datum::Gpc0,
-    Datum::Gpc0,
-    Datum::Gpc0,
-    Datum::ConnCnt,
-    Datum::ConnCnt,
-    Datum::Gpc0Rate,
-    Datum::ConnRate,
-    Datum::ConnCur,
-    Datum::ConnCur,
-    Datum::BytesInCnt,
-    Datum::Gpc1,
+static NAMED: [Place; 12] = [
+    (Datum::Gpc0, 0),
+    (Datum::Gpc0, 0),
+    (Datum::Gpc0, 0),
+    (Datum::Gpc0, 0),
+    (Datum::ConnCnt, 0),
+    (Datum::ConnCnt, 0),
+    (Datum::Gpc0Rate, 0),
+    (Datum::ConnRate, 0),
+    (Datum::ConnCur, 0),
+    (Datum::ConnCur, 0),
+    (Datum::BytesInCnt, 0),
+    (Datum::Gpc1, 0),
 ];
 
-static PUT: [Datum; 7] = [
-    Datum::Gpc0,
-    Datum::Gpc0,
-    Datum::Gpc0,
-    Datum::Gpc0,
-    Datum::BytesInCnt,
-    Datum::BytesInCnt,
-    Datum::BytesInCnt,
+static PUT: [Place; 7] = [
+    (Datum::Gpc0, 0),
+    (Datum::Gpc0, 0),
+    (Datum::Gpc0, 0),
+    (Datum::Gpc0, 0),
+    (Datum::BytesInCnt, 0),
+    (Datum::BytesInCnt, 0),
+    (Datum::BytesInCnt, 0),
+];
+
+/// The data that every other table stores: arrays in place of the counters and the tag.
+static STORED_ARRAYS: [Datum; 6] = [
+    Datum::Gpt,
+    Datum::Gpc,
+    Datum::Gpc0Rate,
+    Datum::ConnCnt,
+    Datum::ConnCur,
+    Datum::BytesInRate,
+];
+
+static NAMED_ELEMENTS: [Place; 12] = [
+    (Datum::Gpc, 0),
+    (Datum::Gpc, 0),
+    (Datum::Gpc, 1),
+    (Datum::Gpc, 1),
+    (Datum::Gpc, 2),
+    (Datum::Gpc, 3),
+    (Datum::Gpt, 0),
+    (Datum::Gpt, 2),
+    (Datum::Gpt, 3),
+    (Datum::Gpc0Rate, 0),
+    (Datum::ConnCur, 0),
+    (Datum::Gpc0, 0),
+];
+
+static PUT_ELEMENTS: [Place; 7] = [
+    (Datum::Gpc, 0),
+    (Datum::Gpc, 1),
+    (Datum::Gpc, 2),
+    (Datum::Gpc, 2),
+    (Datum::Gpt, 0),
+    (Datum::Gpt, 1),
+    (Datum::ConnCnt, 0),
+];
+
+/// Acts on elements, by their index and by the names of the counters and the tag in whose place they stand.
+static ELEMENT_ACTS: [Act; 9] = [
+    Act::IncGpc0,
+    Act::IncGpc1,
+    Act::IncGpc(0),
+    Act::IncGpc(2),
+    Act::IncGpc(3),
+    Act::ClrGpc1,
+    Act::SetGpt0(7),
+    Act::SetGpt(1, 4_000_000_000),
+    Act::SetGpt(3, 9),
 ];
 
 static SIZES: [u32; 4] = [1, 2, 7, 100];
@@ -96,6 +144,26 @@ fn have_the_same_out(a: &PlainTable, b: &PlainTable) -> bool {
     a.events() == b.events() && are_the_same(a.tickets(), b.tickets())
 }
 
+/// What the table of a seed stores, and what its events are drawn of.
+fn kind(seed: u64) -> (&'static [Datum], Scope) {
+    if seed % 2 == 0 {
+        let scope = Scope {
+            keys: 0,
+            named: &NAMED,
+            put: &PUT,
+            acts: &ACTS,
+        };
+        return (STORED.as_slice(), scope);
+    }
+    let scope = Scope {
+        keys: 0,
+        named: &NAMED_ELEMENTS,
+        put: &PUT_ELEMENTS,
+        acts: &ELEMENT_ACTS,
+    };
+    (STORED_ARRAYS.as_slice(), scope)
+}
+
 /// What a table lists.
 fn listed(table: &mut PlainTable) -> Answer {
     step(table, &Event::List(0, Filter::Everything))
@@ -104,7 +172,8 @@ fn listed(table: &mut PlainTable) -> Answer {
 impl Trial {
     fn new(alloc: Global, seed: u64) -> Result<Trial, AllocError> {
         let mut random = Random::new(seed);
-        let columns = columns(alloc, &STORED, random.below(20) + 1)?;
+        let (data, scope) = kind(seed);
+        let columns = columns(alloc, data, random.below(20) + 1)?;
         let size = SIZES[random.below(4) as usize];
         let spec = spec(&mut random, size.clamp(1, 100), columns);
         Ok(Trial {
@@ -113,8 +182,7 @@ impl Trial {
             clock: 0,
             scope: Scope {
                 keys: size.saturating_add(3),
-                named: &NAMED,
-                put: &PUT,
+                ..scope
             },
             plain: open(alloc, spec.copy()?)?,
             table: open(alloc, spec)?,

@@ -2,7 +2,7 @@
 
 use crate::reckoning::{Entry, GREATEST};
 use stick_table::{Cell, Filter};
-use stored_data::{Act, Datum};
+use stored_data::{Act, Datum, Field};
 
 /// Whether the tables store a datum.
 pub fn is_stored(datum: Datum) -> bool {
@@ -20,14 +20,14 @@ pub fn is_rate_or_current(datum: Datum) -> bool {
     )
 }
 
-/// The datum that a filter compares and no table here stores.
-pub fn not_stored(filter: &Filter) -> Option<Datum> {
+/// The field that a filter compares and no table here stores.
+pub fn not_stored(filter: &Filter) -> Option<Field> {
     match filter {
-        Filter::Compare(datum, _, _) => {
-            if is_stored(*datum) {
+        Filter::Compare(field, _, _) => {
+            if is_stored(field.datum) {
                 None
             } else {
-                Some(*datum)
+                Some(*field)
             }
         }
         _ => None,
@@ -36,7 +36,7 @@ pub fn not_stored(filter: &Filter) -> Option<Datum> {
 
 /// The entry with a pair put.
 fn with_pair(entry: Entry, pair: Cell) -> Entry {
-    if pair.datum == Datum::Gpc0 {
+    if pair.field.datum == Datum::Gpc0 {
         return Entry {
             gpc0: pair.value,
             ..entry

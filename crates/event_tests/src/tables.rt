@@ -8,18 +8,26 @@ use stick_key::KeyType;
 use stick_table::Spec;
 use stored_data::{Column, Datum, StoredSet};
 
+/// How many elements each array has.
+const ELEMENTS: u32 = 3;
+
 /// Adds a datum that isn't there. A rate is over this period.
 fn add(columns: &mut StoredSet, datum: Datum, period: u32) -> Result<(), AllocError>
     requires { (1 ≤ period) × (period < 2 ^ 31) }
 {
-    if columns.holds(datum) {
+    if columns.holds(datum) || columns.excludes(datum) {
         return Ok(());
     }
     let period = if datum.is_rate() { period } else { 0 };
-    columns.add(Column { datum, period })
+    let count = if datum.is_array() { ELEMENTS } else { 0 };
+    columns.add(Column {
+        datum,
+        period,
+        count,
+    })
 }
 
-/// The data that a table stores. Rates are over this period.
+/// The data that a table stores. Rates are over this period, and arrays have three elements.
 pub fn columns(alloc: Global, data: &[Datum], period: u32) -> Result<StoredSet, AllocError>
     requires { (1 ≤ period) × (period < 2 ^ 31) }
 {

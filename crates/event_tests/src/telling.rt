@@ -4,7 +4,7 @@ use crate::calls::{Answer, Answers};
 use crate::worked::{Keys, Shown, Tell, Told, head};
 use stick_key::StickKey;
 use stick_table::{Reply, Row, Ticket};
-use stored_data::Datum;
+use stored_data::{Datum, Field};
 
 /// Whether a key is that of a host.
 fn is_key(keys: Keys, key: &StickKey, host: u8) -> bool {
@@ -18,7 +18,7 @@ fn is_key(keys: Keys, key: &StickKey, host: u8) -> bool {
 fn is_row(keys: Keys, row: &Row, shown: Shown) -> bool {
     is_key(keys, &row.key, shown.0)
         && (row.refs, row.left) == (shown.1, shown.2)
-        && matches!(row.cells.as_slice(), [cell] if cell.datum == Datum::Gpc0 && cell.value == shown.3)
+        && matches!(row.cells.as_slice(), [cell] if cell.field == Field::plain(Datum::Gpc0) && cell.value == shown.3)
 }
 
 /// Whether these rows show that, one after another.

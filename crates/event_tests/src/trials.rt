@@ -4,7 +4,7 @@ ghost use Rattle.table_model.specs.Limits.{IsTableEvent};
 
 use crate::answers::KEYS;
 use crate::calls::{Answers, open, step_and_redo, step_twice};
-use crate::draws::{self, Scope};
+use crate::draws::{self, ACTS, Place, Scope};
 use crate::reckoning::{Limits, Reckoning};
 use crate::tables::{columns, spec};
 use random_numbers::Random;
@@ -16,29 +16,29 @@ use stored_data::Datum;
 /// The data that each table stores.
 static STORED: [Datum; 4] = [Datum::ConnCur, Datum::ConnRate, Datum::ConnCnt, Datum::Gpc0];
 
-static NAMED: [Datum; 12] = [
-    Datum::Gpc0,
-    Datum::Gpc0,
-    Datum::Gpc0,
-    Datum::Gpc0,
-    Datum::ConnCnt,
-    Datum::ConnCnt,
-    Datum::ConnCnt,
-    Datum::ConnRate,
-    Datum::ConnRate,
-    Datum::ConnCur,
-    Datum::ConnCur,
-    Datum::Gpc1,
+static NAMED: [Place; 12] = [
+    (Datum::Gpc0, 0),
+    (Datum::Gpc0, 0),
+    (Datum::Gpc0, 0),
+    (Datum::Gpc0, 0),
+    (Datum::ConnCnt, 0),
+    (Datum::ConnCnt, 0),
+    (Datum::ConnCnt, 0),
+    (Datum::ConnRate, 0),
+    (Datum::ConnRate, 0),
+    (Datum::ConnCur, 0),
+    (Datum::ConnCur, 0),
+    (Datum::Gpc1, 0),
 ];
 
-static PUT: [Datum; 7] = [
-    Datum::Gpc0,
-    Datum::Gpc0,
-    Datum::Gpc0,
-    Datum::Gpc0,
-    Datum::ConnCnt,
-    Datum::ConnCnt,
-    Datum::ConnCnt,
+static PUT: [Place; 7] = [
+    (Datum::Gpc0, 0),
+    (Datum::Gpc0, 0),
+    (Datum::Gpc0, 0),
+    (Datum::Gpc0, 0),
+    (Datum::ConnCnt, 0),
+    (Datum::ConnCnt, 0),
+    (Datum::ConnCnt, 0),
 ];
 
 /// What two replies to an event are: half of them are given at once, and half the second by a plain copy of what the
@@ -141,6 +141,7 @@ impl Trial {
             keys: self.plain.limits.size.saturating_add(2).min(KEYS),
             named: &NAMED,
             put: &PUT,
+            acts: &ACTS,
         };
         let ticket = self.ticket();
         draws::event(self.alloc, &mut self.random, scope, now, ticket)

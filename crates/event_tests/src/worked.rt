@@ -8,7 +8,7 @@ use sequence::{NoMemory, Sequence};
 use std::alloc::Global;
 use stick_key::{KeyType, Sample, StickKey, convert};
 use stick_table::{Cell, Event, Filter, Op, Refusal, Spec, Ticket};
-use stored_data::{Act, Column, Datum, StoredSet};
+use stored_data::{Act, Column, Datum, Field, StoredSet};
 
 /// Keys of 4 bytes, or of 24, which lie in memory of their own. The last byte tells a host.
 #[derive(Clone, Copy)]
@@ -258,6 +258,7 @@ pub fn spec(alloc: Global, keys: Keys, example: &Example) -> Result<Spec, NoMemo
     columns.add(Column {
         datum: Datum::Gpc0,
         period: 0,
+        count: 0,
     })?;
     Ok(Spec {
         kind: kind(keys),
@@ -298,7 +299,7 @@ fn put(alloc: Global, now: u64, key: StickKey, gpc0: u32) -> Result<Event, NoMem
     ensures { IfOk result IsTableEvent }
 {
     let pair = Cell {
-        datum: Datum::Gpc0,
+        field: Field::plain(Datum::Gpc0),
         value: u64::from(gpc0),
     };
     Ok(Event::Put(now, key, Sequence::from_slice(alloc, &[pair])?))
@@ -325,5 +326,5 @@ pub fn event_of(alloc: Global, keys: Keys, row: Told, ticket: Ticket) -> Result<
 }
 
 fn by_gpc0(op: Op, bound: u64) -> Filter {
-    Filter::Compare(Datum::Gpc0, op, bound)
+    Filter::Compare(Field::plain(Datum::Gpc0), op, bound)
 }

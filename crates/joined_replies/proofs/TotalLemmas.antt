@@ -2,7 +2,7 @@
 use Rattle.std.proofs.Common.{◌≡◌, ◌∙◌, ◌≤◌, ◌+◌, ◌-◌, ◌*◌, ◌^◌, ℕ, true, false, Option, Some, None, IfSome, List, [], ◌∷◌, ◌++◌, length, fold, refl, sym, ap, subst, rules, arith}
 use Rattle.std.specs.Option.{option_map_or}
 use Rattle.std.proofs.lemmas.List.Sums.{count_by-le-length, fold-append}
-use Rattle.stored_data.specs.declared.datum.Datum.{Datum}
+use Rattle.stored_data.specs.declared.field.Field.{Field}
 use Rattle.table_model.specs.State.{State, stays}
 use Rattle.table_model.specs.Step.{Outcome, Step, begun, listed, cleared}
 use Rattle.table_model.specs.Legal.{IsLegal}
@@ -18,17 +18,17 @@ use Rattle.joined_replies.specs.Total.{IsAsked, IsCounted, both, together, total
 
 -- ---- that the numbers can be added up
 
-listed_counted : (limit : ℕ) (state : State) (choice : Filter) (missing : Option Datum) → length state.records ≤ limit → IsCounted limit (option_map_or NotStored missing (listed state choice))
+listed_counted : (limit : ℕ) (state : State) (choice : Filter) (missing : Option Field) → length state.records ≤ limit → IsCounted limit (option_map_or NotStored missing (listed state choice))
 listed_counted limit state choice None within = within
-listed_counted limit state choice (Some datum) within = tt
+listed_counted limit state choice (Some field) within = tt
 
-cleared_counted : (limit : ℕ) (state : State) (choice : Filter) (missing : Option Datum) → length state.records ≤ limit
-    → IsCounted limit (option_map_or {U = Outcome} (λ datum. (NotStored datum, state)) missing (cleared state choice)).0
+cleared_counted : (limit : ℕ) (state : State) (choice : Filter) (missing : Option Field) → length state.records ≤ limit
+    → IsCounted limit (option_map_or {U = Outcome} (λ field. (NotStored field, state)) missing (cleared state choice)).0
 cleared_counted limit state choice None within = (
   omega (arith, count_by-le-length (is_matched state.clock state.tickets choice false) state.records, within),
   omega (arith, count_by-le-length (is_matched state.clock state.tickets choice true) state.records, within),
 )
-cleared_counted limit state choice (Some datum) within = tt
+cleared_counted limit state choice (Some field) within = tt
 
 -- the numbers of a shard's reply are at most the greatest size of a table
 pub counted : (event : Event) (before after : State) (reply : Reply) → IsAsked event → IsTableSpec before.spec → IsLegal before → Step before event reply after → IsCounted (2 ^ 30) reply

@@ -64,7 +64,7 @@ limits_20 = record {
     name_is = refl;
     frontend = refl;
     first = refl;
-    table = record { kind = Ip; size = 102400; expire = Some 600000; nopurge = false; columns = record { datum = ConnCur; period = 0 } ∷ [] };
+    table = record { kind = Ip; size = 102400; expire = Some 600000; nopurge = false; columns = record { datum = ConnCur; period = 0; count = 0 } ∷ [] };
     table_is = refl;
     stored = refl;
     no_rules = refl;

@@ -22,7 +22,7 @@ use Rattle.config_words.specs.Table.{found, once, table_of}
 use Rattle.config_words.proofs.TableLemmas.{ok_bind, ok_if}
 use Rattle.rule_terms.specs.Conditions.{condition_of, criterion_of}
 use Rattle.rule_eval.specs.Limit.{is_sc0, tracks_sc0}
-use Rattle.rule_config.specs.Actions.{action_of, count_of, key_of, rule_of, rule_with, slot_of, table_named, track_of, tracked_slot}
+use Rattle.rule_config.specs.Actions.{action_of, count_of, element_in, key_of, rule_of, rule_with, slot_of, table_named, track_of, tracked_slot}
 use Rattle.rule_config.specs.Lines.{has_name, line_says, says_by, says_in, section_says, words_say}
 use Rattle.rule_config.specs.Statements.{acl_says, bind_says, default_backend_says, is_passed_line, is_passed_section, keyword_says, mode_says, no_more, section_kind, server_says, stick_table_says, tcp_request_says}
 use Rattle.rule_config.specs.declared.reading.Place.{Place}
@@ -73,7 +73,10 @@ count-told word words =
     (ok_if (Tracks false) (bytes_eq (before_parenthesis word) (codes "sc-inc-gpc1")) _ _ (ok_bind (Tracks false) (slot_of word) _ (λ _ _. refl))
     (ok_if (Tracks false) (bytes_eq (before_parenthesis word) (codes "sc-set-gpt0")) _ _
     (ok_bind (Tracks false) (slot_of word) _ (λ _ _. ok_bind (Tracks false) (bounded_number 0 (2 ^ 32 - 1) (first_word words)) _ (λ _ _. refl)))
-    tt))
+    (ok_if (Tracks false) (bytes_eq (before_parenthesis word) (codes "sc-inc-gpc")) _ _ (ok_bind (Tracks false) (element_in word) _ (λ _ _. refl))
+    (ok_if (Tracks false) (bytes_eq (before_parenthesis word) (codes "sc-set-gpt")) _ _
+    (ok_bind (Tracks false) (element_in word) _ (λ _ _. ok_bind (Tracks false) (bounded_number 0 (2 ^ 32 - 1) (first_word words)) _ (λ _ _. refl)))
+    tt))))
 
 tracked-told : (own word : List ℕ) (words : List (List ℕ)) (slot : Option Slot) (told : Bool) → is_slot_0 slot ≡ told
     → IfOk (elim slot [ Some s ↦ track_of own s words | None ↦ count_of word words ]) (Tracks told)

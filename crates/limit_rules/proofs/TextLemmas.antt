@@ -18,7 +18,8 @@ use Rattle.config_words.specs.Lines.{lines_of, words_of}
 use Rattle.line_text.specs.Number.{number_of}
 use Rattle.config_words.proofs.TableLemmas.{ok_bind}
 use Rattle.rule_eval.specs.Limit.{LimitsFirst, refusing_rule, tracking_rule}
-use Rattle.rule_eval.specs.Tables.{has_column, in_32_bits}
+use Rattle.rule_eval.proofs.ShownLemmas.{conn_cur_read}
+use Rattle.rule_eval.specs.Tables.{has_datum, in_32_bits}
 use Rattle.rule_config.specs.Config.{config_of, config_with, first_unmet, nothing_read, read_from, read_of, whole}
 use Rattle.rule_config.specs.Lines.{with_declared, with_line}
 use Rattle.rule_config.specs.declared.needs.Need.{Need}
@@ -117,7 +118,7 @@ module _ (firsts others : List Section) (ours : Section) (name : List ℕ) (limi
         later = is.later;
         begin = is.rules_are;
         named = ap in_32_bits at ∙ ap (λ b. if b then Some place else None) (is_below place (2 ^ 32) below);
-        stored = ap (λ t. has_column t ConnCur) found ∙ stored;
+        stored = ap (λ t. has_datum t ConnCur) found ∙ conn_cur_read table.columns ∙ stored;
         others = is.others;
       })
 

@@ -11,7 +11,7 @@ use shard_seats::{Seat, TrackRef};
 use std::alloc::Global;
 use std::sync::Wait;
 use stick_table::{Cell, Event, Filter, PlainTable, Refusal, Reply, Row};
-use stored_data::Datum;
+use stored_data::{Datum, Field};
 
 /// What is asked of a table by the number of a key, and at a moment in ms.
 #[derive(Clone, Copy)]
@@ -58,7 +58,7 @@ pub enum Said {
 fn gpc0_of(row: &Row) -> Option<u64> {
     let cells = row.cells.as_slice();
     for index in 0..cells.len() {
-        if cells[index].datum == Datum::Gpc0 {
+        if cells[index].field == Field::plain(Datum::Gpc0) {
             return Some(cells[index].value);
         }
     }
@@ -91,7 +91,7 @@ fn put_of(alloc: Global, number: u32) -> Result<Event, NoMemory>
     ensures { IfOk result IsTableEvent }
 {
     let pair = Cell {
-        datum: Datum::Gpc0,
+        field: Field::plain(Datum::Gpc0),
         value: 3,
     };
     let pairs = Sequence::from_slice(alloc, &[pair])?;

@@ -2,7 +2,7 @@
 use Rattle.std.proofs.Common.{◌≡◌, ℕ, sym, ◌∙◌, ap, List, length, filter, false, Option, None, count_by}
 use Rattle.std.specs.Map.{values_of}
 use Rattle.std.specs.Option.{option_map_or}
-use Rattle.stored_data.specs.declared.datum.Datum.{Datum}
+use Rattle.stored_data.specs.declared.field.Field.{Field}
 use Rattle.entry_store.specs.Stock.{Held, Stock}
 use Rattle.ticket_book.specs.Tickets.{Tickets}
 use Rattle.stick_table.specs.Replies.{listed_rows, listed_reply}
@@ -27,7 +27,7 @@ pub listed-is : (spec : Spec) (clock events : ℕ) (s : Stock) (book : Tickets) 
     → Rows used rows ≡ listed_reply (state_of spec clock events s book) at choice
 listed-is spec clock events s book table at choice used rows fine counts shows =
     (λ i. Rows (all i) (listed i))
-    ∙ sym (ap (λ (o : Option Datum). option_map_or NotStored o (Rows (length (filter (stays at tickets) records)) (listed_rows spec.columns tickets at choice records))) fine)
+    ∙ sym (ap (λ (o : Option Field). option_map_or NotStored o (Rows (length (filter (stays at tickets) records)) (listed_rows spec.columns tickets at choice records))) fine)
   where
     tickets : List (Ticket × Key)
     tickets = tickets_of s book

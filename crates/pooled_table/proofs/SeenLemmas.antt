@@ -31,7 +31,7 @@ module _ (tickets : List (Ticket × Key)) (clock : ℕ) (expire : Option ℕ) (h
   meant-is Everything = refl
   meant-is Nothing = refl
   meant-is (OneKey key) = refl
-  meant-is (Compare datum op bound) = ap (λ n. compares op (unwrap_or (value_at h.values datum clock) n) bound) counted
+  meant-is (Compare field op bound) = ap (λ n. compares op (unwrap_or (value_at h.values field clock) n) bound) counted
 
   pub meant-as-is : (choice : Filter) (tracked : Bool) → is_meant_as clock choice tracked h ≡ is_matched clock tickets choice tracked (keyed expire h)
   meant-as-is choice tracked =

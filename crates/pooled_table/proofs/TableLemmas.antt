@@ -11,8 +11,8 @@ use Rattle.table_model.specs.Step.{clear}
 use Rattle.table_model.specs.declared.replies.Reply.TheVariants.{Absent, InUse, Removed}
 use Rattle.std.proofs.Common.{◌⊎◌, inl, inr, not}
 use Rattle.std.specs.Prelude.{nat_lt}
-use Rattle.std.proofs.lemmas.Bool.{cases_eq}
-use Rattle.std.proofs.lemmas.List.{get_or-set_same, get_or-set_other, length-set}
+use Rattle.std.proofs.lemmas.Bool.{cases_eq, cases_lt}
+use Rattle.std.proofs.lemmas.List.{get_or-set_same, get_or-set_other, length-set, get_or-replicate, get_or_past}
 use Rattle.std.proofs.lemmas.Map.Lookups.{exact_bytes}
 use Rattle.slot_handle.specs.declared.Handle.{Handle}
 use Rattle.entry_pool.proofs.SlotLemmas.{get_within}
@@ -25,7 +25,10 @@ use Rattle.pooled_table.specs.Shown.{record_of}
 use Rattle.pooled_table.proofs.RecordLemmas.{lookup-at, held-from, records-without, rising-without}
 use Rattle.std.proofs.Common.{◌≡◌, ◌≢◌, ℕ, zero, suc, ◌+◌, ◌^◌, ◌<◌, ◌≤◌, refl, sym, ◌∙◌, ap, subst, arith, List, [], ◌∷◌, length, filter, map, replicate, cond, Option, Some, None, is_some, IsSome, count_by}
 use Rattle.std.specs.Prelude.{max}
-use Rattle.std.specs.List.{AllByRecursion}
+use Rattle.std.specs.List.{AllByRecursion, IsDistinct}
+use Rattle.std.proofs.Math.ListN.{length-replicate}
+use Rattle.stored_data.specs.declared.stored_set.Column.{Column}
+use Rattle.table_model.specs.Limits.{IsTableSpec}
 use Rattle.std.specs.Option.{option_map}
 use Rattle.std.proofs.lemmas.Bool.{true≢false}
 use Rattle.std.proofs.lemmas.List.Sums.{sum_by-cons}
@@ -169,6 +172,38 @@ no-records expire (suc size) = no-records expire size
 pub new-state : (spec : Spec) (s : Stock) (book : Tickets) → s ≡ empty spec.size spec.columns → book ≡ no_tickets spec.max_refs → state_of spec 0 0 s book ≡ empty_table spec
 new-state spec s book is told =
     (λ t. state_of spec 0 0 (is t) (told t)) ∙ ap (λ rs. record { spec = spec; clock = 0; events = 0; records = rs; tickets = [] }) (no-records spec.expire spec.size)
+
+-- ---- a new table
+no-entry : (size : ℕ) (columns : List Column) (slot : ℕ) (held : Held) → held_at (empty size columns) slot ≡ Some held → ⊥
+no-entry size columns slot held there = elim (cases_lt slot size) [
+  | inl h ↦ none_some (sym (get_or-replicate size slot None None h) ∙ there)
+  | inr h ↦ none_some (sym (get_or_past (replicate size None) slot None (subst (λ m. m ≤ slot) (sym (length-replicate size None)) h)) ∙ there)
+]
+
+empty-table : (spec : Spec) → IsTableSpec spec → IsTable spec 0 0 (empty spec.size spec.columns) (no_tickets spec.max_refs)
+unfolding IsDistinct
+empty-table spec limits = record {
+  bounded = record { spec_ok = limits; clock_ok = omega arith; life_ok = omega arith; tickets_ok = omega arith };
+  stock = record {
+    distinct = λ i j d e one. absurd (no-entry spec.size spec.columns i d one);
+    once = tt;
+    queued = λ slot. ((λ h. absurd (omega (arith, h.1))), (λ f. absurd (no-entry spec.size spec.columns slot f.held f.there)));
+  };
+  rising = tt;
+  counted = λ slot held there. absurd (no-entry spec.size spec.columns slot held there);
+  held = tt;
+  numbered = tt;
+  issued = tt;
+  past = λ slot held there. absurd (no-entry spec.size spec.columns slot held there);
+  store_newest = omega arith;
+  book_newest = omega arith;
+  columns = refl;
+  sized = length-replicate spec.size None;
+  capacity = refl;
+}
+
+pub new-table : (spec : Spec) (s : Stock) (book : Tickets) → IsTableSpec spec → s ≡ empty spec.size spec.columns → book ≡ no_tickets spec.max_refs → IsTable spec 0 0 s book
+new-table spec s book limits is told = subst (λ x. IsTable spec 0 0 x book) (sym is) (subst (λ b. IsTable spec 0 0 (empty spec.size spec.columns) b) (sym told) (empty-table spec limits))
 
 -- ---- an entry that goes
 pub free-left : (s : Stock) (slot : ℕ) → IsStock s → IsFree s slot → IsLeft s (without_slot s slot)

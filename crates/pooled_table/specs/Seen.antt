@@ -2,6 +2,8 @@
 use Rattle.std.specs.Prelude.{◌≡◌, ℕ, nat_lt, Bool, true, false, not, ◌&&◌, ◌||◌, if◌then◌else◌, List, [], ◌∷◌, map, Option, Some, None, unwrap_or}
 use Rattle.std.specs.Option.{option_and_then, option_map}
 use Rattle.stored_data.specs.Acts.{value_at}
+use Rattle.stored_data.specs.Fields.{fields_of}
+use Rattle.stored_data.specs.declared.field.Field.{Field}
 use Rattle.stored_data.specs.declared.stored_set.Column.{Column}
 use Rattle.stored_data.specs.declared.values.StoredValue.{StoredValue}
 use Rattle.entry_store.specs.Stock.{Held, Stock, held_at}
@@ -15,9 +17,13 @@ use Rattle.table_model.specs.declared.filters.Filter.{Filter}
 use Rattle.table_model.specs.declared.filters.Filter.TheVariants.{Everything, Nothing, Key as OneKey, Compare}
 use Rattle.pooled_table.specs.Shown.{record_of}
 
+-- what a row shows of a field of these data, of an entry that has so many references
+abbrev pub cell_of : ℕ → ℕ → List StoredValue → Field → Cell
+cell_of clock refs values field = record { field = field; value = unwrap_or (value_at values field clock) refs }
+
 -- the cells of a row, of an entry that has so many references
 abbrev pub cells_of : List Column → ℕ → ℕ → List StoredValue → List Cell
-cells_of columns clock refs values = map (λ (column : Column). record { datum = column.datum; value = unwrap_or (value_at values column.datum clock) refs }) columns
+cells_of columns clock refs values = map (cell_of clock refs values) (fields_of columns)
 
 -- whether it stays when the clock has come to a moment
 abbrev pub is_kept : ℕ → Option ℕ → Held → Bool
@@ -39,7 +45,7 @@ abbrev pub is_meant : ℕ → Filter → Held → Bool
 is_meant clock Everything held = true
 is_meant clock Nothing held = false
 is_meant clock (OneKey key) held = same_key key held.key
-is_meant clock (Compare datum op bound) held = compares op (unwrap_or (value_at held.values datum clock) held.entry.refs) bound
+is_meant clock (Compare field op bound) held = compares op (unwrap_or (value_at held.values field clock) held.entry.refs) bound
 
 -- whether a filter means it, and a reference holds it or none does
 abbrev pub is_meant_as : ℕ → Filter → Bool → Held → Bool

@@ -73,7 +73,7 @@ impl StickTable {
     {
         self.begin(now);
         match not_stored(&self.spec.columns, choice) {
-            Some(datum) => Reply::NotStored(datum),
+            Some(field) => Reply::NotStored(field),
             None => self.clear_matching(choice),
         }
     }

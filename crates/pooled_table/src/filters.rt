@@ -9,7 +9,7 @@ use crate::expiry::is_alive;
 use entry_store::Store;
 use std::cmp::Ordering;
 use stick_key::StickKey;
-use stored_data::{Datum, StoredSet};
+use stored_data::{Field, StoredSet};
 use table_model::{Filter, Op};
 
 fn compares(op: Op, a: u64, b: u64) -> bool
@@ -25,16 +25,16 @@ fn compares(op: Op, a: u64, b: u64) -> bool
     }
 }
 
-/// The datum that a filter compares and the table doesn't store.
-pub(crate) fn not_stored(columns: &StoredSet, choice: &Filter) -> Option<Datum>
+/// The field that a filter compares and the table doesn't store.
+pub(crate) fn not_stored(columns: &StoredSet, choice: &Filter) -> Option<Field>
     ensures { result ≡ not_stored_in columns.now choice.now }
 {
     match choice {
-        Filter::Compare(datum, _, _) => {
-            if columns.holds(*datum) {
+        Filter::Compare(field, _, _) => {
+            if columns.stores(*field) {
                 None
             } else {
-                Some(*datum)
+                Some(*field)
             }
         }
         Filter::Everything | Filter::Nothing | Filter::Key(_) => None,
@@ -50,9 +50,9 @@ fn means(store: &Store, clock: u64, choice: &Filter, slot: u32) -> bool
         Filter::Everything => true,
         Filter::Nothing => false,
         Filter::Key(key) => key.cmp(store.key(slot)) == Ordering::Equal,
-        Filter::Compare(datum, op, bound) => {
+        Filter::Compare(field, op, bound) => {
             let refs = store.entry(slot).refs;
-            let value = store.get(slot, *datum, clock).unwrap_or(u64::from(refs));
+            let value = store.get(slot, *field, clock).unwrap_or(u64::from(refs));
             compares(*op, value, *bound)
         }
     }

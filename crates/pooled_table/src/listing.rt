@@ -101,7 +101,7 @@ impl StickTable {
         ensures { IfOk result (λ reply. reply ≡ listed_reply self.now clock choice.now) }
     {
         match not_stored(&self.spec.columns, choice) {
-            Some(datum) => Ok(Reply::NotStored(datum)),
+            Some(field) => Ok(Reply::NotStored(field)),
             None => {
                 let used = count_live(&self.store, self.spec.size, self.spec.expire, clock);
                 let rows = list_rows(self.alloc, &self.spec, &self.store, clock, choice)?;

@@ -12,11 +12,11 @@ pub(crate) fn put_fault(columns: &StoredSet, pairs: &[Cell]) -> Option<Reply>
     ensures { result ≡ put_fault_of columns.now pairs.now }
 {
     for pair in pairs {
-        if !settable(pair.datum) {
-            return Some(Reply::NotSettable(pair.datum));
+        if !settable(pair.field.datum) {
+            return Some(Reply::NotSettable(pair.field));
         }
-        if !columns.holds(pair.datum) {
-            return Some(Reply::NotStored(pair.datum));
+        if !columns.stores(pair.field) {
+            return Some(Reply::NotStored(pair.field));
         }
     }
     None
@@ -28,6 +28,6 @@ pub(crate) fn put_pairs(store: &mut Store, slot: u32, pairs: &[Cell])
     ensures { store.new ≡ with_values store.old slot (put_pairs_of pairs.now) }
 {
     for pair in pairs {
-        store.put(slot, pair.datum, pair.value);
+        store.put(slot, pair.field, pair.value);
     }
 }

@@ -36,12 +36,10 @@ fn show_cells(
     ensures { IfOk result (λ cells. (held : Held) → held_at store.now slot ≡ Some held → cells ≡ cells_of columns.now clock refs held.values) }
 {
     let mut cells = Vec::new(alloc);
-    for column in columns.columns() {
-        let value = store
-            .get(slot, column.datum, clock)
-            .unwrap_or(u64::from(refs));
+    for field in columns.fields() {
+        let value = store.get(slot, *field, clock).unwrap_or(u64::from(refs));
         cells.push(Cell {
-            datum: column.datum,
+            field: *field,
             value,
         })?;
     }

@@ -25,10 +25,10 @@ fn cells_with(
     ensures { IfOk result (λ cells. cells ≡ cells_of columns.now clock refs values.now) }
 {
     let mut cells = Vec::new(alloc);
-    for column in columns.columns() {
-        let value = values.get(column.datum, clock).unwrap_or(u64::from(refs));
+    for field in columns.fields() {
+        let value = values.get(*field, clock).unwrap_or(u64::from(refs));
         cells.push(Cell {
-            datum: column.datum,
+            field: *field,
             value,
         })?;
     }

@@ -26,8 +26,12 @@ const DATA: [Datum; 5] = [
 fn columns(alloc: Global) -> Result<StoredSet, NoMemory> {
     let mut columns = StoredSet::new(alloc);
     for datum in DATA {
-        if !columns.holds(datum) {
-            columns.add(Column { datum, period: 0 })?;
+        if !columns.holds(datum) && !columns.excludes(datum) {
+            columns.add(Column {
+                datum,
+                period: 0,
+                count: 0,
+            })?;
         }
     }
     Ok(columns)

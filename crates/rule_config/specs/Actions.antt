@@ -4,7 +4,7 @@ use Rattle.std.specs.Borrow.{Bor}
 use Rattle.std.specs.Str.{bytes_eq}
 use Rattle.line_text.specs.Parentheses.{before_parenthesis, from_parenthesis, has_closing, inside}
 use Rattle.line_text.specs.Words.{is_some_text}
-use Rattle.stored_data.specs.declared.act.Act.TheVariants.{IncGpc0, IncGpc1, SetGpt0}
+use Rattle.stored_data.specs.declared.act.Act.TheVariants.{IncGpc0, IncGpc1, SetGpt0, IncGpc, SetGpt}
 use Rattle.rule_model.specs.Reading.{◌>>=◌, demand, Fails}
 use Rattle.rule_model.specs.declared.actions.Slot.{Slot}
 use Rattle.rule_model.specs.declared.actions.Slot.TheVariants.{Sc0, Sc1, Sc2}
@@ -15,12 +15,14 @@ use Rattle.rule_model.specs.declared.actions.Action.TheVariants.{Accept, Reject,
 use Rattle.rule_model.specs.declared.criteria.Acl.{Acl}
 use Rattle.rule_model.specs.declared.rules.Rule.{Rule}
 use Rattle.rule_model.specs.declared.faults.Fault.{Fault}
-use Rattle.rule_model.specs.declared.faults.Fault.TheVariants.{UnknownKeyword}
+use Rattle.rule_model.specs.declared.faults.Fault.TheVariants.{UnknownKeyword, BadNumber}
 use Rattle.rule_model.specs.declared.faults.ReadError.{ReadError}
 use Rattle.config_words.specs.Lines.{first_word, other_words}
 use Rattle.config_words.specs.Numbers.{bounded_number}
 use Rattle.config_words.specs.Table.{found}
 use Rattle.rule_terms.specs.Conditions.{condition_of}
+use Rattle.rule_terms.specs.ElementNames.{element_of}
+use Rattle.rule_terms.specs.declared.elements.SlotElement.{SlotElement}
 
 -- ---- keys
 
@@ -81,7 +83,13 @@ track_of own slot words = do
   named ← table_named own (other_words words)
   Ok (Track slot key named.0, named.1)
 
--- sc-inc-gpc0(n), sc-inc-gpc1(n), or sc-set-gpt0(n) and a value; anything else is no action
+-- the element of an array and the slot of i,n, which stand in parentheses
+unfoldable pub element_in : List ℕ → Result SlotElement Fault
+element_in word = do
+  text ← argument word
+  found (element_of text) BadNumber
+
+-- sc-inc-gpc0(n), sc-inc-gpc1(n), sc-set-gpt0(n) and a value, sc-inc-gpc(i,n), or sc-set-gpt(i,n) and a value; anything else is no action
 unfoldable pub count_of : List ℕ → List (List ℕ) → Result (Action × List (List ℕ)) Fault
 count_of word words =
     if bytes_eq (before_parenthesis word) (codes "sc-inc-gpc0") then (do
@@ -94,7 +102,14 @@ count_of word words =
       slot ← slot_of word
       value ← bounded_number 0 (2 ^ 32 - 1) (first_word words)
       Ok (Count slot (SetGpt0 value), other_words words))
-    else Err UnknownKeyword))
+    else (if bytes_eq (before_parenthesis word) (codes "sc-inc-gpc") then (do
+      element ← element_in word
+      Ok (Count element.slot (IncGpc element.index), words))
+    else (if bytes_eq (before_parenthesis word) (codes "sc-set-gpt") then (do
+      element ← element_in word
+      value ← bounded_number 0 (2 ^ 32 - 1) (first_word words)
+      Ok (Count element.slot (SetGpt element.index value), other_words words))
+    else Err UnknownKeyword))))
 
 -- an action of the section of this name, and the words behind it
 unfoldable pub action_of : List ℕ → List (List ℕ) → Result (Action × List (List ℕ)) Fault

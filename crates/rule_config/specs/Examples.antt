@@ -52,7 +52,7 @@ pub record ExamplesLaw : Type 0 where
   pub unknown_acl : config_of (with_table (codes "tcp-request connection reject if worse")) ≡ Err (3, UnknownAcl)
   pub unknown_table : config_of (with_table (codes "tcp-request connection track-sc0 src table u\n")) ≡ Err (3, UnknownTable)
   pub unknown_backend : config_of (frontend (codes "default_backend c\n")) ≡ Err (2, UnknownTable)
-  pub limit_table : tables_in (config_of limiting) ≡ (codes "www", record { datum = ConnCur; period = 0 } ∷ []) ∷ []
+  pub limit_table : tables_in (config_of limiting) ≡ (codes "www", record { datum = ConnCur; period = 0; count = 0 } ∷ []) ∷ []
   pub limit : rules_of (config_of limiting)
       ≡ record { action = Track Sc0 Source (codes "www"); unless = false; condition = None }
       ∷ record { action = Reject; unless = false; condition = Some ((record { negated = false; criteria = criteria.Matches (Tracked Sc0 (Datum ConnCur)) (Compare Gt 1 ∷ []) ∷ [] } ∷ []) ∷ []) }

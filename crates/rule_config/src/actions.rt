@@ -4,12 +4,12 @@ ghost use Rattle.std.specs.Prelude.{◌≡◌, ◌∷◌};
 ghost use Rattle.line_text.specs.Words.{words_left};
 ghost use Rattle.rule_model.specs.Reading.{Gives};
 ghost use Rattle.rule_config.specs.Actions as spec;
-ghost use Rattle.rule_config.specs.Actions.{GivesBefore, action_of, count_of, key_of, rule_of, rule_with, slot_of, table_named, track_of, with_next};
+ghost use Rattle.rule_config.specs.Actions.{GivesBefore, action_of, count_of, element_in, key_of, rule_of, rule_with, slot_of, table_named, track_of, with_next};
 
 use config_words::{next_or_empty, read_bounded};
 use line_text::{Words, before_parenthesis, has_closing, inside};
 use rule_model::{Acl, Action, Fault, KeyExpression, Name, ReadError, Rule, Slot};
-use rule_terms::read_condition;
+use rule_terms::{SlotElement, read_condition, read_element};
 use sequence::Sequence;
 use std::alloc::Global;
 use stored_data::Act;
@@ -86,6 +86,21 @@ fn read_slot(word: &[u8]) -> Result<Slot, Fault>
     }
 }
 
+/// The element of an array and the slot whose numbers stand in parentheses behind a name.
+#[tactic(auto, unfolding(crate::specs::Actions::element_in))]
+fn read_element_in(word: &[u8]) -> Result<SlotElement, Fault>
+    ensures { result ≡ element_in word.now }
+{
+    let (_, rest) = before_parenthesis(word);
+    let Some(text) = inside(rest) else {
+        return Err(Fault::UnknownKeyword);
+    };
+    match read_element(text) {
+        Some(element) => Ok(element),
+        None => Err(Fault::BadNumber),
+    }
+}
+
 /// Reads `table` and a name, where the next word is `table`; else the table is the section's own. Answers the word
 /// behind it too.
 #[tactic(auto, unfolding(crate::specs::Actions::table_named))]
@@ -146,6 +161,16 @@ fn read_count<'a>(
     if name == b"sc-set-gpt0".as_slice() {
         let slot = read_slot(word)?;
         let act = Act::SetGpt0(read_bounded(next_or_empty(words), 0, u32::MAX)?);
+        return Ok((Action::Count { slot, act }, words.next()));
+    }
+    if name == b"sc-inc-gpc".as_slice() {
+        let SlotElement { index, slot } = read_element_in(word)?;
+        let act = Act::IncGpc(index);
+        return Ok((Action::Count { slot, act }, words.next()));
+    }
+    if name == b"sc-set-gpt".as_slice() {
+        let SlotElement { index, slot } = read_element_in(word)?;
+        let act = Act::SetGpt(index, read_bounded(next_or_empty(words), 0, u32::MAX)?);
         return Ok((Action::Count { slot, act }, words.next()));
     }
     Err(ReadError::Wrong(Fault::UnknownKeyword))

@@ -5,5 +5,6 @@ pub mod Walk
 pub mod EndsLemmas
 pub mod Quiet
 pub mod LimitLaws
+pub mod FetchedLemmas
 pub mod ShownLemmas
 pub mod TrackingLemmas

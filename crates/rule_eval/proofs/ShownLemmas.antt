@@ -1,36 +1,56 @@
 -- What a row shows of the current connections.
-use Rattle.std.proofs.Common.{◌≡◌, ◌∙◌, Bool, true, false, [], ◌∷◌, ap, refl, eqb, unwrap_or}
-use Rattle.stored_data.specs.Acts.{value_at}
+use Rattle.std.proofs.Common.{◌≡◌, ◌∙◌, ℕ, Bool, true, false, List, [], ◌∷◌, Some, None, ap, refl, ◌==◌, ◌&&◌, ◌||◌, nat_lt, cond, unwrap_or}
+use Rattle.std.specs.Prelude.{is_some}
+use Rattle.std.specs.Option.{option_or}
 use Rattle.stored_data.specs.Data.{place}
+use Rattle.stored_data.specs.Fields.{field_for, is_field, plain, size}
 use Rattle.stored_data.specs.Stored.{is_column}
 use Rattle.stored_data.specs.declared.datum.Datum.{Datum}
-use Rattle.stored_data.specs.declared.datum.Datum.TheVariants.{Gpt0, Gpc0, Gpc0Rate, ConnCnt, ConnRate, ConnCur, SessCnt, SessRate, BytesInCnt, BytesInRate, BytesOutCnt, BytesOutRate, Gpc1, Gpc1Rate}
-use Rattle.table_model.specs.State.{row_of}
+use Rattle.stored_data.specs.declared.datum.Datum.TheVariants.{Gpt0, Gpc0, Gpc0Rate, ConnCnt, ConnRate, ConnCur, SessCnt, SessRate, BytesInCnt, BytesInRate, BytesOutCnt, BytesOutRate, Gpc1, Gpc1Rate, Gpt, Gpc}
+use Rattle.stored_data.specs.declared.stored_set.Column.{Column}
 use Rattle.rule_eval.specs.Limit.{ShownLaw}
-use Rattle.rule_eval.specs.Readings.{value_in}
+use Rattle.rule_eval.proofs.FetchedLemmas.{datum_lem}
 
--- no other datum has this place
-conn_cur_alone : (datum : Datum) → eqb (place datum) (place ConnCur) ≡ true → datum ≡ ConnCur
-conn_cur_alone Gpt0 e = cc
-conn_cur_alone Gpc0 e = cc
-conn_cur_alone Gpc0Rate e = cc
-conn_cur_alone ConnCnt e = cc
-conn_cur_alone ConnRate e = cc
-conn_cur_alone ConnCur e = refl
-conn_cur_alone SessCnt e = cc
-conn_cur_alone SessRate e = cc
-conn_cur_alone BytesInCnt e = cc
-conn_cur_alone BytesInRate e = cc
-conn_cur_alone BytesOutCnt e = cc
-conn_cur_alone BytesOutRate e = cc
-conn_cur_alone Gpc1 e = cc
-conn_cur_alone Gpc1Rate e = cc
+-- a column of the current connections has one field
+one_field : (datum : Datum) (count : ℕ) → (place datum == place ConnCur && nat_lt 0 (size (record { datum = datum; period = 0; count = count }))) ≡ (place datum == place ConnCur)
+one_field Gpt0 count = refl
+one_field Gpc0 count = refl
+one_field Gpc0Rate count = refl
+one_field ConnCnt count = refl
+one_field ConnRate count = refl
+one_field ConnCur count = refl
+one_field SessCnt count = refl
+one_field SessRate count = refl
+one_field BytesInCnt count = refl
+one_field BytesInRate count = refl
+one_field BytesOutCnt count = refl
+one_field BytesOutRate count = refl
+one_field Gpc1 count = refl
+one_field Gpc1Rate count = refl
+one_field Gpt count = refl
+one_field Gpc count = refl
+
+-- the field of the current connections is stored where their column is
+conn_cur_field : (columns : List Column) → is_field columns (plain ConnCur) ≡ is_column columns ConnCur
+conn_cur_field [] = refl
+conn_cur_field (column ∷ columns) = λ i. one_field column.datum column.count i || conn_cur_field columns i
+
+-- their fetches mean that field
+pub conn_cur_for : (columns : List Column) → field_for columns ConnCur ≡ cond (is_column columns ConnCur) (Some (plain ConnCur)) None
+conn_cur_for columns = by (is_field columns (plain ConnCur)) ∙ ap (λ b. cond b (Some (plain ConnCur)) None) (conn_cur_field columns)
+  where
+    by : (b : Bool) → option_or (cond b (Some (plain ConnCur)) None) None ≡ cond b (Some (plain ConnCur)) None
+    by true = refl
+    by false = refl
+
+-- and so a table stores what is read of them where it has their column
+pub conn_cur_read : (columns : List Column) → is_some (field_for columns ConnCur) ≡ is_column columns ConnCur
+conn_cur_read columns = ap is_some (conn_cur_for columns) ∙ by (is_column columns ConnCur)
+  where
+    by : (b : Bool) → is_some (cond b (Some (plain ConnCur)) None) ≡ b
+    by true = refl
+    by false = refl
 
 pub shown_lem : ShownLaw
-shown_lem [] clock count key found here none = cc
-shown_lem (column ∷ more) clock count key found here none =
-    step (eqb (place column.datum) (place ConnCur)) refl (λ later. shown_lem more clock count key found later none) where
-      step : (b : Bool) → eqb (place column.datum) (place ConnCur) ≡ b → (is_column more ConnCur ≡ true → value_in (row_of more clock count key found).cells ConnCur ≡ count) →
-          value_in (row_of (column ∷ more) clock count key found).cells ConnCur ≡ count
-      step true e rest = rw e (ap (λ datum. unwrap_or (value_at found.values datum clock) count) (conn_cur_alone column.datum e) ∙ ap (λ value. unwrap_or value count) none)
-      step false e rest = rw e (rest (rw e at here))
+shown_lem columns clock count key found here none =
+    datum_lem columns clock count key found ConnCur (plain ConnCur) (conn_cur_for columns ∙ ap (λ b. cond b (Some (plain ConnCur)) None) here) ∙ ap (λ value. unwrap_or value count) none

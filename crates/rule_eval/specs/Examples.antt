@@ -1,6 +1,7 @@
 -- Worked examples of rules that limit current connections, which the checker computes.
 use Rattle.std.specs.Prelude.{refl, ◌≡◌, ℕ, ◌^◌, false, [], ◌∷◌, codes, None}
 use Rattle.stick_key.specs.declared.kind.KeyType.TheVariants.{Ip}
+use Rattle.stored_data.specs.Fields.{plain, same_field}
 use Rattle.stored_data.specs.declared.datum.Datum.TheVariants.{ConnCur}
 use Rattle.address_text.specs.declared.address.Address.TheVariants.{V4}
 use Rattle.table_model.specs.Key.{Key}
@@ -17,7 +18,7 @@ use Rattle.rule_eval.specs.declared.wants.Want.TheVariants.{Done, Look, Track}
 
 -- ten addresses with their current connections
 abbrev pub addresses : Spec
-addresses = record { kind = Ip; size = 10; expire = None; nopurge = false; purge = 1; columns = record { datum = ConnCur; period = 0 } ∷ []; max_refs = 65536; life = 2 ^ 62; seed = 0 }
+addresses = record { kind = Ip; size = 10; expire = None; nopurge = false; purge = 1; columns = record { datum = ConnCur; period = 0; count = 0 } ∷ []; max_refs = 65536; life = 2 ^ 62; seed = 0 }
 
 -- track-sc0 src, and reject if { sc0_conn_cur gt 1 }
 abbrev pub one_each : Setup
@@ -31,7 +32,7 @@ client_key = 10 ∷ 0 ∷ 0 ∷ 1 ∷ []
 
 -- the client's row, with so many references
 abbrev pub shown : ℕ → Row
-shown count = record { key = client_key; refs = count; left = 0; cells = record { datum = ConnCur; value = count } ∷ [] }
+shown count = record { key = client_key; refs = count; left = 0; cells = record { field = plain ConnCur; value = count } ∷ [] }
 
 one_each-limits : LimitsFirst one_each (codes "www") 0 1
 one_each-limits = record { later = []; begin = refl; named = refl; stored = refl; others = tt }
@@ -45,11 +46,11 @@ unfolding effect judged
 wants-look = refl
 
 within-limit : next one_each client (answers.Tracked ∷ answers.Row (shown 1) ∷ []) ≡ Done Accept
-unfolding effect judged
+unfolding effect judged same_field
 within-limit = refl
 
 beyond-limit : next one_each client (answers.Tracked ∷ answers.Row (shown 2) ∷ []) ≡ Done Reject
-unfolding effect judged
+unfolding effect judged same_field
 beyond-limit = refl
 
 -- a full table tracks nothing, and then there is nothing to compare

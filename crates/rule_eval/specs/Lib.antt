@@ -1,6 +1,7 @@
 pub mod Slots
 pub mod Tables
 pub mod Readings
+pub mod Fetched
 pub mod Verdict
 pub mod Course
 pub mod Left

@@ -2,6 +2,7 @@
 use Rattle.std.specs.Prelude.{◌≡◌, ℕ, ◌≤◌, Bool, true, false, List, [], ◌∷◌, Some, None, IsTrue}
 use Rattle.std.specs.List.{AllByRecursion}
 use Rattle.stored_data.specs.Acts.{value_at}
+use Rattle.stored_data.specs.Fields.{plain}
 use Rattle.stored_data.specs.Stored.{is_column}
 use Rattle.stored_data.specs.declared.datum.Datum.TheVariants.{ConnCur}
 use Rattle.stored_data.specs.declared.stored_set.Column.{Column}
@@ -99,4 +100,4 @@ NeverLaw = (setup : Setup) (name : List ℕ) (table limit : ℕ) (samples : Samp
 -- what a row shows of conn_cur is the number of references, where the table stores it and nothing is kept of it
 abbrev pub ShownLaw : Type 0
 ShownLaw = (columns : List Column) (clock count : ℕ) (key : Key) (found : Record) →
-    is_column columns ConnCur ≡ true → value_at found.values ConnCur clock ≡ None → value_in (row_of columns clock count key found).cells ConnCur ≡ count
+    is_column columns ConnCur ≡ true → value_at found.values (plain ConnCur) clock ≡ None → value_in (row_of columns clock count key found).cells ConnCur ≡ count

@@ -1,8 +1,10 @@
 -- What an answer tells.
-use Rattle.std.specs.Prelude.{ℕ, ◌/◌, ◌-◌, ◌^◌, min, nat_eq, nat_le, nat_lt, Bool, true, false, ◌&&◌, List, [], ◌∷◌, ◌==◌, Option, Some, None, if◌then◌else◌}
-use Rattle.std.specs.List.{list_any}
-use Rattle.stored_data.specs.Data.{place}
+use Rattle.std.specs.Prelude.{ℕ, ◌/◌, ◌-◌, ◌^◌, min, nat_eq, nat_le, nat_lt, Bool, true, false, ◌&&◌, List, Option, Some, None, unwrap_or}
+use Rattle.std.specs.List.{find, list_any}
+use Rattle.std.specs.Option.{option_and_then, option_map, option_or}
+use Rattle.stored_data.specs.Fields.{plain, same_field, stand_in}
 use Rattle.stored_data.specs.declared.datum.Datum.{Datum}
+use Rattle.stored_data.specs.declared.field.Field.{Field}
 use Rattle.table_model.specs.declared.rows.Cell.{Cell}
 use Rattle.table_model.specs.declared.rows.Row.{Row}
 use Rattle.rule_model.specs.declared.criteria.Fetch.{Fetch}
@@ -26,15 +28,19 @@ is_answer (Look slot) (answers.Row row) = true
 is_answer (Count slot act) (answers.Value value) = true
 is_answer want answer = false
 
--- the value of a datum in a row, 0 where it isn't shown
+-- the value of a field in a row, where it is shown
+abbrev pub field_in : List Cell → Field → Option ℕ
+field_in cells field = option_map (λ (cell : Cell). cell.value) (find (λ (cell : Cell). same_field cell.field field) cells)
+
+-- the value of a datum in a row, or that of the element that stands for it; 0 where neither is shown
 abbrev pub value_in : List Cell → Datum → ℕ
-value_in [] datum = 0
-value_in (cell ∷ more) datum = if place cell.datum == place datum then cell.value else value_in more datum
+value_in cells datum = unwrap_or (option_or (field_in cells (plain datum)) (option_and_then (field_in cells) (stand_in datum))) 0
 
 -- what is read of a row
 abbrev pub read : Fetch → Row → ℕ
 read (fetches.Datum datum) row = value_in row.cells datum
 read (fetches.Kilobytes datum) row = min (2 ^ 32 - 1) (value_in row.cells datum / 1024)
+read (fetches.Element field) row = unwrap_or (field_in row.cells field) 0
 read fetches.Trackers row = row.refs
 
 -- what is read of an answer: 0 of a key that has no entry

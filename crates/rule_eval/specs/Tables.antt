@@ -1,5 +1,5 @@
 -- The tables of a setup, and the keys that a connection gives them.
-use Rattle.std.specs.Prelude.{ℕ, ◌^◌, nat_lt, Bool, true, false, List, Option, Some, None, position, slice_get, if◌then◌else◌}
+use Rattle.std.specs.Prelude.{ℕ, ◌^◌, nat_lt, Bool, true, false, List, Option, Some, None, is_some, position, slice_get, if◌then◌else◌}
 use Rattle.std.specs.Option.{option_map}
 use Rattle.std.specs.Str.{bytes_eq}
 use Rattle.address_text.specs.declared.address.Address.{Address}
@@ -8,8 +8,9 @@ use Rattle.stick_key.specs.Convert.{converted}
 use Rattle.stick_key.specs.declared.kind.KeyType.{KeyType}
 use Rattle.stick_key.specs.declared.sample.Sample.{Sample}
 use Rattle.stick_key.specs.declared.sample.Sample.TheVariants as samples
-use Rattle.stored_data.specs.Stored.{is_column}
+use Rattle.stored_data.specs.Fields.{field_for, is_field}
 use Rattle.stored_data.specs.declared.datum.Datum.{Datum}
+use Rattle.stored_data.specs.declared.field.Field.{Field}
 use Rattle.table_model.specs.Key.{Key}
 use Rattle.rule_model.specs.declared.actions.KeyExpression.{KeyExpression}
 use Rattle.rule_model.specs.declared.actions.KeyExpression.TheVariants as keys
@@ -34,14 +35,20 @@ table_number setup name = in_32_bits (position (λ named. bytes_eq named.name na
 abbrev pub kind_of : Setup → ℕ → Option KeyType
 kind_of setup table = option_map (λ named. named.spec.kind) (slice_get setup.tables table)
 
-abbrev pub has_column : Option NamedSpec → Datum → Bool
-has_column None datum = false
-has_column (Some named) datum = is_column named.spec.columns datum
+-- whether a table stores a field, and whether it stores the one that a datum's fetches mean
+abbrev pub has_field : Option NamedSpec → Field → Bool
+has_field None field = false
+has_field (Some named) field = is_field named.spec.columns field
+
+abbrev pub has_datum : Option NamedSpec → Datum → Bool
+has_datum None datum = false
+has_datum (Some named) datum = is_some (field_for named.spec.columns datum)
 
 -- whether a table stores what is read: all have references
 abbrev pub stores : Setup → ℕ → Fetch → Bool
-stores setup table (fetches.Datum datum) = has_column (slice_get setup.tables table) datum
-stores setup table (fetches.Kilobytes datum) = has_column (slice_get setup.tables table) datum
+stores setup table (fetches.Datum datum) = has_datum (slice_get setup.tables table) datum
+stores setup table (fetches.Kilobytes datum) = has_datum (slice_get setup.tables table) datum
+stores setup table (fetches.Element field) = has_field (slice_get setup.tables table) field
 stores setup table fetches.Trackers = true
 
 -- ---- keys

@@ -3,6 +3,7 @@
 //! Those on limits are of rules that begin with `track-sc0 src` and `reject if { sc0_conn_cur gt L }`, both without any
 //! further condition, on a table that stores `conn_cur`, where no other rule tracks by sc0.
 ghost use Rattle.rule_eval.specs.Ends.{EndsLaw};
+ghost use Rattle.rule_eval.specs.Fetched.{DatumLaw, ElementLaw};
 ghost use Rattle.rule_eval.specs.Limit.{FirstLaw, NeverLaw, OnceLaw, SecondLaw, ShownLaw, WithinLaw};
 ghost use Rattle.rule_eval.specs.Tracking.{FreeLaw, TablesLaw, TrackingLaw};
 
@@ -49,4 +50,11 @@ pub fn limit_asks_once()
 /// no value of it.
 pub fn shown()
     ensures { ShownLaw }
+{}
+
+/// A fetch of a datum reads of a row its own field, or, where an array is stored in its place, the element that stands
+/// for it; and a fetch of an element reads that element.
+pub fn fetched()
+    ensures datum { DatumLaw }
+    ensures element { ElementLaw }
 {}

@@ -1,24 +1,37 @@
 //! What an answer tells.
 ghost use Rattle.std.specs.Prelude.{◌≡◌};
 ghost use Rattle.std.specs.List.{list_any};
-ghost use Rattle.rule_eval.specs.Readings.{value_in, read, read_of, value_of, compares, matches, matches_any};
+ghost use Rattle.rule_eval.specs.Readings.{field_in, value_in, read, read_of, value_of, compares, matches, matches_any};
 ghost use Rattle.rule_eval.specs.Course.{reading, truth};
 
 use crate::Answer;
 use rule_model::{Criterion, Fetch, Measure, Operator, Pattern};
-use stored_data::Datum;
+use stored_data::{Datum, Field};
 use table_model::{Cell, Row};
 
-/// The value of a datum in a row, 0 where it isn't shown.
+/// The value of a field in a row, where it is shown.
+fn field_in(cells: &[Cell], field: Field) -> Option<u64>
+    ensures { result ≡ field_in cells.now field }
+{
+    for cell in cells {
+        if cell.field.is(field) {
+            return Some(cell.value);
+        }
+    }
+    None
+}
+
+/// The value of a datum in a row, or that of the element that stands for it; 0 where neither is shown.
 fn value_in(cells: &[Cell], datum: Datum) -> u64
     ensures { result ≡ value_in cells.now datum }
 {
-    for cell in cells {
-        if cell.datum.place() == datum.place() {
-            return cell.value;
-        }
+    if let Some(value) = field_in(cells, Field::plain(datum)) {
+        return value;
     }
-    0
+    match datum.stand_in() {
+        Some(element) => field_in(cells, element).unwrap_or(0),
+        None => 0,
+    }
 }
 
 /// What is read of a row.
@@ -31,6 +44,7 @@ fn read(fetch: Fetch, row: &Row) -> u64
             let kilobytes = value_in(row.cells.as_slice(), datum) / 1024;
             kilobytes.min(u64::from(u32::MAX))
         }
+        Fetch::Element(field) => field_in(row.cells.as_slice(), field).unwrap_or(0),
         Fetch::Trackers => u64::from(row.refs),
     }
 }

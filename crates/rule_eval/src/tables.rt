@@ -4,7 +4,7 @@ ghost use Rattle.std.specs.Option.{option_map};
 ghost use Rattle.std.specs.Str.{bytes_eq};
 ghost use Rattle.stick_key.specs.Convert.{converted};
 ghost use Rattle.rule_eval.specs.Memory.{is_text, kind_takes_memory};
-ghost use Rattle.rule_eval.specs.Tables.{in_32_bits, table_number, kind_of, stores, sample_of, key_of, address_sample, has_column};
+ghost use Rattle.rule_eval.specs.Tables.{in_32_bits, table_number, kind_of, stores, sample_of, key_of, address_sample, has_datum, has_field};
 
 use crate::Samples;
 use address_text::Address;
@@ -12,7 +12,7 @@ use rule_model::{Fetch, KeyExpression, NamedSpec, Setup};
 use sequence::NoMemory;
 use std::alloc::Global;
 use stick_key::{KeyType, Sample, StickKey, convert, unmapped};
-use stored_data::Datum;
+use stored_data::{Datum, Field};
 
 /// The place of the first table of this name.
 fn place_of(tables: &[NamedSpec], name: &[u8]) -> Option<usize>
@@ -48,12 +48,23 @@ fn kind_of(setup: &Setup, table: u32) -> Option<KeyType>
     Some(named.spec.kind)
 }
 
-fn has_column(setup: &Setup, table: u32, datum: Datum) -> bool
-    ensures { result ≡ has_column (slice_get setup.now.tables table) datum }
+/// Whether a table stores a field.
+fn has_field(setup: &Setup, table: u32, field: Field) -> bool
+    ensures { result ≡ has_field (slice_get setup.now.tables table) field }
 {
     match setup.tables.as_slice().get(table as usize) {
         None => false,
-        Some(named) => named.spec.columns.holds(datum),
+        Some(named) => named.spec.columns.stores(field),
+    }
+}
+
+/// Whether a table stores the field that a datum's fetches mean.
+fn has_datum(setup: &Setup, table: u32, datum: Datum) -> bool
+    ensures { result ≡ has_datum (slice_get setup.now.tables table) datum }
+{
+    match setup.tables.as_slice().get(table as usize) {
+        None => false,
+        Some(named) => named.spec.columns.field_for(datum).is_some(),
     }
 }
 
@@ -62,7 +73,8 @@ pub(crate) fn stores(setup: &Setup, table: u32, fetch: Fetch) -> bool
     ensures { result ≡ stores setup.now table fetch }
 {
     match fetch {
-        Fetch::Datum(datum) | Fetch::Kilobytes(datum) => has_column(setup, table, datum),
+        Fetch::Datum(datum) | Fetch::Kilobytes(datum) => has_datum(setup, table, datum),
+        Fetch::Element(field) => has_field(setup, table, field),
         Fetch::Trackers => true,
     }
 }

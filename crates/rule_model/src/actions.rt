@@ -54,7 +54,7 @@ pub enum Action {
         key: KeyExpression,
         table: Name,
     },
-    /// `sc-inc-gpc0`, `sc-inc-gpc1`, `sc-set-gpt0`: an act on the data of the slot's entry.
+    /// `sc-inc-gpc0`, `sc-inc-gpc1`, `sc-set-gpt0`, `sc-inc-gpc`, `sc-set-gpt`: an act on the data of the slot's entry.
     Count {
         slot: Slot,
         act: Act,

@@ -4,7 +4,7 @@ ghost use Rattle.std.specs.Prelude.{◌≡◌, IfOk};
 use crate::{Name, Slot};
 use address_text::Network;
 use sequence::{NoMemory, Sequence};
-use stored_data::{Act, Datum};
+use stored_data::{Act, Datum, Field};
 
 /// How an integer is compared: `eq`, `ge`, `gt`, `le`, `lt`.
 #[derive(Clone, Copy, Debug, PartialEq, Eq)]
@@ -28,10 +28,12 @@ pub enum Pattern {
 /// What is read of an entry.
 #[derive(Clone, Copy, Debug, PartialEq, Eq)]
 pub enum Fetch {
-    /// The value of a datum.
+    /// The value of a datum, or of the element that stands for it where an array is stored in its place.
     Datum(Datum),
     /// `kbytes_in`, `kbytes_out`: the value divided by 1,024, at most 2^32 - 1.
     Kilobytes(Datum),
+    /// `sc_get_gpc(1,0)`, `sc_get_gpt(1,0)`: the value of an element of an array.
+    Element(Field),
     /// `trackers`: the number of its references.
     Trackers,
 }
@@ -45,7 +47,8 @@ pub enum Measure {
     DestinationPort,
     /// `sc_conn_cnt(0)`, `sc0_conn_cnt` and their kin: what is read of the slot's entry.
     Tracked(Slot, Fetch),
-    /// `sc_inc_gpc0(0)`, `sc0_inc_gpc0`, `sc_clr_gpc0(0)` and their kin: what an act on the slot's entry answers.
+    /// `sc_inc_gpc0(0)`, `sc0_inc_gpc0`, `sc_clr_gpc0(0)`, `sc_inc_gpc(1,0)` and their kin: what an act on the slot's
+    /// entry answers.
     Counted(Slot, Act),
     /// `src_conn_cnt(table)` and its kin: what is read of the entry of the client's address in a section's table.
     Source(Name, Fetch),

@@ -1,16 +1,18 @@
 -- Worked examples of criteria and conditions, which the checker computes.
 use Rattle.std.specs.Prelude.{refl, ◌≡◌, false, true, [], ◌∷◌, codes, Ok, Err}
 use Rattle.line_text.specs.Number.{number_of}
-use Rattle.stored_data.specs.declared.datum.Datum.TheVariants.{ConnCur}
-use Rattle.rule_model.specs.declared.actions.Slot.TheVariants.{Sc0}
+use Rattle.stored_data.specs.declared.act.Act.TheVariants.{IncGpc}
+use Rattle.stored_data.specs.declared.datum.Datum.TheVariants.{ConnCur, Gpc}
+use Rattle.rule_model.specs.declared.actions.Slot.TheVariants.{Sc0, Sc2}
 use Rattle.rule_model.specs.declared.criteria.Criterion.TheVariants as criteria
-use Rattle.rule_model.specs.declared.criteria.Fetch.TheVariants.{Datum}
-use Rattle.rule_model.specs.declared.criteria.Measure.TheVariants.{SourcePort, Tracked}
+use Rattle.rule_model.specs.declared.criteria.Fetch.TheVariants.{Datum, Element}
+use Rattle.rule_model.specs.declared.criteria.Measure.TheVariants.{SourcePort, Tracked, Counted}
 use Rattle.rule_model.specs.declared.criteria.Operator.TheVariants.{Gt}
 use Rattle.rule_model.specs.declared.criteria.Pattern.TheVariants.{Between, Compare}
 use Rattle.rule_model.specs.declared.faults.Fault.TheVariants.{BadCondition, UnknownAcl}
 use Rattle.rule_terms.specs.Conditions.{condition_of, criteria_of, criterion_of}
-use Rattle.rule_terms.specs.Names.{fetch_of, on_slot, plain_subject, slot_subject, subject_of}
+use Rattle.rule_terms.specs.ElementNames.{element_of}
+use Rattle.rule_terms.specs.Names.{element_subject, fetch_of, on_slot, plain_subject, slot_subject, source_subject, subject_of}
 use Rattle.rule_terms.specs.Values.{operator_of, pattern_of, range_of}
 
 criterion-limit : criterion_of (codes "www") (codes "sc0_conn_cur" ∷ codes "gt" ∷ codes "1" ∷ []) ≡ Ok (criteria.Matches (Tracked Sc0 (Datum ConnCur)) (Compare Gt 1 ∷ []))
@@ -40,3 +42,15 @@ condition-unknown_acl = refl
 condition-nothing_behind_or : condition_of (codes "www") [] (codes "TRUE" ∷ codes "or" ∷ []) ≡ Err BadCondition
 unfolding criteria_of
 condition-nothing_behind_or = refl
+
+criterion-element : criterion_of (codes "www") (codes "sc_get_gpc(1,0)" ∷ codes "gt" ∷ codes "1" ∷ []) ≡ Ok (criteria.Matches (Tracked Sc0 (Element (record { datum = Gpc; index = 1 }))) (Compare Gt 1 ∷ []))
+unfolding subject_of plain_subject on_slot slot_subject fetch_of element_subject element_of operator_of pattern_of number_of
+criterion-element = refl
+
+criterion-counts_element : criterion_of (codes "www") (codes "sc_inc_gpc(99,2)" ∷ codes "gt" ∷ codes "1" ∷ []) ≡ Ok (criteria.Matches (Counted Sc2 (IncGpc 99)) (Compare Gt 1 ∷ []))
+unfolding subject_of plain_subject on_slot slot_subject fetch_of element_subject element_of operator_of pattern_of number_of
+criterion-counts_element = refl
+
+criterion-index_too_great : criterion_of (codes "www") (codes "sc_get_gpc(100,0)" ∷ codes "1" ∷ []) ≡ Err BadCondition
+unfolding subject_of plain_subject on_slot slot_subject fetch_of element_subject element_of source_subject operator_of pattern_of number_of
+criterion-index_too_great = refl

@@ -2,16 +2,18 @@
 use Rattle.std.specs.Prelude.{ℕ, ◌-◌, ◌&&◌, not, true, false, Option, Some, None, option_map, option_and_then, List, [], ◌∷◌, length, take, drop, codes, if◌then◌else◌}
 use Rattle.std.specs.Option.{option_or}
 use Rattle.std.specs.Str.{bytes_eq}
-use Rattle.line_text.specs.Parentheses.{before_parenthesis, from_parenthesis, has_closing}
+use Rattle.line_text.specs.Parentheses.{before_parenthesis, from_parenthesis, has_closing, inside}
 use Rattle.line_text.specs.Words.{is_some_text}
-use Rattle.stored_data.specs.declared.act.Act.TheVariants.{IncGpc0, IncGpc1, ClrGpc0, ClrGpc1}
-use Rattle.stored_data.specs.declared.datum.Datum.TheVariants.{Gpt0, Gpc0, Gpc0Rate, ConnCnt, ConnRate, ConnCur, SessCnt, SessRate, BytesInCnt, BytesInRate, BytesOutCnt, BytesOutRate, Gpc1, Gpc1Rate}
+use Rattle.stored_data.specs.declared.act.Act.TheVariants.{IncGpc0, IncGpc1, ClrGpc0, ClrGpc1, IncGpc}
+use Rattle.stored_data.specs.declared.datum.Datum.TheVariants.{Gpt0, Gpc0, Gpc0Rate, ConnCnt, ConnRate, ConnCur, SessCnt, SessRate, BytesInCnt, BytesInRate, BytesOutCnt, BytesOutRate, Gpc1, Gpc1Rate, Gpt, Gpc}
 use Rattle.rule_model.specs.declared.actions.Slot.{Slot}
 use Rattle.rule_model.specs.declared.actions.Slot.TheVariants.{Sc0, Sc1, Sc2}
 use Rattle.rule_model.specs.declared.criteria.Fetch.{Fetch}
-use Rattle.rule_model.specs.declared.criteria.Fetch.TheVariants.{Datum, Kilobytes, Trackers}
+use Rattle.rule_model.specs.declared.criteria.Fetch.TheVariants.{Datum, Kilobytes, Element, Trackers}
 use Rattle.rule_model.specs.declared.criteria.Measure.TheVariants.{SourcePort, DestinationPort, Tracked, Counted}
 use Rattle.rule_model.specs.declared.criteria.Measure.TheVariants as measures
+use Rattle.rule_terms.specs.ElementNames.{element_of}
+use Rattle.rule_terms.specs.declared.elements.SlotElement.{SlotElement}
 use Rattle.rule_terms.specs.declared.names.Subject.{Subject}
 use Rattle.rule_terms.specs.declared.names.Subject.TheVariants.{Always, IsTracked, Source, Integer}
 
@@ -84,6 +86,22 @@ on_slot slot text = option_or (behind (numbered slot) text) (option_and_then (be
 abbrev pub of_slot : Slot → List ℕ → Option Subject
 of_slot slot text = option_and_then (slot_subject slot) (on_slot slot text)
 
+-- ---- of an element of an array in a slot's entry
+
+-- what can be asked of an element
+abbrev pub element_subjects : SlotElement → List (List ℕ × Subject)
+element_subjects element =
+    (codes "sc_get_gpc", Integer (Tracked element.slot (Element (record { datum = Gpc; index = element.index }))))
+    ∷ (codes "sc_get_gpt", Integer (Tracked element.slot (Element (record { datum = Gpt; index = element.index }))))
+    ∷ (codes "sc_inc_gpc", Integer (Counted element.slot (IncGpc element.index)))
+    ∷ []
+
+-- a name, and i,n in parentheses
+unfoldable pub element_subject : List ℕ → Option Subject
+element_subject text =
+    option_and_then (λ element. named (before_parenthesis text) (element_subjects element))
+    (option_and_then element_of (inside (from_parenthesis text)))
+
 -- ---- of the entry of the client's address
 
 -- T of (T): some text without a closing parenthesis
@@ -127,4 +145,5 @@ subject_of own name =
     (option_or (of_slot Sc0 name)
     (option_or (of_slot Sc1 name)
     (option_or (of_slot Sc2 name)
-    (of_source own name))))
+    (option_or (element_subject name)
+    (of_source own name)))))

@@ -6,11 +6,12 @@ ghost use Rattle.rule_model.specs.declared.faults.Fault.TheVariants.{BadConditio
 ghost use Rattle.rule_terms.specs.Names as spec;
 ghost use Rattle.rule_terms.specs.Names.{fetch_of, named};
 
-use line_text::{before_parenthesis, has_closing};
+use crate::elements::read_element;
+use line_text::{before_parenthesis, has_closing, inside};
 use rule_model::{Fault, Fetch, Measure, ReadError, Slot};
 use sequence::Sequence;
 use std::alloc::Global;
-use stored_data::{Act, Datum};
+use stored_data::{Act, Datum, Field};
 
 /// What a criterion asks: all of it but the values.
 #[derive(Drop)]
@@ -157,6 +158,40 @@ fn of_slot(slot: Slot, text: &[u8]) -> Option<Subject>
     slot_subject(slot, name)
 }
 
+/// What X(i,n) asks of an element of an array in the entry of a slot.
+#[tactic(auto, unfolding(crate::specs::Names::element_subject))]
+fn element_subject(text: &[u8]) -> Option<Subject>
+    ensures { result ≡ spec.element_subject text.now }
+{
+    let (name, rest) = before_parenthesis(text);
+    let Some(inner) = inside(rest) else {
+        return None;
+    };
+    let Some(element) = read_element(inner) else {
+        return None;
+    };
+    let index = element.index;
+    if name == b"sc_get_gpc".as_slice() {
+        let fetch = Fetch::Element(Field {
+            datum: Datum::Gpc,
+            index,
+        });
+        return Some(Subject::Integer(Measure::Tracked(element.slot, fetch)));
+    }
+    if name == b"sc_get_gpt".as_slice() {
+        let fetch = Fetch::Element(Field {
+            datum: Datum::Gpt,
+            index,
+        });
+        return Some(Subject::Integer(Measure::Tracked(element.slot, fetch)));
+    }
+    if name == b"sc_inc_gpc".as_slice() {
+        let act = Act::IncGpc(index);
+        return Some(Subject::Integer(Measure::Counted(element.slot, act)));
+    }
+    None
+}
+
 /// T of `(T)`: some text without a closing parenthesis.
 #[tactic(auto, unfolding(crate::specs::Names::table_in))]
 fn table_in(text: &[u8]) -> Option<&[u8]>
@@ -215,6 +250,9 @@ pub(crate) fn read_subject(alloc: Global, own: &[u8], name: &[u8]) -> Result<Sub
         return Ok(subject);
     }
     if let Some(subject) = of_slot(Slot::Sc2, name) {
+        return Ok(subject);
+    }
+    if let Some(subject) = element_subject(name) {
         return Ok(subject);
     }
     let Some(rest) = behind(b"src_", name) else {

@@ -11,19 +11,20 @@ use rule_model::{
 use sequence::{NoMemory, Sequence};
 use std::alloc::Global;
 use stick_key::{KeyType, Sample, StickKey, convert};
-use stored_data::{Column, Datum, StoredSet};
+use stored_data::{Column, Datum, Field, StoredSet};
 use table_model::{Cell, Row, Spec};
 
 /// The columns of data that are no rates.
 fn columns(alloc: Global, data: &[Datum]) -> Result<StoredSet, NoMemory> {
     let mut set = StoredSet::new(alloc);
     for datum in data {
-        if datum.is_rate() || set.holds(*datum) {
+        if datum.is_rate() || datum.is_array() || set.holds(*datum) || set.excludes(*datum) {
             continue;
         }
         set.add(Column {
             datum: *datum,
             period: 0,
+            count: 0,
         })?;
     }
     Ok(set)
@@ -182,7 +183,10 @@ fn row(alloc: Global, number: u32) -> Result<Row, NoMemory> {
     let data = [Datum::Gpc0, Datum::ConnCur, Datum::BytesInCnt];
     let mut cells = Sequence::new(alloc);
     for datum in data {
-        cells.push(Cell { datum, value })?;
+        cells.push(Cell {
+            field: Field::plain(datum),
+            value,
+        })?;
     }
     match convert(alloc, &Sample::Number(number), KeyType::Integer) {
         Ok(Some(key)) => Ok(Row {

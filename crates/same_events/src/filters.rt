@@ -10,8 +10,8 @@ pub fn same_filter(filter: &Filter, other: &Filter) -> bool
     match (filter, other) {
         (Filter::Everything, Filter::Everything) | (Filter::Nothing, Filter::Nothing) => true,
         (Filter::Key(key), Filter::Key(another)) => key.bytes() == another.bytes(),
-        (Filter::Compare(datum, op, bound), Filter::Compare(datum_2, op_2, bound_2)) => {
-            datum == datum_2 && op == op_2 && bound == bound_2
+        (Filter::Compare(field, op, bound), Filter::Compare(field_2, op_2, bound_2)) => {
+            field == field_2 && op == op_2 && bound == bound_2
         }
         _ => false,
     }

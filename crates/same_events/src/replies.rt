@@ -24,8 +24,8 @@ pub fn same_reply(reply: &Reply, other: &Reply) -> bool
             },
         ) => ticket == another && same_row(row, row_2),
         (Reply::Value(value), Reply::Value(another)) => value == another,
-        (Reply::NotSettable(datum), Reply::NotSettable(another)) => datum == another,
-        (Reply::NotStored(datum), Reply::NotStored(another)) => datum == another,
+        (Reply::NotSettable(field), Reply::NotSettable(another)) => field == another,
+        (Reply::NotStored(field), Reply::NotStored(another)) => field == another,
         (Reply::Written { created }, Reply::Written { created: another }) => created == another,
         (
             Reply::Cleared { removed, kept },

@@ -14,7 +14,7 @@ use Rattle.std.proofs.lemmas.List.{map-append}
 use Rattle.std.proofs.lemmas.List.Sorted.{IsPermutation-map}
 use Rattle.std.proofs.lemmas.Map.Keys.{IsDistinct-IsPermutation, IsDistinct-from_sorted}
 use Rattle.stick_key.specs.Shard.{shard}
-use Rattle.stored_data.specs.declared.datum.Datum.{Datum}
+use Rattle.stored_data.specs.declared.field.Field.{Field}
 use Rattle.table_model.specs.Filters.{not_stored, passes}
 use Rattle.table_model.specs.Key.{Key, key_cmp, same_key}
 use Rattle.table_model.specs.Legal.{IsLegal}
@@ -90,7 +90,7 @@ replied_apart shards part old event reply new commanded legal lies step = by eve
     silent : (event : Event) → asks_rows event ≡ false → Step old event reply new → RowsApart P reply
     silent event none step = quiet P reply (sym (ap (λ (o : Outcome). shows_rows o.0) step.gives) ∙ rows_told old event (unwrap_or (slot_of reply) 0) none)
 
-    shown_by : (now : ℕ) (choice : Filter) (fault : Option Datum) → RowsApart P (option_map_or replies.NotStored fault (listed (begun old now) choice))
+    shown_by : (now : ℕ) (choice : Filter) (fault : Option Field) → RowsApart P (option_map_or replies.NotStored fault (listed (begun old now) choice))
     shown_by now choice None = listed_apart shards part old now choice legal lies
     shown_by now choice (Some datum) = tt
 

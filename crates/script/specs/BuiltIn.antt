@@ -14,7 +14,7 @@ abbrev pub built_in : ℕ → Setup
 built_in shards = record {
   tables = record {
     name = codes "t";
-    spec = record { kind = Ip; size = 100; expire = None; nopurge = false; purge = 1; columns = record { datum = Gpc0; period = 0 } ∷ []; max_refs = 65536; life = 2 ^ 62; seed = 0 };
+    spec = record { kind = Ip; size = 100; expire = None; nopurge = false; purge = 1; columns = record { datum = Gpc0; period = 0; count = 0 } ∷ []; max_refs = 65536; life = 2 ^ 62; seed = 0 };
   } ∷ [];
   rules = record { action = Track Sc0 Source (codes "t"); unless = false; condition = None } ∷ [];
   bind = None;

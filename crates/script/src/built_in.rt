@@ -23,6 +23,7 @@ pub fn built_in(alloc: Global, shards: u32) -> Result<Setup, NoMemory>
     columns.add(Column {
         datum: Datum::Gpc0,
         period: 0,
+        count: 0,
     })?;
     let spec = Spec {
         kind: KeyType::Ip,

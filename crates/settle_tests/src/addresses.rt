@@ -34,8 +34,12 @@ pub fn spec(alloc: Global) -> Result<Spec, NoMemory>
 {
     let mut columns = StoredSet::new(alloc);
     for datum in DATA {
-        if !columns.holds(datum) {
-            columns.add(Column { datum, period: 0 })?;
+        if !columns.holds(datum) && !columns.excludes(datum) {
+            columns.add(Column {
+                datum,
+                period: 0,
+                count: 0,
+            })?;
         }
     }
     Ok(Spec {

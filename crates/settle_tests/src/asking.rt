@@ -9,7 +9,7 @@ use std::alloc::Global;
 use std::sync::Wait;
 use std::sync::atomic::{AtomicBool, Ordering};
 use stick_table::{Cell, Event, Filter, PlainTable, Refusal, Reply, Row};
-use stored_data::{Act, Datum};
+use stored_data::{Act, Datum, Field};
 
 /// A call of a table in shards, of the key of 5, which lies on the first of two shards, as that of 7 does.
 #[derive(Clone, Copy)]
@@ -38,7 +38,7 @@ fn put(
 ) -> Result<Reply, Refusal> {
     let key = key(alloc, 5)?;
     let pair = Cell {
-        datum: Datum::Gpc0,
+        field: Field::plain(Datum::Gpc0),
         value: 3,
     };
     let pairs = Sequence::from_slice(alloc, &[pair])?;
@@ -120,7 +120,7 @@ fn reply_to(
 /// Whether a row shows a value of a datum.
 pub fn has(row: &Row, datum: Datum, value: u64) -> bool {
     for cell in row.cells.as_slice() {
-        if cell.datum == datum && cell.value == value {
+        if cell.field == Field::plain(datum) && cell.value == value {
             return true;
         }
     }

@@ -11,7 +11,7 @@ use shard_seats::Seat;
 use std::alloc::Global;
 use std::sync::Wait;
 use stick_table::{Event, Filter, Op, PlainTable, Reply, Row, Rows, Table, Ticket};
-use stored_data::Datum;
+use stored_data::{Datum, Field};
 
 /// No reference.
 const NONE: Held = Held {
@@ -162,29 +162,29 @@ fn want_of_room_is_told(rt: HostRuntime) {
     assert!(rt; three_tracks(&rt, rt.alloc(), narrow) == no_refs);
 }
 
-/// The datum that a listing by the first seat says isn't stored.
-fn datum_not_stored(
+/// The field that a listing by the first seat says isn't stored.
+fn field_not_stored(
     rt: &impl Wait,
     alloc: Global,
     opened: &mut Opened,
     filter: &Filter,
-) -> Option<Datum> {
+) -> Option<Field> {
     let (table, seats) = opened;
     let seat = seats.as_mut_slice().first_mut()?;
     match list(rt, alloc, table, seat, filter) {
-        Ok(Listing::NotStored(datum)) => Some(datum),
+        Ok(Listing::NotStored(field)) => Some(field),
         _ => None,
     }
 }
 
-/// The datum that a table says it doesn't store, where its gpc0 or its gpc1 is asked for.
-fn not_stored(rt: &impl Wait, alloc: Global, datum: Datum) -> Option<Datum> {
+/// The field that a table says it doesn't store, where this one is asked for.
+fn not_stored(rt: &impl Wait, alloc: Global, field: Field) -> Option<Field> {
     match open(alloc, true) {
-        Ok(mut opened) => datum_not_stored(
+        Ok(mut opened) => field_not_stored(
             rt,
             alloc,
             &mut opened,
-            &Filter::Compare(datum, Op::Ge, 1),
+            &Filter::Compare(field, Op::Ge, 1),
         ),
         Err(_) => None,
     }
@@ -192,6 +192,7 @@ fn not_stored(rt: &impl Wait, alloc: Global, datum: Datum) -> Option<Datum> {
 
 #[test]
 fn a_datum_that_is_not_stored_is_told(rt: HostRuntime) {
-    assert!(rt; not_stored(&rt, rt.alloc(), Datum::Gpc0).is_none());
-    assert!(rt; not_stored(&rt, rt.alloc(), Datum::Gpc1) == Some(Datum::Gpc1));
+    let (gpc0, gpc1) = (Field::plain(Datum::Gpc0), Field::plain(Datum::Gpc1));
+    assert!(rt; not_stored(&rt, rt.alloc(), gpc0).is_none());
+    assert!(rt; not_stored(&rt, rt.alloc(), gpc1) == Some(gpc1));
 }

@@ -18,7 +18,7 @@ use std::slice;
 use std::sync::Wait;
 use std::sync::atomic::{AtomicU64, Ordering};
 use stick_table::{Cell, Event, PlainTable, Reply, Row};
-use stored_data::Datum;
+use stored_data::{Datum, Field};
 
 /// A pace of so many rounds.
 #[derive(Drop)]
@@ -66,7 +66,7 @@ fn alone(alloc: Global, seat: Seat) -> Option<Vec<Seat>>
 /// Whether gpc0 of the key of 1 is set to 3, in a new entry.
 fn puts(rt: &impl Wait, alloc: Global, table: &Shards<PlainTable>, seat: &mut Seat) -> bool {
     let pair = Cell {
-        datum: Datum::Gpc0,
+        field: Field::plain(Datum::Gpc0),
         value: 3,
     };
     let (Ok(key), Ok(pairs)) = (key(alloc, 1), Sequence::from_slice(alloc, &[pair])) else {

@@ -3,7 +3,7 @@ use Rattle.std.proofs.Common.{◌≡◌, ◌∙◌, ℕ, zero, suc, ◌+◌, ◌
 use Rattle.std.specs.List.{range_with_len}
 use Rattle.std.proofs.lemmas.List.Elements.{All-cons}
 use Rattle.std.specs.Option.{option_map_or}
-use Rattle.stored_data.specs.declared.datum.Datum.{Datum}
+use Rattle.stored_data.specs.declared.field.Field.{Field}
 use Rattle.table_model.specs.Step.{Outcome, begun, listed}
 use Rattle.table_model.specs.Filters.{not_stored}
 use Rattle.table_model.specs.declared.filters.Filter.{Filter}
@@ -60,14 +60,14 @@ told_as_many n old new event replies told = told_length (range_with_len 0 n) old
 
 -- ---- their replies
 
--- a shard lists rows, or tells that the datum isn't stored
+-- a shard lists rows, or tells that the field isn't stored
 told_listing : (old new : SeatState) (shard now : ℕ) (choice : Filter) (reply : Reply) → Told old shard (ListRows now choice) reply new → IsListing reply
 told_listing old new shard now choice reply told =
     subst IsListing (ap (λ (o : Outcome). o.0) told.step.gives) (either (not_stored told.before.spec.columns choice))
   where
-    either : (missing : Option Datum) → IsListing (option_map_or NotStored missing (listed (begun told.before now) choice))
+    either : (missing : Option Field) → IsListing (option_map_or NotStored missing (listed (begun told.before now) choice))
     either None = tt
-    either (Some datum) = tt
+    either (Some field) = tt
 
 told_counted : (shards : List ℕ) (old new : SeatState) (now : ℕ) (choice : Filter) (replies : List Reply) → ToldInTurn shards old (ListRows now choice) replies new → All (IsCounted (2 ^ 30)) replies
 told_counted shards old new now choice [] told = search rules

@@ -11,15 +11,15 @@ use shard_seats::Seat;
 use std::alloc::Global;
 use std::sync::Wait;
 use stick_table::{Event, Filter, Refusal, Reply, Rows, Table};
-use stored_data::Datum;
+use stored_data::Field;
 
 /// What is listed of a table in shards.
 #[derive(Drop)]
 pub enum Listing {
     /// How many entries all shards have, and what is shown of those that match, in the order of their keys.
     Rows { used: u64, rows: Rows },
-    /// The table doesn't store the datum.
-    NotStored(Datum),
+    /// The table doesn't store the field.
+    NotStored(Field),
 }
 
 /// What the replies of all shards come to, as a listing.
@@ -29,7 +29,7 @@ fn listing_of(reply: Reply) -> Listing
 {
     match reply {
         Reply::Rows { used, rows } => Listing::Rows { used, rows },
-        Reply::NotStored(datum) => Listing::NotStored(datum),
+        Reply::NotStored(field) => Listing::NotStored(field),
         _ => unreachable!(),
     }
 }

@@ -24,6 +24,7 @@ fn setup(alloc: Global, max_refs: u32, life: u64) -> Result<Setup, AllocError>
     columns.add(Column {
         datum: Datum::Gpc0,
         period: 0,
+        count: 0,
     })?;
     let spec = Spec {
         kind: KeyType::Ip,

@@ -7,12 +7,12 @@ use Rattle.std.proofs.lemmas.Slice.Eq.{bytes_eq-Decides}
 use Rattle.stored_data.specs.Data.{name}
 use Rattle.stored_data.specs.Names.{all_data, datum_of}
 use Rattle.stored_data.specs.declared.datum.Datum.{Datum}
-use Rattle.stored_data.specs.declared.datum.Datum.TheVariants.{Gpt0, Gpc0, Gpc0Rate, ConnCnt, ConnRate, ConnCur, SessCnt, SessRate, BytesInCnt, BytesInRate, BytesOutCnt, BytesOutRate, Gpc1, Gpc1Rate}
+use Rattle.stored_data.specs.declared.datum.Datum.TheVariants.{Gpt0, Gpc0, Gpc0Rate, ConnCnt, ConnRate, ConnCur, SessCnt, SessRate, BytesInCnt, BytesInRate, BytesOutCnt, BytesOutRate, Gpc1, Gpc1Rate, Gpt, Gpc}
 
 -- a datum is that of its name
 datum_of-name : (datum : Datum) → datum_of (name datum) ≡ Some datum
 unfolding datum_of
-datum_of-name = elim [ Gpt0 ↦ refl | Gpc0 ↦ refl | Gpc0Rate ↦ refl | ConnCnt ↦ refl | ConnRate ↦ refl | ConnCur ↦ refl | SessCnt ↦ refl | SessRate ↦ refl | BytesInCnt ↦ refl | BytesInRate ↦ refl | BytesOutCnt ↦ refl | BytesOutRate ↦ refl | Gpc1 ↦ refl | Gpc1Rate ↦ refl ]
+datum_of-name = elim [ Gpt0 ↦ refl | Gpc0 ↦ refl | Gpc0Rate ↦ refl | ConnCnt ↦ refl | ConnRate ↦ refl | ConnCur ↦ refl | SessCnt ↦ refl | SessRate ↦ refl | BytesInCnt ↦ refl | BytesInRate ↦ refl | BytesOutCnt ↦ refl | BytesOutRate ↦ refl | Gpc1 ↦ refl | Gpc1Rate ↦ refl | Gpt ↦ refl | Gpc ↦ refl ]
 
 -- the same of a text that is the name
 pub datum_of-named : (text : List ℕ) (datum : Datum) → text ≡ name datum → datum_of text ≡ Some datum

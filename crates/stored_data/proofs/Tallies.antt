@@ -1,10 +1,17 @@
 -- A rate's tally after an act.
-use Rattle.std.proofs.Common.{◌≡◌, ℕ, ◌<◌, List, ◌++◌, ap, sym, append-nil}
+use Rattle.std.proofs.Common.{◌≡◌, ℕ, ◌<◌, ◌==◌, Bool, true, false, List, ◌++◌, refl, ap, sym, append-nil}
+use Rattle.std.specs.Prelude.{if◌then◌else◌}
 use Rattle.rate_window.specs.Rate.{Count, AreUpTo, tally}
 use Rattle.rate_window.proofs.Counts.{with_count-tally}
-use Rattle.stored_data.specs.Acts.{change, changed, counts_of}
-use Rattle.stored_data.specs.Laws.{RatesTally}
+use Rattle.stored_data.specs.Data.{is_rate, is_array}
+use Rattle.stored_data.specs.Fields.{plain}
+use Rattle.stored_data.specs.Acts.{change, change_at, index_in_array, changed, counts_of}
+use Rattle.stored_data.proofs.Elements.{array_kept}
+use Rattle.stored_data.specs.Laws.{RatesTally, RatesCount}
 use Rattle.stored_data.specs.declared.datum.Datum.{Datum}
+use Rattle.stored_data.specs.declared.datum.Datum.TheVariants.{Gpt0, Gpc0, Gpc0Rate, ConnCnt, ConnRate, ConnCur, SessCnt, SessRate, BytesInCnt, BytesInRate, BytesOutCnt, BytesOutRate, Gpc1, Gpc1Rate, Gpt, Gpc}
+use Rattle.stored_data.specs.declared.act.Act.{Act}
+use Rattle.stored_data.specs.declared.act.Act.TheVariants.{IncGpc}
 use Rattle.stored_data.specs.declared.act.Change.{Change}
 use Rattle.stored_data.specs.declared.act.Change.TheVariants.{Keep, Add, Set}
 use Rattle.stored_data.specs.declared.values.Content.TheVariants.{Rate}
@@ -17,3 +24,14 @@ tally-changed counts period now datum (Set n) some up_to = ap (λ (all : List Co
 
 pub rates_tally : RatesTally
 rates_tally counts period now datum act some up_to = tally-changed counts period now datum (change act datum) some up_to
+
+-- a rate is no array
+whole-rate : (act : Act) (datum : Datum) (array : Bool) → is_array datum ≡ array → is_rate datum ≡ true → change_at act (plain datum) ≡ change act datum
+whole-rate act datum true array rate = let number = (array_kept datum array).0 in absurd (cc)
+whole-rate act datum false array rate = ap (λ b. if 0 == (if b then index_in_array act else 0) then change act datum else Keep) array
+
+of_elements : (index : ℕ) (datum : Datum) → is_rate datum ≡ true → change (IncGpc index) datum ≡ Keep
+of_elements index datum rate = elim datum as (λ datum. is_rate datum ≡ true → change (IncGpc index) datum ≡ Keep) [ Gpt0 ↦ λ _. refl | Gpc0 ↦ λ _. refl | Gpc0Rate ↦ λ _. refl | ConnCnt ↦ λ _. refl | ConnRate ↦ λ _. refl | ConnCur ↦ λ _. refl | SessCnt ↦ λ _. refl | SessRate ↦ λ _. refl | BytesInCnt ↦ λ _. refl | BytesInRate ↦ λ _. refl | BytesOutCnt ↦ λ _. refl | BytesOutRate ↦ λ _. refl | Gpc1 ↦ λ _. refl | Gpc1Rate ↦ λ _. refl | Gpt ↦ λ _. refl | Gpc ↦ λ no. absurd (cc) ] rate
+
+pub rates_count : RatesCount
+rates_count = record { whole = λ act datum rate. whole-rate act datum (is_array datum) refl rate; elements = of_elements }

@@ -1,5 +1,5 @@
 //! What follows from the definitions of the stored data.
-ghost use Rattle.stored_data.specs.Laws.{NamesDiffer, StaysInRange, CountsNeverLower, PutIsRead, KeepsData, NewShowsZero, RatesTally};
+ghost use Rattle.stored_data.specs.Laws.{NamesDiffer, StaysInRange, CountsNeverLower, PutIsRead, KeepsData, NewShowsZero, RatesTally, RatesCount};
 
 /// No two data have one name.
 pub fn names_differ()
@@ -17,17 +17,17 @@ pub fn counts_never_lower()
     ensures { CountsNeverLower }
 {}
 
-/// A number that is put is read back, and all other data stay.
+/// A number that is put is read back, and all other fields stay.
 pub fn put_is_read()
     ensures { PutIsRead }
 {}
 
-/// An act and a put keep the data that are stored, in their order.
+/// An act and a put keep the fields that are stored, in their order.
 pub fn keeps_data()
     ensures { KeepsData }
 {}
 
-/// A new key shows 0 for each datum that is stored, but for the current connections, and nothing
+/// A new key shows 0 for each field that is stored, but for the current connections, and nothing
 /// for any other.
 pub fn new_shows_zero()
     ensures { NewShowsZero }
@@ -36,4 +36,10 @@ pub fn new_shows_zero()
 /// A rate stands for its counts after each act, with what the act counts in it as the last.
 pub fn rates_tally()
     ensures { RatesTally }
+{}
+
+/// What an act counts of a datum it counts in the datum's rate, and an act that names an element of an array
+/// counts in no rate.
+pub fn rates_count()
+    ensures { RatesCount }
 {}

@@ -1,24 +1,39 @@
 //! The columns of a table.
-ghost use Rattle.std.specs.Prelude.{◌≡◌, ◌↔◌, List};
+ghost use Rattle.std.specs.Prelude.{◌≡◌, ◌↔◌, ◌++◌, List, map, IfOk, OnOk};
 
-use crate::Datum;
+use crate::{Datum, Field};
 use sequence::NoMemory;
 use std::alloc::Global;
 use std::marker::Model;
 
 /// A datum that a table stores. A rate has a period of 1 to 2,147,483,647 ms, and all else the
-/// period 0.
+/// period 0; an array has a count of 1 to 100 elements, and all else the count 0.
 #[derive(Clone, Copy, Debug, PartialEq, Eq)]
 pub struct Column {
     pub datum: Datum,
     pub period: u32,
+    pub count: u32,
 }
 
-/// The columns of a table, in the order of printing, each datum once. Contracts see it as the list
-/// of its columns.
+impl Column {
+    ghost use Rattle.std.specs.Prelude.{◌≡◌};
+    ghost use Rattle.stored_data.specs.Fields.{size};
+
+    /// How many fields it has: an array as many as its count says, all else one.
+    pub fn size(self) -> u32
+        ensures { result ≡ size self }
+    {
+        if self.datum.is_array() { self.count } else { 1 }
+    }
+}
+
+/// The columns of a table, in the order of printing, each datum once, and none beside an array that
+/// excludes it. Contracts see it as the list of its columns.
 #[derive(Drop)]
 pub struct StoredSet {
     columns: Vec<Column>,
+    /// Their fields, which every row shows.
+    fields: Vec<Field>,
 }
 
 impl Model for StoredSet {
@@ -27,14 +42,17 @@ impl Model for StoredSet {
 
     ghost Value = { List Column };
 
+    ghost use Rattle.std.specs.Prelude.{◌≡◌};
+    ghost use Rattle.stored_data.specs.Fields.{fields_of};
     ghost use Rattle.stored_data.specs.Stored.{IsSound};
 
     ghost view = { λ set. set.columns.items };
 
-    ghost invariant = { λ set. IsSound set.columns.items };
+    ghost invariant = { λ set. IsSound set.columns.items × (set.fields.items ≡ fields_of set.columns.items) };
 }
 
-ghost use Rattle.stored_data.specs.Stored.{is_column};
+ghost use Rattle.stored_data.specs.Fields.{is_field, elements_of, fields_of};
+ghost use Rattle.stored_data.specs.Stored.{is_column, is_excluded};
 
 /// Whether some column is that of the datum.
 fn has_column(columns: &[Column], datum: Datum) -> bool
@@ -45,10 +63,50 @@ fn has_column(columns: &[Column], datum: Datum) -> bool
         .any(|column| column.datum.place() == datum.place())
 }
 
+/// Whether some column's fields have this one.
+fn has_field(columns: &[Column], field: Field) -> bool
+    ensures { result ≡ is_field columns.now field }
+{
+    columns.iter().any(|column| column.datum.place() == field.datum.place()
+        && field.index < column.size())
+}
+
+/// Whether some column rules the datum out, or is ruled out by it.
+fn rules_out(columns: &[Column], datum: Datum) -> bool
+    ensures { result ≡ is_excluded columns.now datum }
+{
+    columns.iter().any(|column| column.datum.excludes(datum) || datum.excludes(column.datum))
+}
+
+/// Adds the fields of a column.
+fn push_elements(fields: &mut Vec<Field>, column: Column) -> Result<(), NoMemory>
+    ensures { OnOk result (fields.new.items ≡ fields.old.items ++ map (λ element. element.field) (elements_of column)) }
+{
+    for index in 0..column.size() {
+        fields.push(Field {
+            datum: column.datum,
+            index,
+        })?;
+    }
+    Ok(())
+}
+
+/// The fields of columns, in the order of printing.
+fn spread(alloc: Global, columns: &[Column]) -> Result<Vec<Field>, NoMemory>
+    ensures { IfOk result (λ fields. fields.items ≡ fields_of columns.now) }
+{
+    let mut fields = Vec::new(alloc);
+    for column in columns {
+        push_elements(&mut fields, *column)?;
+    }
+    Ok(fields)
+}
+
 impl StoredSet {
-    ghost use Rattle.std.specs.Prelude.{◌≡◌, ◌↔◌, ◌<◌, ◌≤◌, [], ◌∷◌, ◌++◌, length, count_by, insert, nat_lt, List, IsTrue, OnOk, OnErr, IfOk};
-    ghost use Rattle.stored_data.specs.Data.{place, is_rate};
-    ghost use Rattle.stored_data.specs.Stored.{IsSound, Holds, is_column, with_column, IsPeriod};
+    ghost use Rattle.std.specs.Prelude.{◌≡◌, ◌↔◌, ◌<◌, ◌≤◌, [], ◌∷◌, ◌++◌, length, count_by, insert, nat_lt, List, IsTrue, false, OnOk, OnErr, IfOk};
+    ghost use Rattle.stored_data.specs.Data.{place, is_rate, is_array};
+    ghost use Rattle.stored_data.specs.Fields.{Stores, fields_of, is_field, if_stored, field_for};
+    ghost use Rattle.stored_data.specs.Stored.{IsSound, Holds, is_column, is_excluded, with_column, IsPeriod, IsCount};
 
     /// A table with no columns, which takes no memory.
     pub fn new(alloc: Global) -> StoredSet
@@ -56,6 +114,7 @@ impl StoredSet {
     {
         StoredSet {
             columns: Vec::new(alloc),
+            fields: Vec::new(alloc),
         }
     }
 
@@ -73,12 +132,17 @@ impl StoredSet {
     /// Adds a column at its place. Where its growth is refused, the columns stay.
     pub fn add(&mut self, column: Column) -> Result<(), NoMemory>
         requires absent { ¬ (Holds self.old column.datum) }
+        requires apart { is_excluded self.old column.datum ≡ false }
         requires period { IsPeriod (is_rate column.datum) column.period }
+        requires count { IsCount (is_array column.datum) column.count }
         ensures ok { OnOk result (self.new ≡ with_column self.old column) }
         ensures err { OnErr result (self.new ≡ self.old) }
     {
         let at = self.place_of(column.datum);
-        self.columns.insert(at, column)?;
+        let mut columns = Vec::from_slice(*self.columns.allocator(), self.columns.as_slice())?;
+        columns.insert(at, column)?;
+        self.fields = spread(*self.columns.allocator(), columns.as_slice())?;
+        self.columns = columns;
         Ok(())
     }
 
@@ -90,6 +154,13 @@ impl StoredSet {
         self.columns.as_slice()
     }
 
+    /// The fields of the columns, in the order of printing: one for each element of an array.
+    pub fn fields(&self) -> &[Field]
+        ensures { result.now ≡ fields_of self.now }
+    {
+        self.fields.as_slice()
+    }
+
     /// Whether the table stores the datum.
     pub fn holds(&self, datum: Datum) -> bool
         ensures by_place { result ≡ is_column self.now datum }
@@ -98,12 +169,54 @@ impl StoredSet {
         has_column(self.columns.as_slice(), datum)
     }
 
+    /// Whether the table stores something that rules the datum out, or is ruled out by it: an array and a
+    /// counter or tag in whose place it stands.
+    pub fn excludes(&self, datum: Datum) -> bool
+        ensures { result ≡ is_excluded self.now datum }
+    {
+        rules_out(self.columns.as_slice(), datum)
+    }
+
+    /// Whether the table stores the field: an index at or above an array's count isn't stored.
+    pub fn stores(&self, field: Field) -> bool
+        ensures by_place { result ≡ is_field self.now field }
+        ensures stores { IsTrue result ↔ Stores self.now field }
+    {
+        has_field(self.columns.as_slice(), field)
+    }
+
+    /// The field, where it is stored.
+    fn if_stored(&self, field: Field) -> Option<Field>
+        ensures { result ≡ if_stored self.now field }
+    {
+        if self.stores(field) {
+            Some(field)
+        } else {
+            None
+        }
+    }
+
+    /// The stored field that acts and fetches of a datum mean: its own, or else the element of an array
+    /// that stands for it.
+    pub fn field_for(&self, datum: Datum) -> Option<Field>
+        ensures { result ≡ field_for self.now datum }
+    {
+        if let Some(field) = self.if_stored(Field::plain(datum)) {
+            return Some(field);
+        }
+        match datum.stand_in() {
+            Some(element) => self.if_stored(element),
+            None => None,
+        }
+    }
+
     /// The same columns once more, where there is memory.
     pub fn copy(&self) -> Result<StoredSet, NoMemory>
         ensures { IfOk result (λ set. set ≡ self.now) }
     {
         Ok(StoredSet {
             columns: Vec::from_slice(*self.columns.allocator(), self.columns.as_slice())?,
+            fields: Vec::from_slice(*self.columns.allocator(), self.fields.as_slice())?,
         })
     }
 }

@@ -2,7 +2,7 @@
 ghost use Rattle.std.specs.Prelude.{List};
 
 use crate::act::{Act, Change};
-use crate::{Column, Datum, StoredSet};
+use crate::{Column, Datum, Field, StoredSet};
 use rate_window::Meter;
 use sequence::NoMemory;
 use std::alloc::Global;
@@ -17,11 +17,11 @@ pub enum Content {
     Rate(Meter),
 }
 
-/// A datum and what is kept of it.
+/// A field and what is kept of it.
 #[derive(Clone, Copy)]
 pub struct StoredValue {
-    /// The datum.
-    pub datum: Datum,
+    /// The datum, or the element of an array.
+    pub field: Field,
     /// What is kept of it.
     pub content: Content,
 }
@@ -63,12 +63,16 @@ impl StoredValue {
 
     /// The content after a change at a moment.
     fn changed(self, now: u64, change: Change) -> Content
-        ensures { result ≡ changed now self.datum change self.content }
+        ensures { result ≡ changed now self.field.datum change self.content }
     {
         match (change, self.content) {
             (Change::Keep, content) => content,
             (Change::Add(amount), Content::Number(number)) => {
-                Content::Number(number.saturating_add(amount).min(self.datum.greatest()))
+                Content::Number(
+                    number
+                        .saturating_add(amount)
+                        .min(self.field.datum.greatest()),
+                )
             }
             (Change::Add(amount), Content::Rate(mut meter)) => {
                 meter.count(now, amount);
@@ -84,18 +88,18 @@ impl StoredValue {
         ensures { result ≡ changed_field now act self }
     {
         StoredValue {
-            datum: self.datum,
-            content: self.changed(now, act.change(self.datum)),
+            field: self.field,
+            content: self.changed(now, act.change_at(self.field)),
         }
     }
 
-    /// The field with a value, if it is that of the datum.
-    pub(crate) fn with_value(self, datum: Datum, value: u64) -> StoredValue
-        ensures { result ≡ put_field datum value self }
+    /// What is kept of it with a value put into a field.
+    pub(crate) fn with_value(self, field: Field, value: u64) -> StoredValue
+        ensures { result ≡ put_field field value self }
     {
-        if self.datum.place() == datum.place() {
+        if self.field.is(field) {
             StoredValue {
-                datum: self.datum,
+                field: self.field,
                 content: self.content.with_value(value),
             }
         } else {
@@ -114,45 +118,60 @@ impl StoredValue {
     }
 }
 
-/// The fields after an act.
+/// The data after an act.
 fn change_fields(fields: &mut [StoredValue], now: u64, act: Act)
     ensures { fields.new ≡ acted fields.old now act }
 {
-    for field in fields.iter_mut() {
-        *field = field.acted(now, act);
+    for stored in fields.iter_mut() {
+        *stored = stored.acted(now, act);
     }
 }
 
-ghost use Rattle.std.specs.Prelude.{◌≡◌, ◌++◌, [], ◌∷◌, IfOk, OnOk};
-ghost use Rattle.stored_data.specs.Acts.{acted, value_at, with_value, zero_field, zero_of};
+ghost use Rattle.std.specs.Prelude.{◌≡◌, ◌++◌, [], ◌∷◌, map, filter, IfOk, OnOk};
+ghost use Rattle.stored_data.specs.Acts.{acted, told as specified_told, value_at, with_value, is_kept, zero_field, zero_of};
 ghost use Rattle.stored_data.specs.Data.{is_rate};
+ghost use Rattle.stored_data.specs.Fields.{element, elements_of};
 ghost use Rattle.stored_data.specs.Stored.{IsPeriod, HavePeriods};
 
-/// What a datum shows at a moment, where it is stored.
-fn value_in(fields: &[StoredValue], datum: Datum, now: u64) -> Option<u64>
-    ensures { result ≡ value_at fields.now datum now }
+/// What a field shows at a moment, where it is stored.
+fn value_in(fields: &[StoredValue], field: Field, now: u64) -> Option<u64>
+    ensures { result ≡ value_at fields.now field now }
 {
-    for field in fields {
-        if field.datum.place() == datum.place() {
-            return Some(field.shown(now));
+    for stored in fields {
+        if stored.field.is(field) {
+            return Some(stored.shown(now));
         }
     }
     None
 }
 
-/// Puts a value into the field of the datum.
-fn put_field(fields: &mut [StoredValue], datum: Datum, value: u64)
-    ensures { fields.new ≡ with_value fields.old datum value }
+/// What the field that an act answers for shows, or, where it isn't stored, the element that stands for it.
+fn told(fields: &[StoredValue], act: Act, now: u64) -> Option<u64>
+    ensures { result ≡ specified_told fields.now act now }
 {
-    for field in fields.iter_mut() {
-        *field = field.with_value(datum, value);
+    let subject = act.subject();
+    if let Some(value) = value_in(fields, subject, now) {
+        return Some(value);
+    }
+    match subject.datum.stand_in() {
+        Some(element) => value_in(fields, element, now),
+        None => None,
     }
 }
 
-/// Adds the field of a column.
-fn push_zero(fields: &mut Vec<StoredValue>, column: Column) -> Result<(), NoMemory>
+/// Puts a value into a field.
+fn put_field(fields: &mut [StoredValue], field: Field, value: u64)
+    ensures { fields.new ≡ with_value fields.old field value }
+{
+    for stored in fields.iter_mut() {
+        *stored = stored.with_value(field, value);
+    }
+}
+
+/// Adds one field of a column.
+fn push_zero(fields: &mut Vec<StoredValue>, column: Column, index: u32) -> Result<(), NoMemory>
     requires { IsPeriod (is_rate column.datum) column.period }
-    ensures { OnOk result (fields.new.items ≡ fields.old.items ++ zero_field column ∷ []) }
+    ensures { OnOk result (fields.new.items ≡ fields.old.items ++ zero_field (element column index) ∷ []) }
 {
     let content = if column.datum.is_rate() {
         Content::Rate(Meter::new(column.period))
@@ -160,9 +179,26 @@ fn push_zero(fields: &mut Vec<StoredValue>, column: Column) -> Result<(), NoMemo
         Content::Number(0)
     };
     fields.push(StoredValue {
-        datum: column.datum,
+        field: Field {
+            datum: column.datum,
+            index,
+        },
         content,
     })?;
+    Ok(())
+}
+
+/// Adds the fields of a column.
+fn push_zeros(fields: &mut Vec<StoredValue>, column: Column) -> Result<(), NoMemory>
+    requires { IsPeriod (is_rate column.datum) column.period }
+    ensures { OnOk result (fields.new.items ≡ fields.old.items ++ map zero_field (filter is_kept (elements_of column))) }
+{
+    if column.datum.place() == Datum::ConnCur.place() {
+        return Ok(());
+    }
+    for index in 0..column.size() {
+        push_zero(fields, column, index)?;
+    }
     Ok(())
 }
 
@@ -173,9 +209,7 @@ fn zero_fields(alloc: Global, columns: &[Column]) -> Result<Vec<StoredValue>, No
 {
     let mut fields = Vec::new(alloc);
     for column in columns {
-        if column.datum.place() != Datum::ConnCur.place() {
-            push_zero(&mut fields, *column)?;
-        }
+        push_zeros(&mut fields, *column)?;
     }
     Ok(fields)
 }
@@ -201,27 +235,27 @@ impl Values {
         Values { fields }
     }
 
-    /// Puts a value into a datum, and counts in no rate. Where the datum isn't stored, or is a rate,
+    /// Puts a value into a field, and counts in no rate. Where the field isn't stored, or is a rate,
     /// all stays. The value isn't cut: callers test `settable` and `in_range`.
-    pub fn put(&mut self, datum: Datum, value: u64)
-        ensures { self.new ≡ with_value self.old datum value }
+    pub fn put(&mut self, field: Field, value: u64)
+        ensures { self.new ≡ with_value self.old field value }
     {
-        put_field(self.fields.as_mut_slice(), datum, value);
+        put_field(self.fields.as_mut_slice(), field, value);
     }
 
     /// Does an act at a moment in ms, and answers the new value of its counter or tag, of a clear the
-    /// value before it; none where that isn't stored. Counters stop at their greatest value, and what
+    /// value before it; none where neither that nor the element that stands for it is stored. Counters stop at their greatest value, and what
     /// their rates are is defined for moments in order.
     pub fn act(&mut self, now: u64, act: Act) -> Option<u64>
         ensures data { self.new ≡ acted self.old now act }
         ensures answer { result ≡ answer self.old now act }
     {
-        let before = value_in(self.fields.as_slice(), act.subject(), now);
+        let before = told(self.fields.as_slice(), act, now);
         change_fields(self.fields.as_mut_slice(), now, act);
         if act.answers_before() {
             before
         } else {
-            value_in(self.fields.as_slice(), act.subject(), now)
+            told(self.fields.as_slice(), act, now)
         }
     }
 
@@ -234,11 +268,11 @@ impl Values {
         })
     }
 
-    /// What a datum shows at a moment in ms: none where it isn't stored, and for the current
+    /// What a field shows at a moment in ms: none where it isn't stored, and for the current
     /// connections, which are the references to the key.
-    pub fn get(&self, datum: Datum, now: u64) -> Option<u64>
-        ensures { result ≡ value_at self.now datum now }
+    pub fn get(&self, field: Field, now: u64) -> Option<u64>
+        ensures { result ≡ value_at self.now field now }
     {
-        value_in(self.fields.as_slice(), datum, now)
+        value_in(self.fields.as_slice(), field, now)
     }
 }

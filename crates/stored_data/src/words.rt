@@ -2,14 +2,15 @@
 //! of all keys in one block. Whoever keeps the words says where those of a key are.
 ghost use Rattle.std.specs.Prelude.{◌≡◌, ℕ, ◌+◌, ◌<◌, ◌≤◌, ◌⊎◌, ◌++◌, List, length, map, replicate, slice_index, IsTrue, IfOk, OnOk, ◌∷◌, []};
 ghost use Rattle.stored_data.specs.Data.{is_rate};
-ghost use Rattle.stored_data.specs.Stored.{IsPeriod, HavePeriods};
-ghost use Rattle.stored_data.specs.Acts.{acted, answer, value_at, with_value, zero_of, is_kept as specified_kept};
-ghost use Rattle.stored_data.specs.Words.{words_of as specified_words, width as specified_width, field_at as specified_field, fields_from, fields_in, edited, taken, IsKeptAt};
+ghost use Rattle.stored_data.specs.Fields.{element, elements_of, size};
+ghost use Rattle.stored_data.specs.Stored.{IsPeriod, HavePeriods, IsSound};
+ghost use Rattle.stored_data.specs.Acts.{acted, answer, told as specified_told, value_at, with_value, zero_of, is_kept as specified_kept};
+ghost use Rattle.stored_data.specs.Words.{is_kept_in as specified_kept_in, words_of as specified_words, words_in, width as specified_width, field_at as specified_field, fields_from, fields_in, edited, edited_index, taken, IsKeptAt};
 ghost use Rattle.stored_data.specs.declared.stored_set.Column.{Column};
 
 use crate::act::Act;
 use crate::values::{Content, StoredValue, Values};
-use crate::{Column, Datum};
+use crate::{Column, Datum, Field};
 use rate_window::Meter;
 use sequence::NoMemory;
 use std::alloc::Global;
@@ -19,46 +20,60 @@ use std::alloc::Global;
 enum Edit {
     /// An act at a moment.
     Do(u64, Act),
-    /// A value is put into a datum.
-    Put(Datum, u64),
+    /// A value is put into a field.
+    Put(Field, u64),
 }
 
 impl Edit {
     ghost use Rattle.std.specs.Prelude.{◌≡◌};
-    ghost use Rattle.stored_data.specs.Words.{edited};
+    ghost use Rattle.stored_data.specs.Words.{edited, edited_index};
 
-    /// The field after it.
-    fn applied(self, field: StoredValue) -> StoredValue
-        ensures { result ≡ edited self field }
+    /// What is kept of a field after it.
+    fn applied(self, stored: StoredValue) -> StoredValue
+        ensures { result ≡ edited self stored }
     {
         match self {
-            Edit::Do(now, act) => field.acted(now, act),
-            Edit::Put(datum, value) => field.with_value(datum, value),
+            Edit::Do(now, act) => stored.acted(now, act),
+            Edit::Put(field, value) => stored.with_value(field, value),
+        }
+    }
+
+    /// The index of the field of a datum that it is done to.
+    fn index_in(self, datum: Datum) -> u32
+        ensures { result ≡ edited_index self datum }
+    {
+        match self {
+            Edit::Do(_, act) => act.index_of(datum),
+            Edit::Put(field, _) => field.index,
         }
     }
 }
 
 /// Whether anything is kept of a column.
 fn is_kept(column: Column) -> bool
-    ensures { result ≡ specified_kept column }
+    ensures { result ≡ specified_kept (element column 0) }
 {
     column.datum.place() != Datum::ConnCur.place()
 }
 
 /// How many words a column takes.
 fn words_of(column: Column) -> usize
-    ensures words { result ≡ specified_words column }
-    ensures few { result ≤ 2 }
+    ensures { result ≡ words_in (elements_of column) }
 {
     if !is_kept(column) {
         return 0;
     }
-    if column.datum.is_rate() { 2 } else { 1 }
+    if column.datum.is_rate() {
+        2
+    } else {
+        column.size() as usize
+    }
 }
 
-/// How many words the data of a key take: one for a number, two for a rate, and none for the current
-/// connections.
+/// How many words the data of a key take: one for a number and for each element of an array, two for a rate, and
+/// none for the current connections.
 pub fn width(columns: &[Column]) -> usize
+    requires { IsSound columns.now }
     ensures { result ≡ specified_width columns.now }
 {
     let mut width = 0;
@@ -68,12 +83,12 @@ pub fn width(columns: &[Column]) -> usize
     width
 }
 
-/// The field of a column whose words begin at `at`.
-fn field_at(column: Column, words: &[u64], at: usize) -> StoredValue
+/// What is kept of a column's field whose words begin at `at`.
+fn field_at(column: Column, index: u32, words: &[u64], at: usize) -> StoredValue
     requires period { IsPeriod (is_rate column.datum) column.period }
-    requires kept { IsTrue (specified_kept column) }
-    requires within { at + specified_words column ≤ length words.now }
-    ensures { result ≡ specified_field column words.now at }
+    requires kept { IsTrue (specified_kept (element column index)) }
+    requires within { at + specified_words (element column index) ≤ length words.now }
+    ensures { result ≡ specified_field (element column index) words.now at }
 {
     let content = if column.datum.is_rate() {
         Content::Rate(Meter::from_words(column.period, words[at], words[at + 1]))
@@ -81,7 +96,10 @@ fn field_at(column: Column, words: &[u64], at: usize) -> StoredValue
         Content::Number(words[at])
     };
     StoredValue {
-        datum: column.datum,
+        field: Field {
+            datum: column.datum,
+            index,
+        },
         content,
     }
 }
@@ -103,19 +121,35 @@ fn write(words: &mut [u64], at: usize, content: Content)
     }
 }
 
-/// Does it to the field of a column whose words begin at `at`.
-fn edit_at(column: Column, words: &mut [u64], at: usize, edit: Edit)
+/// Does it to a column's field whose words begin at `at`.
+fn edit_at(column: Column, index: u32, words: &mut [u64], at: usize, edit: Edit)
     requires period { IsPeriod (is_rate column.datum) column.period }
-    requires within { at + specified_words column ≤ length words.old }
+    requires kept { IsTrue (specified_kept (element column index)) }
+    requires within { at + specified_words (element column index) ≤ length words.old }
     ensures sized { length words.new ≡ length words.old }
-    ensures field { IsTrue (specified_kept column) → specified_field column words.new at ≡ edited edit (specified_field column words.old at) }
-    ensures elsewhere { (k : ℕ) → (k < at) ⊎ (at + specified_words column ≤ k) → slice_index words.new k ≡ slice_index words.old k }
+    ensures field { specified_field (element column index) words.new at ≡ edited edit (specified_field (element column index) words.old at) }
+    ensures elsewhere { (k : ℕ) → (k < at) ⊎ (at + specified_words (element column index) ≤ k) → slice_index words.new k ≡ slice_index words.old k }
+{
+    let stored = edit.applied(field_at(column, index, words, at));
+    write(words, at, stored.content);
+}
+
+/// Does it to the fields of a column whose words begin at `at`: to one of them, and all others stay.
+fn edit_column(column: Column, words: &mut [u64], at: usize, edit: Edit)
+    requires period { IsPeriod (is_rate column.datum) column.period }
+    requires within { at + words_in (elements_of column) ≤ length words.old }
+    ensures sized { length words.new ≡ length words.old }
+    ensures fields { fields_from (elements_of column) words.new at ≡ map (edited edit) (fields_from (elements_of column) words.old at) }
+    ensures elsewhere { (k : ℕ) → (k < at) ⊎ (at + words_in (elements_of column) ≤ k) → slice_index words.new k ≡ slice_index words.old k }
 {
     if !is_kept(column) {
         return;
     }
-    let field = edit.applied(field_at(column, words, at));
-    write(words, at, field.content);
+    let index = edit.index_in(column.datum);
+    if index >= column.size() {
+        return;
+    }
+    edit_at(column, index, words, at + index as usize, edit);
 }
 
 /// Does it to each field.
@@ -127,40 +161,64 @@ fn edit_fields(columns: &[Column], words: &mut [u64], edit: Edit)
 {
     let mut at = 0;
     for column in columns {
-        edit_at(*column, words, at, edit);
+        edit_column(*column, words, at, edit);
         at += words_of(*column);
     }
 }
 
-/// What a datum shows at a moment in ms: none where it isn't stored, and for the current connections.
-pub fn get(columns: &[Column], words: &[u64], datum: Datum, now: u64) -> Option<u64>
+/// Whether it is a field of the column, and anything is kept of it.
+fn is_kept_in(column: Column, field: Field) -> bool
+    ensures { result ≡ specified_kept_in column field }
+{
+    column.datum.place() == field.datum.place() && field.index < column.size() && is_kept(column)
+}
+
+/// What a field shows at a moment in ms: none where it isn't stored, and for the current connections.
+pub fn get(columns: &[Column], words: &[u64], field: Field, now: u64) -> Option<u64>
     requires periods { HavePeriods columns.now }
     requires sized { specified_width columns.now ≤ length words.now }
-    ensures { result ≡ value_at (fields_in columns.now words.now) datum now }
+    ensures { result ≡ value_at (fields_in columns.now words.now) field now }
 {
     let mut at = 0;
     for column in columns {
-        if is_kept(*column) && column.datum.place() == datum.place() {
-            return Some(field_at(*column, words, at).shown(now));
+        if is_kept_in(*column, field) {
+            let from = at + field.index as usize;
+            return Some(field_at(*column, field.index, words, from).shown(now));
         }
         at += words_of(*column);
     }
     None
 }
 
-/// Puts a value into a datum, and counts in no rate. Where the datum isn't stored, or is a rate, all
+/// What the field that an act answers for shows, or, where it isn't stored, the element that stands for it.
+fn told(columns: &[Column], words: &[u64], act: Act, now: u64) -> Option<u64>
+    requires periods { HavePeriods columns.now }
+    requires sized { specified_width columns.now ≤ length words.now }
+    ensures { result ≡ specified_told (fields_in columns.now words.now) act now }
+{
+    let subject = act.subject();
+    if let Some(value) = get(columns, words, subject, now) {
+        return Some(value);
+    }
+    match subject.datum.stand_in() {
+        Some(element) => get(columns, words, element, now),
+        None => None,
+    }
+}
+
+/// Puts a value into a field, and counts in no rate. Where the field isn't stored, or is a rate, all
 /// stays. The value isn't cut: callers test `settable` and `in_range`.
-pub fn put(columns: &[Column], words: &mut [u64], datum: Datum, value: u64)
+pub fn put(columns: &[Column], words: &mut [u64], field: Field, value: u64)
     requires periods { HavePeriods columns.now }
     requires sized { specified_width columns.now ≤ length words.old }
     ensures sized { length words.new ≡ length words.old }
-    ensures data { fields_in columns.now words.new ≡ with_value (fields_in columns.now words.old) datum value }
+    ensures data { fields_in columns.now words.new ≡ with_value (fields_in columns.now words.old) field value }
 {
-    edit_fields(columns, words, Edit::Put(datum, value));
+    edit_fields(columns, words, Edit::Put(field, value));
 }
 
 /// Does an act at a moment in ms, and answers the new value of its counter or tag, of a clear the
-/// value before it; none where that isn't stored.
+/// value before it; none where neither that nor the element that stands for it is stored.
 pub fn act(columns: &[Column], words: &mut [u64], now: u64, act: Act) -> Option<u64>
     requires periods { HavePeriods columns.now }
     requires sized { specified_width columns.now ≤ length words.old }
@@ -168,12 +226,12 @@ pub fn act(columns: &[Column], words: &mut [u64], now: u64, act: Act) -> Option<
     ensures data { fields_in columns.now words.new ≡ acted (fields_in columns.now words.old) now act }
     ensures answer { result ≡ answer (fields_in columns.now words.old) now act }
 {
-    let before = get(columns, words, act.subject(), now);
+    let before = told(columns, words, act, now);
     edit_fields(columns, words, Edit::Do(now, act));
     if act.answers_before() {
         before
     } else {
-        get(columns, words, act.subject(), now)
+        told(columns, words, act, now)
     }
 }
 
@@ -185,29 +243,51 @@ pub fn clear(words: &mut [u64])
     words.fill(0);
 }
 
-/// Adds the field of a column whose words begin at `at`.
+/// Adds a column's field whose words begin at `at`.
 fn push_field(
     fields: &mut Vec<StoredValue>,
     column: Column,
+    index: u32,
     words: &[u64],
     at: usize,
 ) -> Result<(), NoMemory>
     requires period { IsPeriod (is_rate column.datum) column.period }
-    requires within { at + specified_words column ≤ length words.now }
-    ensures { OnOk result (fields.new.items ≡ fields.old.items ++ fields_from (column ∷ []) words.now at) }
+    requires kept { IsTrue (specified_kept (element column index)) }
+    requires within { at + specified_words (element column index) ≤ length words.now }
+    ensures { OnOk result (fields.new.items ≡ fields.old.items ++ specified_field (element column index) words.now at ∷ []) }
 {
-    if !is_kept(column) {
-        return Ok(());
-    }
     let content = if column.datum.is_rate() {
         Content::Rate(Meter::from_words(column.period, words[at], words[at + 1]))
     } else {
         Content::Number(words[at])
     };
     fields.push(StoredValue {
-        datum: column.datum,
+        field: Field {
+            datum: column.datum,
+            index,
+        },
         content,
     })?;
+    Ok(())
+}
+
+/// Adds the fields of a column whose words begin at `at`.
+fn push_fields(
+    fields: &mut Vec<StoredValue>,
+    column: Column,
+    words: &[u64],
+    at: usize,
+) -> Result<(), NoMemory>
+    requires period { IsPeriod (is_rate column.datum) column.period }
+    requires within { at + words_in (elements_of column) ≤ length words.now }
+    ensures { OnOk result (fields.new.items ≡ fields.old.items ++ fields_from (elements_of column) words.now at) }
+{
+    if !is_kept(column) {
+        return Ok(());
+    }
+    for index in 0..column.size() {
+        push_field(fields, column, index, words, at + index as usize)?;
+    }
     Ok(())
 }
 
@@ -220,7 +300,7 @@ pub fn values(alloc: Global, columns: &[Column], words: &[u64]) -> Result<Values
     let mut fields = Vec::new(alloc);
     let mut at = 0;
     for column in columns {
-        push_field(&mut fields, *column, words, at)?;
+        push_fields(&mut fields, *column, words, at)?;
         at += words_of(*column);
     }
     Ok(Values::from_fields(fields))

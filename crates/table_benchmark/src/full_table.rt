@@ -8,7 +8,7 @@ use sequence::Sequence;
 use std::alloc::{AllocError, Global};
 use stick_key::{KeyType, Sample, StickKey, convert};
 use stick_table::{Cell, Event, Spec, Table, Ticket};
-use stored_data::{Act, Column, Datum, StoredSet};
+use stored_data::{Act, Column, Datum, Field, StoredSet};
 
 /// What is timed.
 #[derive(Clone, Copy)]
@@ -31,14 +31,17 @@ fn spec(alloc: Global, size: u32, purge: u32) -> Result<Spec, AllocError>
     columns.add(Column {
         datum: Datum::Gpc0,
         period: 0,
+        count: 0,
     })?;
     columns.add(Column {
         datum: Datum::ConnRate,
         period: 10_000,
+        count: 0,
     })?;
     columns.add(Column {
         datum: Datum::ConnCur,
         period: 0,
+        count: 0,
     })?;
     Ok(Spec {
         kind: KeyType::Ip,
@@ -66,7 +69,7 @@ fn put(alloc: Global, number: u32) -> Result<Event, AllocError>
     ensures { IfOk result IsTableEvent }
 {
     let pair = Cell {
-        datum: Datum::Gpc0,
+        field: Field::plain(Datum::Gpc0),
         value: 1,
     };
     Ok(Event::Put(

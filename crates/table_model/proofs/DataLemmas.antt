@@ -1,17 +1,19 @@
 -- A step keeps the data of the records those of the columns.
 use Rattle.std.proofs.Common.{◌≡◌, ℕ, ◌≤◌, refl, sym, subst, arith, lit≤, List, [], ◌∷◌, map, filter, Bool, true, false, cond, not, ◌||◌, nat_lt, length, Option, Some, None, is_some, unwrap_or}
-use Rattle.std.specs.Prelude.{if◌then◌else◌, ◌==◌}
+use Rattle.std.specs.Prelude.{if◌then◌else◌}
 use Rattle.std.specs.List.{AllByRecursion}
 use Rattle.std.specs.BTreeMap.{insert_entry}
 use Rattle.std.specs.Option.{option_map}
 use Rattle.std.proofs.lemmas.List.Elements.{recursion_from_All}
 use Rattle.rate_window.specs.Rate.{tally}
-use Rattle.stored_data.specs.Data.{is_rate, greatest, place}
-use Rattle.stored_data.specs.Acts.{acted, change, changed, put_content, with_value, is_kept, zero_field}
+use Rattle.stored_data.specs.Data.{is_rate, greatest}
+use Rattle.stored_data.specs.Fields.{Element, elements, same_field}
+use Rattle.stored_data.specs.Acts.{acted, change_at, changed, put_content, with_value, is_kept, zero_field}
 use Rattle.stored_data.specs.Laws.{HasTag, IsInRange}
 use Rattle.stored_data.proofs.Ranges.{stays_in_range}
 use Rattle.stored_data.specs.declared.stored_set.Column.{Column}
 use Rattle.stored_data.specs.declared.datum.Datum.{Datum}
+use Rattle.stored_data.specs.declared.field.Field.{Field}
 use Rattle.stored_data.specs.declared.act.Act.{Act}
 use Rattle.stored_data.specs.declared.act.Act.TheVariants.{Connection}
 use Rattle.stored_data.specs.declared.act.Change.{Change}
@@ -36,62 +38,63 @@ use Rattle.table_model.specs.declared.replies.Reply.{Reply}
 use Rattle.table_model.proofs.EntryLemmas.{all-filter, all-set_value, all-insert}
 use Rattle.table_model.proofs.StepCases.{Happens, idles, tracks, counts, releases, writes, removes, clears, happened}
 
--- ---- fields of columns
+-- ---- the data of columns
 
-zero-kind : (column : Column) (rate : Bool) → is_rate column.datum ≡ rate → IsKindOf column (if rate then Rate (tally [] column.period) else Number 0)
-zero-kind column true is = (is, refl)
-zero-kind column false is = is
+zero-kind : (element : Element) (rate : Bool) → is_rate element.field.datum ≡ rate → IsKindOf element (if rate then Rate (tally [] element.period) else Number 0)
+zero-kind element true is = (is, refl)
+zero-kind element false is = is
 
-zero-range : (column : Column) (rate : Bool) → IsInRange column.datum (if rate then Rate (tally [] column.period) else Number 0)
-zero-range column true = (lit≤ tt, lit≤ tt)
-zero-range column false = omega arith
+zero-range : (element : Element) (rate : Bool) → IsInRange element.field.datum (if rate then Rate (tally [] element.period) else Number 0)
+zero-range element true = (lit≤ tt, lit≤ tt)
+zero-range element false = omega arith
 
-zero-fields : (columns : List Column) → AreFieldsOf columns (map zero_field columns)
+zero-fields : (elements : List Element) → AreFieldsOf elements (map zero_field elements)
 zero-fields [] = tt
-zero-fields (column ∷ columns) = (record { datum = refl; kind = zero-kind column (is_rate column.datum) refl; range = zero-range column (is_rate column.datum) }, zero-fields columns)
+zero-fields (element ∷ elements) =
+    (record { field = refl; kind = zero-kind element (is_rate element.field.datum) refl; range = zero-range element (is_rate element.field.datum) }, zero-fields elements)
 
-changed-kind : (column : Column) (now : ℕ) (datum : Datum) (change : Change) (content : Content) → IsKindOf column content → IsKindOf column (changed now datum change content)
-changed-kind column now datum Keep content kind = kind
-changed-kind column now datum (Add n) (Number old) kind = kind
-changed-kind column now datum (Add n) (Rate kept) kind = kind
-changed-kind column now datum (Set n) (Number old) kind = kind
-changed-kind column now datum (Set n) (Rate kept) kind = kind
+changed-kind : (element : Element) (now : ℕ) (datum : Datum) (change : Change) (content : Content) → IsKindOf element content → IsKindOf element (changed now datum change content)
+changed-kind element now datum Keep content kind = kind
+changed-kind element now datum (Add n) (Number old) kind = kind
+changed-kind element now datum (Add n) (Rate kept) kind = kind
+changed-kind element now datum (Set n) (Number old) kind = kind
+changed-kind element now datum (Set n) (Rate kept) kind = kind
 
-acted-fields : (columns : List Column) (fields : List StoredValue) (now : ℕ) (act : Act) → HasTag act → AreFieldsOf columns fields → AreFieldsOf columns (acted fields now act)
+acted-fields : (elements : List Element) (values : List StoredValue) (now : ℕ) (act : Act) → HasTag act → AreFieldsOf elements values → AreFieldsOf elements (acted values now act)
 acted-fields [] [] now act tag are = tt
-acted-fields [] (field ∷ fields) now act tag are = absurd are
-acted-fields (column ∷ columns) [] now act tag are = absurd are
-acted-fields (column ∷ columns) (field ∷ fields) now act tag are = (
+acted-fields [] (stored ∷ values) now act tag are = absurd are
+acted-fields (element ∷ elements) [] now act tag are = absurd are
+acted-fields (element ∷ elements) (stored ∷ values) now act tag are = (
   record {
-    datum = are.0.datum;
-    kind = changed-kind column now field.datum (change act field.datum) field.content are.0.kind;
-    range = (stays_in_range.acts (field ∷ []) now act tag (are.0.range, tt)).0;
+    field = are.0.field;
+    kind = changed-kind element now stored.field.datum (change_at act stored.field) stored.content are.0.kind;
+    range = (stays_in_range.acts (stored ∷ []) now act tag (are.0.range, tt)).0;
   },
-  acted-fields columns fields now act tag are.1,
+  acted-fields elements values now act tag are.1,
 )
 
-put-kind : (column : Column) (value : ℕ) (content : Content) → IsKindOf column content → IsKindOf column (put_content value content)
-put-kind column value (Number old) kind = kind
-put-kind column value (Rate kept) kind = kind
+put-kind : (element : Element) (value : ℕ) (content : Content) → IsKindOf element content → IsKindOf element (put_content value content)
+put-kind element value (Number old) kind = kind
+put-kind element value (Rate kept) kind = kind
 
-put-field : (column : Column) (field : StoredValue) (value : ℕ) (here : Bool) → (field.datum ≡ column.datum) × IsKindOf column field.content
-    → let new : StoredValue = if here then record { datum = field.datum; content = put_content value field.content } else field in (new.datum ≡ column.datum) × IsKindOf column new.content
-put-field column field value true is = (is.0, put-kind column value field.content is.1)
-put-field column field value false is = is
+put-field : (element : Element) (stored : StoredValue) (value : ℕ) (here : Bool) → (stored.field ≡ element.field) × IsKindOf element stored.content
+    → let new : StoredValue = if here then record { field = stored.field; content = put_content value stored.content } else stored in (new.field ≡ element.field) × IsKindOf element new.content
+put-field element stored value true is = (is.0, put-kind element value stored.content is.1)
+put-field element stored value false is = is
 
-put-fields : (columns : List Column) (fields : List StoredValue) (datum : Datum) (value : ℕ) → value ≤ greatest datum → AreFieldsOf columns fields → AreFieldsOf columns (with_value fields datum value)
-put-fields [] [] datum value fits are = tt
-put-fields [] (field ∷ fields) datum value fits are = absurd are
-put-fields (column ∷ columns) [] datum value fits are = absurd are
-put-fields (column ∷ columns) (field ∷ fields) datum value fits are =
-    let put = put-field column field value (place field.datum == place datum) (are.0.datum, are.0.kind) in (
-      record { datum = put.0; kind = put.1; range = (stays_in_range.puts (field ∷ []) datum value fits (are.0.range, tt)).0 },
-      put-fields columns fields datum value fits are.1,
+put-fields : (elements : List Element) (values : List StoredValue) (field : Field) (value : ℕ) → value ≤ greatest field.datum → AreFieldsOf elements values → AreFieldsOf elements (with_value values field value)
+put-fields [] [] field value fits are = tt
+put-fields [] (stored ∷ values) field value fits are = absurd are
+put-fields (element ∷ elements) [] field value fits are = absurd are
+put-fields (element ∷ elements) (stored ∷ values) field value fits are =
+    let put = put-field element stored value (same_field stored.field field) (are.0.field, are.0.kind) in (
+      record { field = put.0; kind = put.1; range = (stays_in_range.puts (stored ∷ []) field value fits (are.0.range, tt)).0 },
+      put-fields elements values field value fits are.1,
     )
 
-put-all : (columns : List Column) (pairs : List Cell) (fields : List StoredValue) → AllByRecursion (λ (pair : Cell). pair.value ≤ greatest pair.datum) pairs → AreFieldsOf columns fields → AreFieldsOf columns (put_pairs pairs fields)
-put-all columns [] fields fit are = are
-put-all columns (pair ∷ pairs) fields fit are = put-all columns pairs (with_value fields pair.datum pair.value) fit.1 (put-fields columns fields pair.datum pair.value fit.0 are)
+put-all : (elements : List Element) (pairs : List Cell) (values : List StoredValue) → AllByRecursion (λ (pair : Cell). pair.value ≤ greatest pair.field.datum) pairs → AreFieldsOf elements values → AreFieldsOf elements (put_pairs pairs values)
+put-all elements [] values fit are = are
+put-all elements (pair ∷ pairs) values fit are = put-all elements pairs (with_value values pair.field pair.value) fit.1 (put-fields elements values pair.field pair.value fit.0 are)
 
 -- ---- the records of a table
 
@@ -150,10 +153,10 @@ step_data old event reply new taken holds step = go (happened old event reply ne
     base now = all-filter values_in (AreDataOf old.spec.columns) (stays (begun old now).clock old.tickets) old.records holds
 
     found : (now : ℕ) (key : Key) → AreDataOf old.spec.columns (found_or_zero (begun old now) key).values
-    found now key = found-data (AreDataOf old.spec.columns) key (begun old now).records (zero_record old.spec.columns) (base now) (zero-fields (filter is_kept old.spec.columns))
+    found now key = found-data (AreDataOf old.spec.columns) key (begun old now).records (zero_record old.spec.columns) (base now) (zero-fields (filter is_kept (elements old.spec.columns)))
 
     acts : (now : ℕ) (key : Key) (act : Act) → HasTag act → AreDataOf old.spec.columns (acted (found_or_zero (begun old now) key).values (begun old now).clock act)
-    acts now key act tag = acted-fields (filter is_kept old.spec.columns) (found_or_zero (begun old now) key).values (begun old now).clock act tag (found now key)
+    acts now key act tag = acted-fields (filter is_kept (elements old.spec.columns)) (found_or_zero (begun old now) key).values (begun old now).clock act tag (found now key)
 
     go : {slot : ℕ} {event : Event} {reply : Reply} {new : State} → Happens old slot event reply new → IsTableEvent event → HoldData new.spec.columns new.records
     go (idles event reply quiet idle) taken = base (moment_of event)
@@ -166,9 +169,9 @@ step_data old event reply new taken holds step = go (happened old event reply ne
         let state : State = begun old now in
         all-set_value (same_key key) (λ (r : Record). r.values) (AreDataOf old.spec.columns) state.records (touched state (found_or_zero (without_ticket state ticket) key)) (base now) (found now key)
     go (writes now key pairs created records room) taken =
-        let fit = recursion_from_All (λ (pair : Cell). pair.value ≤ greatest pair.datum) pairs taken.values in
+        let fit = recursion_from_All (λ (pair : Cell). pair.value ≤ greatest pair.field.datum) pairs taken.values in
         stored-data (AreDataOf old.spec.columns) old.spec old.tickets (begun old now).records key (written (begun old now) key pairs) records room (base now)
-        (put-all (filter is_kept old.spec.columns) pairs (found_or_zero (begun old now) key).values fit (found now key))
+        (put-all (filter is_kept (elements old.spec.columns)) pairs (found_or_zero (begun old now) key).values fit (found now key))
     go (removes now key free) taken = all-filter values_in (AreDataOf old.spec.columns) (λ (entry : Key × Record). not (same_key key entry.0)) (begun old now).records (base now)
     go (clears now choice) taken =
         let state : State = begun old now in

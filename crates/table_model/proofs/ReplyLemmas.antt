@@ -4,7 +4,7 @@ use Rattle.std.specs.Option.{option_map_or}
 use Rattle.std.proofs.lemmas.Bool.{false≢true}
 use Rattle.std.proofs.lemmas.Bool.Decides.{nat_tests}
 use Rattle.stored_data.specs.Data.{is_settable}
-use Rattle.stored_data.specs.Stored.{is_column}
+use Rattle.stored_data.specs.Fields.{is_field}
 use Rattle.stored_data.specs.declared.stored_set.Column.{Column}
 use Rattle.stored_data.specs.declared.act.Act.{Act}
 use Rattle.table_model.specs.Key.{Key}
@@ -48,7 +48,7 @@ look-none : (state : State) (ticket : Ticket) → TellsNone (look state ticket)
 look-none state ticket = either TellsNone (get state) (key_of ticket state.tickets) (Absent, state) (always (λ key. TellsNone (get state key)) (key_of ticket state.tickets) (get-none state)) refl
 
 list-none : (state : State) (choice : Filter) → TellsNone (list state choice)
-list-none state choice = elim (not_stored state.spec.columns choice) as (λ o. slot_of (option_map_or NotStored o (listed state choice)) ≡ None) [ None ↦ refl | Some datum ↦ refl ]
+list-none state choice = elim (not_stored state.spec.columns choice) as (λ o. slot_of (option_map_or NotStored o (listed state choice)) ≡ None) [ None ↦ refl | Some field ↦ refl ]
 
 -- ---- replies that show none
 
@@ -63,9 +63,9 @@ release-plain state ticket =
 fault-plain : (state : State) (columns : List Column) (pairs : List Cell) → IfSome (put_fault columns pairs) (λ fault. IsPlain (fault, state))
 fault-plain state columns [] = tt
 fault-plain state columns (pair ∷ pairs) =
-    elim (is_settable pair.datum) as (λ settable. IfSome (cond (not settable) (Some (NotSettable pair.datum)) (cond (not (is_column columns pair.datum)) (Some (NotStored pair.datum)) (put_fault columns pairs))) (λ fault. IsPlain (fault, state))) [
+    elim (is_settable pair.field.datum) as (λ settable. IfSome (cond (not settable) (Some (NotSettable pair.field)) (cond (not (is_field columns pair.field)) (Some (NotStored pair.field)) (put_fault columns pairs))) (λ fault. IsPlain (fault, state))) [
       | false ↦ (refl, refl)
-      | true ↦ elim (is_column columns pair.datum) as (λ stores. IfSome (cond (not stores) (Some (NotStored pair.datum)) (put_fault columns pairs)) (λ fault. IsPlain (fault, state))) [
+      | true ↦ elim (is_field columns pair.field) as (λ stores. IfSome (cond (not stores) (Some (NotStored pair.field)) (put_fault columns pairs)) (λ fault. IsPlain (fault, state))) [
         | false ↦ (refl, refl)
         | true ↦ fault-plain state columns pairs
       ]
@@ -94,7 +94,7 @@ clear-plain state key =
 clear_where-plain : (state : State) (choice : Filter) → IsPlain (clear_where state choice)
 clear_where-plain state choice =
     let missing = not_stored state.spec.columns choice in
-    either IsPlain (λ datum. (NotStored datum, state)) missing (cleared state choice) (always (λ datum. IsPlain (NotStored datum, state)) missing (λ datum. (refl, refl))) (refl, refl)
+    either IsPlain (λ field. (NotStored field, state)) missing (cleared state choice) (always (λ field. IsPlain (NotStored field, state)) missing (λ field. (refl, refl))) (refl, refl)
 
 -- ---- all events
 

@@ -6,7 +6,7 @@ use Rattle.table_model.specs.State.{State, is_tracked, key_of, record_at}
 use Rattle.table_model.specs.Room.{stored_in}
 use Rattle.table_model.specs.Filters.{not_stored}
 use Rattle.stored_data.specs.Data.{is_settable}
-use Rattle.stored_data.specs.Stored.{is_column}
+use Rattle.stored_data.specs.Fields.{is_field}
 use Rattle.stored_data.specs.declared.stored_set.Column.{Column}
 use Rattle.stored_data.specs.declared.act.Act.{Act}
 use Rattle.table_model.specs.Step.{Outcome, Step, begun, after, get, tracked, connected, put_allowed, put_fault, written, without_record, cleared, counted_at, released_at, listed, slot_of}
@@ -71,10 +71,10 @@ module _ (Q : Reply → State → Type 0) where
 fault-quiet : (columns : List Column) (pairs : List Cell) (reply : Reply) → put_fault columns pairs ≡ Some reply → IsQuiet reply
 fault-quiet columns [] reply h = cc
 fault-quiet columns (pair ∷ pairs) reply h =
-    elim (not (is_settable pair.datum)) as (λ b. cond b (Some (NotSettable pair.datum)) (cond (not (is_column columns pair.datum)) (Some (NotStored pair.datum)) (put_fault columns pairs)) ≡ Some reply → IsQuiet reply) [
-      | true ↦ λ h. let e : NotSettable pair.datum ≡ reply = cc in subst IsQuiet e tt
-      | false ↦ λ h. elim (not (is_column columns pair.datum)) as (λ b. cond b (Some (NotStored pair.datum)) (put_fault columns pairs) ≡ Some reply → IsQuiet reply) [
-        | true ↦ λ h. let e : NotStored pair.datum ≡ reply = cc in subst IsQuiet e tt
+    elim (not (is_settable pair.field.datum)) as (λ b. cond b (Some (NotSettable pair.field)) (cond (not (is_field columns pair.field)) (Some (NotStored pair.field)) (put_fault columns pairs)) ≡ Some reply → IsQuiet reply) [
+      | true ↦ λ h. let e : NotSettable pair.field ≡ reply = cc in subst IsQuiet e tt
+      | false ↦ λ h. elim (not (is_field columns pair.field)) as (λ b. cond b (Some (NotStored pair.field)) (put_fault columns pairs) ≡ Some reply → IsQuiet reply) [
+        | true ↦ λ h. let e : NotStored pair.field ≡ reply = cc in subst IsQuiet e tt
         | false ↦ λ h. fault-quiet columns pairs reply h
       ] h
     ] h
@@ -109,9 +109,9 @@ happens old (Clear now key) slot =
     let Q : Reply → State → Type 0 = Happens old slot event in
     of_test Q (not (is_some (record_at key state.records))) (Absent, state) _ (λ _. idles event Absent tt tt) (λ _. of_test Q (is_tracked key old.tickets) (InUse, state) (Removed, without_record state key) (λ _. idles event InUse tt tt) (λ free. removes now key free))
 happens old (ClearWhere now choice) slot =
-    of_option (Happens old slot (ClearWhere now choice)) (λ datum. let o : Outcome = (NotStored datum, begun old now) in o) (not_stored old.spec.columns choice) (cleared (begun old now) choice) (λ datum _. idles (ClearWhere now choice) (NotStored datum) tt tt) (λ _. clears now choice)
+    of_option (Happens old slot (ClearWhere now choice)) (λ field. let o : Outcome = (NotStored field, begun old now) in o) (not_stored old.spec.columns choice) (cleared (begun old now) choice) (λ field _. idles (ClearWhere now choice) (NotStored field) tt tt) (λ _. clears now choice)
 happens old (ListRows now choice) slot =
-    of_reply (Happens old slot (ListRows now choice)) NotStored (not_stored old.spec.columns choice) (listed (begun old now) choice) (begun old now) (λ datum. idles (ListRows now choice) (NotStored datum) tt tt) (idles (ListRows now choice) (listed (begun old now) choice) tt tt)
+    of_reply (Happens old slot (ListRows now choice)) NotStored (not_stored old.spec.columns choice) (listed (begun old now) choice) (begun old now) (λ field. idles (ListRows now choice) (NotStored field) tt tt) (idles (ListRows now choice) (listed (begun old now) choice) tt tt)
 happens old (Expire now) slot = idles (Expire now) _ tt tt
 
 pub happened : (old : State) (event : Event) (reply : Reply) (new : State) → Step old event reply new → Happens old (unwrap_or (slot_of reply) 0) event reply new

@@ -3,6 +3,7 @@ use Rattle.std.specs.Prelude.{◌≡◌, ℕ, List, [], ◌∷◌, ◌++◌, fol
 use Rattle.std.specs.Option.{option_map_or}
 use Rattle.rate_window.specs.Rate.{Count as Rated, AreUpTo, tally, rate}
 use Rattle.stored_data.specs.Acts.{change, content_of, value_at}
+use Rattle.stored_data.specs.Fields.{plain}
 use Rattle.stored_data.specs.declared.datum.Datum.{Datum}
 use Rattle.stored_data.specs.declared.stored_set.Column.{Column}
 use Rattle.stored_data.specs.declared.values.Content.TheVariants.{Rate}
@@ -68,5 +69,5 @@ counted_since key datum steps = fold (counted_with key datum) [] steps
 -- a record keeps of a rate the tally of these counts, and shows their rate
 pub record IsTallied (values : List StoredValue) (column : Column) (counts : List Rated) (clock : ℕ) : Type 0 where
   pub up_to : AreUpTo counts clock
-  pub kept : content_of values column.datum ≡ Some (Rate (tally counts column.period))
-  pub shown : value_at values column.datum clock ≡ Some (rate counts column.period clock)
+  pub kept : content_of values (plain column.datum) ≡ Some (Rate (tally counts column.period))
+  pub shown : value_at values (plain column.datum) clock ≡ Some (rate counts column.period clock)

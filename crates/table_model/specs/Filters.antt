@@ -1,9 +1,9 @@
 -- Which records a filter means.
 use Rattle.std.specs.Prelude.{ℕ, nat_eq, nat_lt, nat_le, Bool, true, false, not, ◌&&◌, if◌then◌else◌, List, Option, Some, None, unwrap_or}
 use Rattle.stored_data.specs.Acts.{value_at}
-use Rattle.stored_data.specs.Stored.{is_column}
+use Rattle.stored_data.specs.Fields.{is_field}
 use Rattle.stored_data.specs.declared.stored_set.Column.{Column}
-use Rattle.stored_data.specs.declared.datum.Datum.{Datum}
+use Rattle.stored_data.specs.declared.field.Field.{Field}
 use Rattle.table_model.specs.Key.{Key, same_key}
 use Rattle.table_model.specs.State.{refs, is_tracked}
 use Rattle.table_model.specs.declared.rows.Ticket.{Ticket}
@@ -26,15 +26,15 @@ abbrev pub passes : ℕ → List (Ticket × Key) → Filter → Key × Record �
 passes clock tickets Everything entry = true
 passes clock tickets Nothing entry = false
 passes clock tickets (OneKey key) entry = same_key key entry.0
-passes clock tickets (Compare datum op bound) entry =
-    compares op (unwrap_or (value_at entry.1.values datum clock) (refs entry.0 tickets)) bound
+passes clock tickets (Compare field op bound) entry =
+    compares op (unwrap_or (value_at entry.1.values field clock) (refs entry.0 tickets)) bound
 
--- the datum that a filter compares and the table doesn't store
-abbrev pub not_stored : List Column → Filter → Option Datum
+-- the field that a filter compares and the table doesn't store
+abbrev pub not_stored : List Column → Filter → Option Field
 not_stored columns Everything = None
 not_stored columns Nothing = None
 not_stored columns (OneKey key) = None
-not_stored columns (Compare datum op bound) = if is_column columns datum then None else Some datum
+not_stored columns (Compare field op bound) = if is_field columns field then None else Some field
 
 -- whether it matches, and is tracked or isn't
 abbrev pub is_matched : ℕ → List (Ticket × Key) → Filter → Bool → Key × Record → Bool

@@ -5,6 +5,7 @@ use Rattle.std.specs.List.Sorted.{IsStrictlySortedBy}
 use Rattle.std.specs.Map.{keys_of}
 use Rattle.stored_data.specs.Data.{is_rate}
 use Rattle.stored_data.specs.Acts.{is_kept}
+use Rattle.stored_data.specs.Fields.{Element, elements}
 use Rattle.stored_data.specs.Laws.{IsInRange}
 use Rattle.stored_data.specs.declared.stored_set.Column.{Column}
 use Rattle.stored_data.specs.declared.values.Content.{Content}
@@ -18,26 +19,26 @@ use Rattle.table_model.specs.declared.rows.Record.{Record}
 -- ---- the data of a record
 
 -- of a rate a tally of its column's period is kept, and of any other datum a number
-abbrev pub IsKindOf : Column → Content → Type 0
-IsKindOf column (Number n) = is_rate column.datum ≡ false
-IsKindOf column (Rate kept) = (is_rate column.datum ≡ true) × (kept.period ≡ column.period)
+abbrev pub IsKindOf : Element → Content → Type 0
+IsKindOf element (Number n) = is_rate element.field.datum ≡ false
+IsKindOf element (Rate kept) = (is_rate element.field.datum ≡ true) × (kept.period ≡ element.period)
 
--- what is kept in a column: of its datum, of its kind, and in the datum's range
-pub record IsFieldOf (column : Column) (field : StoredValue) : Type 0 where
-  pub datum : field.datum ≡ column.datum
-  pub kind : IsKindOf column field.content
-  pub range : IsInRange field.datum field.content
+-- what is kept of an element: of its field, of its kind, and in its datum's range
+pub record IsFieldOf (element : Element) (stored : StoredValue) : Type 0 where
+  pub field : stored.field ≡ element.field
+  pub kind : IsKindOf element stored.content
+  pub range : IsInRange stored.field.datum stored.content
 
--- the fields are those of the columns, in their order
-abbrev pub AreFieldsOf : List Column → List StoredValue → Type 0
+-- the data are those of the elements, in their order
+abbrev pub AreFieldsOf : List Element → List StoredValue → Type 0
 AreFieldsOf [] [] = Unit {0}
-AreFieldsOf (column ∷ columns) (field ∷ fields) = IsFieldOf column field × AreFieldsOf columns fields
-AreFieldsOf [] (field ∷ fields) = ⊥
-AreFieldsOf (column ∷ columns) [] = ⊥
+AreFieldsOf (element ∷ elements) (stored ∷ values) = IsFieldOf element stored × AreFieldsOf elements values
+AreFieldsOf [] (stored ∷ values) = ⊥
+AreFieldsOf (element ∷ elements) [] = ⊥
 
--- a record's data are the table's columns; nothing is kept of the current connections
+-- a record's data are the table's columns, each with its elements; nothing is kept of the current connections
 abbrev pub AreDataOf : List Column → List StoredValue → Type 0
-AreDataOf columns fields = AreFieldsOf (filter is_kept columns) fields
+AreDataOf columns values = AreFieldsOf (filter is_kept (elements columns)) values
 
 -- ---- states
 

@@ -47,5 +47,5 @@ HasItsTag _ = Unit {0}
 -- its moment is at most 2^62 - 1 ms, each value that it puts is in the range of its datum, and so is a tag that it sets
 pub record IsTableEvent (event : Event) : Type 0 where
   pub moment : moment_of event < 2 ^ 62
-  pub values : All (λ (pair : Cell). pair.value ≤ greatest pair.datum) (pairs_of event)
+  pub values : All (λ (pair : Cell). pair.value ≤ greatest pair.field.datum) (pairs_of event)
   pub tag : HasItsTag event

@@ -4,6 +4,8 @@ use Rattle.std.specs.Option.{option_map, option_map_or}
 use Rattle.std.specs.List.{list_all}
 use Rattle.std.specs.Map.{lookup}
 use Rattle.stored_data.specs.Acts.{value_at, zero_of}
+use Rattle.stored_data.specs.Fields.{fields_of}
+use Rattle.stored_data.specs.declared.field.Field.{Field}
 use Rattle.stored_data.specs.declared.stored_set.Column.{Column}
 use Rattle.table_model.specs.Key.{Key, same_key}
 use Rattle.table_model.specs.declared.rows.Ticket.{Ticket}
@@ -57,16 +59,16 @@ touched state found = record found { stamp = state.events; date = option_map (λ
 
 -- ---- rows
 
--- what a row shows of a datum: its value, or the references of the key for conn_cur, of which nothing is kept
-abbrev pub shown : ℕ → ℕ → Record → Column → Cell
-shown clock count found column = record { datum = column.datum; value = unwrap_or (value_at found.values column.datum clock) count }
+-- what a row shows of a field: its value, or the references of the key for conn_cur, of which nothing is kept
+abbrev pub shown : ℕ → ℕ → Record → Field → Cell
+shown clock count found field = record { field = field; value = unwrap_or (value_at found.values field clock) count }
 
 abbrev pub row_of : List Column → ℕ → ℕ → Key → Record → Row
 row_of columns clock count key found = record {
   key = key;
   refs = count;
   left = unwrap_or found.date 0 - clock;
-  cells = map (shown clock count found) columns;
+  cells = map (shown clock count found) (fields_of columns);
 }
 
 abbrev pub row : State → Key → Record → Row

@@ -4,7 +4,7 @@ use Rattle.std.specs.Option.{option_map_or, option_and_then}
 use Rattle.std.specs.Map.{set_value}
 use Rattle.stored_data.specs.Acts.{acted, answer, with_value}
 use Rattle.stored_data.specs.Data.{is_settable}
-use Rattle.stored_data.specs.Stored.{is_column}
+use Rattle.stored_data.specs.Fields.{is_field}
 use Rattle.stored_data.specs.declared.stored_set.Column.{Column}
 use Rattle.stored_data.specs.declared.values.StoredValue.{StoredValue}
 use Rattle.stored_data.specs.declared.act.Act.{Act}
@@ -92,12 +92,12 @@ release state ticket = option_map_or {U = Outcome} (λ key. (Released, released_
 abbrev pub put_fault : List Column → List Cell → Option Reply
 put_fault columns [] = None
 put_fault columns (pair ∷ pairs) =
-    if not (is_settable pair.datum) then Some (NotSettable pair.datum)
-    else (if not (is_column columns pair.datum) then Some (NotStored pair.datum)
+    if not (is_settable pair.field.datum) then Some (NotSettable pair.field)
+    else (if not (is_field columns pair.field) then Some (NotStored pair.field)
     else put_fault columns pairs)
 
 abbrev pub put_pairs : List Cell → List StoredValue → List StoredValue
-put_pairs pairs fields = fold (λ kept (pair : Cell). with_value kept pair.datum pair.value) fields pairs
+put_pairs pairs fields = fold (λ kept (pair : Cell). with_value kept pair.field pair.value) fields pairs
 
 abbrev pub written : State → Key → List Cell → Record
 written state key pairs =
@@ -129,7 +129,7 @@ cleared state choice =
     )
 
 abbrev pub clear_where : State → Filter → Outcome
-clear_where state choice = option_map_or {U = Outcome} (λ datum. (NotStored datum, state)) (not_stored state.spec.columns choice) (cleared state choice)
+clear_where state choice = option_map_or {U = Outcome} (λ field. (NotStored field, state)) (not_stored state.spec.columns choice) (cleared state choice)
 
 abbrev pub listed : State → Filter → Reply
 listed state choice = Rows (length state.records) (map (λ (entry : Key × Record). row state entry.0 entry.1) (filter (passes state.clock state.tickets choice) state.records))

@@ -3,7 +3,7 @@ ghost use Rattle.std.specs.Prelude.{◌≡◌, IfOk};
 
 use sequence::NoMemory;
 use stick_key::StickKey;
-use stored_data::Datum;
+use stored_data::Field;
 
 /// How a value is compared with a bound.
 #[derive(Clone, Copy, Debug, PartialEq, Eq)]
@@ -16,13 +16,13 @@ pub enum Op {
     Gt,
 }
 
-/// Which entries are meant: all, none, that of a key, or those whose row shows such a value of a datum.
+/// Which entries are meant: all, none, that of a key, or those whose row shows such a value of a field.
 #[derive(Drop)]
 pub enum Filter {
     Everything,
     Nothing,
     Key(StickKey),
-    Compare(Datum, Op, u64),
+    Compare(Field, Op, u64),
 }
 
 impl Filter {
@@ -34,7 +34,7 @@ impl Filter {
             Filter::Everything => Ok(Filter::Everything),
             Filter::Nothing => Ok(Filter::Nothing),
             Filter::Key(key) => Ok(Filter::Key(key.copy()?)),
-            Filter::Compare(datum, op, bound) => Ok(Filter::Compare(*datum, *op, *bound)),
+            Filter::Compare(field, op, bound) => Ok(Filter::Compare(*field, *op, *bound)),
         }
     }
 }

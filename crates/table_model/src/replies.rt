@@ -7,7 +7,7 @@ use crate::rows::copy_rows;
 use crate::{Row, Rows, Ticket};
 use sequence::NoMemory;
 use std::alloc::{AllocFailed, Global};
-use stored_data::Datum;
+use stored_data::Field;
 use thiserror::Error;
 
 /// What an event is answered.
@@ -25,10 +25,10 @@ pub enum Reply {
     /// What the act answered.
     Value(Option<u64>),
     Released,
-    /// The datum can't be set.
-    NotSettable(Datum),
-    /// The table doesn't store the datum.
-    NotStored(Datum),
+    /// The field's datum can't be set.
+    NotSettable(Field),
+    /// The table doesn't store the field.
+    NotStored(Field),
     /// The data are set, in an entry that was made for them or was there.
     Written { created: bool },
     /// The entry has references.
@@ -69,8 +69,8 @@ impl Reply {
             }),
             Reply::Value(value) => Ok(Reply::Value(*value)),
             Reply::Released => Ok(Reply::Released),
-            Reply::NotSettable(datum) => Ok(Reply::NotSettable(*datum)),
-            Reply::NotStored(datum) => Ok(Reply::NotStored(*datum)),
+            Reply::NotSettable(field) => Ok(Reply::NotSettable(*field)),
+            Reply::NotStored(field) => Ok(Reply::NotStored(*field)),
             Reply::Written { created } => Ok(Reply::Written { created: *created }),
             Reply::InUse => Ok(Reply::InUse),
             Reply::Removed => Ok(Reply::Removed),

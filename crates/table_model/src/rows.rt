@@ -4,7 +4,7 @@ ghost use Rattle.std.specs.Prelude.{◌≡◌, IfOk};
 use sequence::{NoMemory, Sequence};
 use std::alloc::Global;
 use stick_key::StickKey;
-use stored_data::{Datum, Values};
+use stored_data::{Field, Values};
 
 /// A reference to an entry: the number of the event that made it, and a slot that no other outstanding reference has.
 #[derive(Clone, Copy, Debug, PartialEq, Eq)]
@@ -35,18 +35,18 @@ impl Record {
     }
 }
 
-/// A datum and its value.
+/// A field and its value.
 #[derive(Clone, Copy, Debug, PartialEq, Eq)]
 pub struct Cell {
-    pub datum: Datum,
+    pub field: Field,
     pub value: u64,
 }
 
-/// Data and their values: those that a row shows, or that are put.
+/// Fields and their values: those that a row shows, or that are put.
 pub type Cells = Sequence<Cell>;
 
 /// What is shown of an entry: its key, how many references it has, the ms that are left of its life (0 where it has
-/// no date), and the data that its table stores, in their order.
+/// no date), and the fields that its table stores, in their order.
 #[derive(Drop)]
 pub struct Row {
     pub key: StickKey,

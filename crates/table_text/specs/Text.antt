@@ -5,8 +5,9 @@ use Rattle.std.specs.Option.{option_map_or}
 use Rattle.stick_key.specs.KeyText.{text as key_text}
 use Rattle.stick_key.specs.declared.kind.KeyType.{KeyType}
 use Rattle.stick_key.specs.declared.kind.KeyType.TheVariants.{Ip, Ipv6, Integer, Text, Binary}
-use Rattle.stored_data.specs.Data.{place, name, is_rate}
+use Rattle.stored_data.specs.Data.{place, name, is_rate, is_array}
 use Rattle.stored_data.specs.declared.datum.Datum.{Datum}
+use Rattle.stored_data.specs.declared.field.Field.{Field}
 use Rattle.stored_data.specs.declared.stored_set.Column.{Column}
 use Rattle.table_model.specs.declared.rows.Cell.{Cell}
 use Rattle.table_model.specs.declared.rows.Row.{Row}
@@ -28,15 +29,18 @@ header_text table kind size used =
 abbrev pub period_of : List Column → Datum → ℕ
 period_of columns datum = option_map_or (λ (column : Column). column.period) (find (λ (column : Column). place column.datum == place datum) columns) 0
 
--- a datum's name, that of a rate with its period in ms
-abbrev pub datum_text : List Column → Datum → List ℕ
-datum_text columns datum = if is_rate datum then name datum ++ codes "(" ++ decimal (period_of columns datum) ++ codes ")" else name datum
+-- a field's name: that of a rate with its period in ms, that of an element with its index
+abbrev pub field_text : List Column → Field → List ℕ
+field_text columns field =
+    if is_rate field.datum then name field.datum ++ codes "(" ++ decimal (period_of columns field.datum) ++ codes ")"
+    else (if is_array field.datum then name field.datum ++ codes "[" ++ decimal field.index ++ codes "]"
+    else name field.datum)
 
 -- NAME=VALUE, behind a space
 abbrev pub cell_text : List Column → Cell → List ℕ
-cell_text columns cell = codes " " ++ datum_text columns cell.datum ++ codes "=" ++ decimal cell.value
+cell_text columns cell = codes " " ++ field_text columns cell.field ++ codes "=" ++ decimal cell.value
 
--- 0x0: key=KEY use=REFS exp=LEFT, and the data
+-- 0x0: key=KEY use=REFS exp=LEFT, and the fields
 abbrev pub row_text : KeyType → List Column → Row → List ℕ
 row_text kind columns row =
     codes "0x0: key=" ++ key_text kind row.key ++ codes " use=" ++ decimal row.refs ++ codes " exp=" ++ decimal row.left ++ flat_map (cell_text columns) row.cells ++ codes "\n"

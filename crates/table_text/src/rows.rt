@@ -1,14 +1,14 @@
 //! The rows of a listing.
 
-ghost use Rattle.std.specs.Prelude.{◌≡◌, ◌++◌, OnOk};
+ghost use Rattle.std.specs.Prelude.{◌≡◌, [], ◌∷◌, ◌++◌, OnOk, decimal};
 ghost use Rattle.std.specs.List.{flat_map};
-ghost use Rattle.table_text.specs.Text.{period_of as specified_period, datum_text, cell_text, row_text};
+ghost use Rattle.table_text.specs.Text.{period_of as specified_period, field_text, cell_text, row_text};
 
 use line_text::push_decimal;
 use sequence::NoMemory;
 use std::alloc::Global;
 use stick_key::{KeyType, write_key};
-use stored_data::{Column, Datum, name};
+use stored_data::{Column, Datum, Field, name};
 use table_model::{Cell, Row};
 
 /// The period of a datum's column in ms, 0 where it has none.
@@ -23,26 +23,36 @@ fn period_of(columns: &[Column], datum: Datum) -> u32
     0
 }
 
-/// Appends a datum's name, that of a rate with its period.
-fn push_datum(text: &mut Vec<u8>, columns: &[Column], datum: Datum) -> Result<(), NoMemory>
-    ensures { OnOk result (text.new.items ≡ text.old.items ++ datum_text columns.now datum) }
+/// Appends a number in brackets of some kind.
+fn push_enclosed(text: &mut Vec<u8>, opening: u8, number: u32, closing: u8) -> Result<(), NoMemory>
+    ensures { OnOk result (text.new.items ≡ text.old.items ++ opening ∷ decimal number ++ closing ∷ []) }
 {
-    text.extend_from_slice(name(datum).as_bytes())?;
-    if !datum.is_rate() {
-        return Ok(());
-    }
-    text.extend_from_slice(b"(")?;
-    push_decimal(text, u64::from(period_of(columns, datum)))?;
-    text.extend_from_slice(b")")?;
+    text.push(opening)?;
+    push_decimal(text, u64::from(number))?;
+    text.push(closing)?;
     Ok(())
 }
 
-/// Appends a datum and its value.
+/// Appends a field's name: that of a rate with its period, that of an element with its index.
+fn push_field(text: &mut Vec<u8>, columns: &[Column], field: Field) -> Result<(), NoMemory>
+    ensures { OnOk result (text.new.items ≡ text.old.items ++ field_text columns.now field) }
+{
+    text.extend_from_slice(name(field.datum).as_bytes())?;
+    if field.datum.is_rate() {
+        return push_enclosed(text, b'(', period_of(columns, field.datum), b')');
+    }
+    if field.datum.is_array() {
+        return push_enclosed(text, b'[', field.index, b']');
+    }
+    Ok(())
+}
+
+/// Appends a field and its value.
 fn push_cell(text: &mut Vec<u8>, columns: &[Column], cell: &Cell) -> Result<(), NoMemory>
     ensures { OnOk result (text.new.items ≡ text.old.items ++ cell_text columns.now cell.now) }
 {
     text.extend_from_slice(b" ")?;
-    push_datum(text, columns, cell.datum)?;
+    push_field(text, columns, cell.field)?;
     text.extend_from_slice(b"=")?;
     push_decimal(text, cell.value)?;
     Ok(())
@@ -57,7 +67,7 @@ fn push_cells(text: &mut Vec<u8>, columns: &[Column], cells: &[Cell]) -> Result<
     Ok(())
 }
 
-/// Appends a row: its key, its references, what is left of its life in ms, and its data.
+/// Appends a row: its key, its references, what is left of its life in ms, and its fields.
 fn push_row(
     alloc: Global,
     text: &mut Vec<u8>,

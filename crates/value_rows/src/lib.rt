@@ -10,10 +10,11 @@ ghost use Rattle.value_rows.specs.Cut.{words_at, with_words};
 use sequence::NoMemory;
 use std::alloc::Global;
 use std::marker::Model;
-use stored_data::{Act, Column, Datum, StoredSet, Values, words};
+use stored_data::{Act, Column, Field, StoredSet, Values, words};
 
 /// A row of data for each slot, all of the same columns. Contracts see the columns, and each row as the list of its
-/// fields. Only `new` and `values` take memory: for each row one word a number and two a rate.
+/// fields. Only `new` and `values` take memory: for each row one word a number or an
+/// element of an array, and two a rate.
 #[derive(Drop)]
 pub struct Rows {
     alloc: Global,
@@ -68,13 +69,13 @@ fn act_in(
     words::act(columns, &mut words[from..from + width], now, act)
 }
 
-// Puts a value into a datum in the words of a row.
+// Puts a value into a field in the words of a row.
 fn put_in(
     words: &mut Vec<u64>,
     at: usize,
     width: usize,
     columns: &[Column],
-    datum: Datum,
+    field: Field,
     value: u64,
 )
     requires within { at * width + width ≤ length words.old.items }
@@ -82,10 +83,10 @@ fn put_in(
     requires width { width ≡ specified_width columns.now }
     ensures sized { length (words_at words.new.items at width) ≡ width }
     ensures elsewhere { words.new.items ≡ with_words words.old.items at width (words_at words.new.items at width) }
-    ensures data { fields_in columns.now (words_at words.new.items at width) ≡ with_value (fields_in columns.now (words_at words.old.items at width)) datum value }
+    ensures data { fields_in columns.now (words_at words.new.items at width) ≡ with_value (fields_in columns.now (words_at words.old.items at width)) field value }
 {
     let from = at * width;
-    words::put(columns, &mut words[from..from + width], datum, value);
+    words::put(columns, &mut words[from..from + width], field, value);
 }
 
 // Makes the words of a row those of a new key.
@@ -129,13 +130,13 @@ impl Rows {
         &self.columns
     }
 
-    /// What a datum of a row shows at a moment in ms: none where it isn't stored, and for the current connections.
-    pub fn get(&self, at: u32, datum: Datum, now: u64) -> Option<u64>
+    /// What a field of a row shows at a moment in ms: none where it isn't stored, and for the current connections.
+    pub fn get(&self, at: u32, field: Field, now: u64) -> Option<u64>
         requires { at < length self.now.rows }
-        ensures { result ≡ value_at (row_at self.now at) datum now }
+        ensures { result ≡ value_at (row_at self.now at) field now }
     {
         let row = row_in(self.words.as_slice(), at as usize, self.width);
-        words::get(self.columns.columns(), row, datum, now)
+        words::get(self.columns.columns(), row, field, now)
     }
 
     /// Makes a row that of a new key: numbers are 0, and nothing is counted in a rate.
@@ -151,17 +152,17 @@ impl Rows {
         );
     }
 
-    /// Puts a value into a datum of a row, as `Values::put`.
-    pub fn put(&mut self, at: u32, datum: Datum, value: u64)
+    /// Puts a value into a field of a row, as `Values::put`.
+    pub fn put(&mut self, at: u32, field: Field, value: u64)
         requires { at < length self.old.rows }
-        ensures { self.new ≡ with_row self.old at (with_value (row_at self.old at) datum value) }
+        ensures { self.new ≡ with_row self.old at (with_value (row_at self.old at) field value) }
     {
         put_in(
             &mut self.words,
             at as usize,
             self.width,
             self.columns.columns(),
-            datum,
+            field,
             value,
         );
     }

@@ -12,7 +12,8 @@ use Rattle.table_model.specs.State.{empty_table}
 use Rattle.rule_model.specs.declared.sections.NamedSpec.{NamedSpec}
 use Rattle.rule_model.specs.declared.sections.Setup.{Setup}
 use Rattle.rule_eval.specs.Limit.{LimitsFirst}
-use Rattle.rule_eval.specs.Tables.{has_column}
+use Rattle.rule_eval.proofs.ShownLemmas.{conn_cur_read}
+use Rattle.rule_eval.specs.Tables.{has_datum}
 use Rattle.shard_book.specs.BookState.{BookState, opened}
 use Rattle.shard_book.specs.Keeping.{part_of}
 use Rattle.admit_core.specs.Connection.{Connection, arrived}
@@ -43,14 +44,14 @@ opened_at setup table key named opens is =
 pub begun_limited : (setup : Setup) (visits : List Visit) (name : List ℕ) (table limit : ℕ) (key : Key) → CanOpen setup → LimitsFirst setup name table limit → IsLimited setup table limit key (begun setup visits)
 begun_limited setup visits name table limit key opens first = by (slice_get setup.tables table) refl first.stored
   where
-    by : (o : Option NamedSpec) → slice_get setup.tables table ≡ o → has_column o ConnCur ≡ true → IsLimited setup table limit key (begun setup visits)
+    by : (o : Option NamedSpec) → slice_get setup.tables table ≡ o → has_datum o ConnCur ≡ true → IsLimited setup table limit key (begun setup visits)
     by None is stored = absurd (false≢true stored)
     by (Some named) is stored = record {
       spec = part_of named.spec setup.shards (shard key setup.shards);
       events = [];
       replies = [];
       live = empty_table (part_of named.spec setup.shards (shard key setup.shards));
-      stores = stored;
+      stores = sym (conn_cur_read named.spec.columns) ∙ stored;
       at = live_in (empty_tables setup) table (shard key setup.shards) ∙ ap (option_map (λ (book : BookState). book.live)) (opened_at setup table key named opens is);
       run = refl;
       recorded = record { book = opened (part_of named.spec setup.shards (shard key setup.shards)); at = opened_at setup table key named opens is; base = refl; calls = refl };

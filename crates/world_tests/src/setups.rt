@@ -58,6 +58,7 @@ fn table(alloc: Global) -> Result<NamedSpec, NoMemory>
     columns.add(Column {
         datum: Datum::ConnCur,
         period: 0,
+        count: 0,
     })?;
     let spec = Spec {
         kind: KeyType::Ip,

@@ -124,7 +124,7 @@ impl PlainTable {
     {
         self.begin(now);
         match not_stored(&self.spec.columns, choice) {
-            Some(datum) => Reply::NotStored(datum),
+            Some(field) => Reply::NotStored(field),
             None => clear_matching(&mut self.records, &self.tickets, self.clock, choice),
         }
     }

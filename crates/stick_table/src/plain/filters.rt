@@ -6,7 +6,7 @@ ghost use Rattle.table_model.specs.Filters.{passes as passes_filter, not_stored 
 use crate::plain::records::is_same;
 use crate::plain::tickets::{count_refs, is_tracked};
 use stick_key::StickKey;
-use stored_data::{Datum, StoredSet};
+use stored_data::{Field, StoredSet};
 use table_model::{Filter, Op, Record, Reply, Ticket};
 
 /// Whether a filter means an entry, by the values that its row shows at this moment in ms.
@@ -23,11 +23,11 @@ pub(crate) fn passes(
         Filter::Everything => true,
         Filter::Nothing => false,
         Filter::Key(key) => is_same(key, &entry.0),
-        Filter::Compare(datum, op, bound) => {
+        Filter::Compare(field, op, bound) => {
             let value = entry
                 .1
                 .values
-                .get(*datum, clock)
+                .get(*field, clock)
                 .unwrap_or(count_refs(tickets, &entry.0) as u64);
             compares(*op, value, *bound)
         }
@@ -47,16 +47,16 @@ fn compares(op: Op, a: u64, b: u64) -> bool
     }
 }
 
-/// The datum that a filter compares and the table doesn't store.
-pub(crate) fn not_stored(columns: &StoredSet, choice: &Filter) -> Option<Datum>
+/// The field that a filter compares and the table doesn't store.
+pub(crate) fn not_stored(columns: &StoredSet, choice: &Filter) -> Option<Field>
     ensures { result ≡ not_stored_in columns.now choice.now }
 {
     match choice {
-        Filter::Compare(datum, _, _) => {
-            if columns.holds(*datum) {
+        Filter::Compare(field, _, _) => {
+            if columns.stores(*field) {
                 None
             } else {
-                Some(*datum)
+                Some(*field)
             }
         }
         Filter::Everything | Filter::Nothing | Filter::Key(_) => None,

@@ -45,7 +45,7 @@ impl PlainTable {
         ensures { IfOk result (λ reply. reply ≡ listed_reply self.now clock choice.now) }
     {
         match not_stored(&self.spec.columns, choice) {
-            Some(datum) => Ok(Reply::NotStored(datum)),
+            Some(field) => Ok(Reply::NotStored(field)),
             None => {
                 let used = count_live(&self.records, &self.tickets, clock) as u64;
                 let rows = list_rows(

@@ -10,11 +10,11 @@ pub(crate) fn put_fault(columns: &StoredSet, pairs: &[Cell]) -> Option<Reply>
     ensures { result ≡ put_fault_of columns.now pairs.now }
 {
     for pair in pairs {
-        if !settable(pair.datum) {
-            return Some(Reply::NotSettable(pair.datum));
+        if !settable(pair.field.datum) {
+            return Some(Reply::NotSettable(pair.field));
         }
-        if !columns.holds(pair.datum) {
-            return Some(Reply::NotStored(pair.datum));
+        if !columns.stores(pair.field) {
+            return Some(Reply::NotStored(pair.field));
         }
     }
     None
@@ -25,6 +25,6 @@ pub(crate) fn put_pairs(values: &mut Values, pairs: &[Cell])
     ensures { values.new ≡ put_pairs_of pairs.now values.old }
 {
     for pair in pairs {
-        values.put(pair.datum, pair.value);
+        values.put(pair.field, pair.value);
     }
 }

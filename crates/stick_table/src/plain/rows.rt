@@ -26,13 +26,10 @@ pub(crate) fn make_row(
 {
     let key = key.copy()?;
     let mut cells = Vec::new(alloc);
-    for column in columns.columns() {
-        let value = found
-            .values
-            .get(column.datum, clock)
-            .unwrap_or(u64::from(refs));
+    for field in columns.fields() {
+        let value = found.values.get(*field, clock).unwrap_or(u64::from(refs));
         cells.push(Cell {
-            datum: column.datum,
+            field: *field,
             value,
         })?;
     }

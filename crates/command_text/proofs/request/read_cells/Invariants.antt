@@ -11,7 +11,7 @@ use Rattle.command_text.proofs.request.read_cells.Given as goal
 abbrev pub invariant-loop-word : goal.invariant-loop-word
 invariant-loop-word l = record {
   cells : behind l.cells (cells_of (words_left l.words)) ≡ cells_of (words_of l.text);
-  in_range : All (λ (cell : Cell). cell.value ≤ greatest cell.datum) l.cells;
+  in_range : All (λ (cell : Cell). cell.value ≤ greatest cell.field.datum) l.cells;
 }
 
 abbrev pub decreases-loop-word : goal.decreases-loop-word

@@ -8,4 +8,4 @@ pub get-requires : goal.get-requires
 get-requires c = in_grid c.self.inside.entries c.self.inside.index c.self.inside.order c.self.inside.rows c.self.invariant.0 c.args.self.now c.self.view_is c.args.slot c.requires
 
 pub returns : goal.returns
-returns c held there = c.get.ensures ∙ ap (λ (fields : List StoredValue). value_at fields c.args.datum c.args.now) (values_are c.self.inside.entries c.self.inside.index c.self.inside.order c.self.inside.rows c.self.invariant.0 c.args.self.now c.self.view_is c.args.slot held there)
+returns c held there = c.get.ensures ∙ ap (λ (fields : List StoredValue). value_at fields c.args.field c.args.now) (values_are c.self.inside.entries c.self.inside.index c.self.inside.order c.self.inside.rows c.self.invariant.0 c.args.self.now c.self.view_is c.args.slot held there)

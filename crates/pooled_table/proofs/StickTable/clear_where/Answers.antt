@@ -1,6 +1,6 @@
 use Rattle.std.proofs.Common.{◌≡◌, None, Option, sym, ◌∙◌, ap}
 use Rattle.std.specs.Option.{option_map_or}
-use Rattle.stored_data.specs.declared.datum.Datum.{Datum}
+use Rattle.stored_data.specs.declared.field.Field.{Field}
 use Rattle.table_model.specs.Filters.{not_stored}
 use Rattle.table_model.specs.State.{State}
 use Rattle.table_model.specs.Step.{Outcome, cleared, clear_where}
@@ -14,6 +14,6 @@ returns-in-None c =
     let state : State = state_of t.spec t.clock t.events t.store t.book in
     let fine : not_stored t.spec.columns c.args.choice.now ≡ None = sym c.not_stored.ensures ∙ c.in-None.is in
     ap (λ (s : State). clear_where s c.args.choice.now) (sym c.begin.ensures ∙ sym c.self.view_is)
-    ∙ ap (λ (o : Option Datum). option_map_or {U = Outcome} (λ datum. (NotStored datum, state)) o (cleared state c.args.choice.now)) fine
+    ∙ ap (λ (o : Option Field). option_map_or {U = Outcome} (λ field. (NotStored field, state)) o (cleared state c.args.choice.now)) fine
     ∙ ap (λ (s : State). cleared s c.args.choice.now) c.self.view_is
     ∙ c.clear_matching.ensures

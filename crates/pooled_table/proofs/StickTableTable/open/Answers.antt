@@ -1,8 +1,12 @@
 use Rattle.std.proofs.Common.{List, ap, ◌∙◌}
 use Rattle.stored_data.specs.declared.stored_set.Column.{Column}
 use Rattle.entry_store.specs.Stock.{empty}
-use Rattle.pooled_table.proofs.TableLemmas.{new-state}
+use Rattle.pooled_table.proofs.TableLemmas.{new-state, new-table}
 use Rattle.pooled_table.proofs.StickTableTable.open.Goals as goal
+
+pub invariant_of-result : goal.invariant_of-result
+invariant_of-result c = new-table c.args.spec c.in_ok-store.store c.in_ok-book.book c.requires
+    (c.in_ok-store.ensures ∙ ap (λ (columns : List Column). empty c.args.spec.size columns) c.in_ok-columns.ensures) c.in_ok-book.ensures
 
 pub returns : goal.returns
 returns c = record {

@@ -13,15 +13,15 @@ record IsOneMore (s new : Stock) (slot : ℕ) (pairs : List Cell) (i : ℕ) : Ty
   left : with_values new slot (put_pairs (drop (i + 1) pairs)) ≡ with_values s slot (put_pairs (drop i pairs))
 
 one-more : (s new : Stock) (slot : ℕ) (pairs : List Cell) (i : ℕ) (d : Cell) → i < length pairs → IsSome (held_at s slot)
-    → new ≡ with_values s slot (λ values. with_value values (get_or pairs i d).datum (get_or pairs i d).value) → IsOneMore s new slot pairs i
+    → new ≡ with_values s slot (λ values. with_value values (get_or pairs i d).field (get_or pairs i d).value) → IsOneMore s new slot pairs i
 one-more s new slot pairs i d inside some is = go (held_at s slot) refl some
   where
     go : (o : Option Held) → held_at s slot ≡ o → IsSome o → IsOneMore s new slot pairs i
     go None there none = absurd (false≢true none)
     go (Some h) there _ = record {
-      there = ap (λ (x : Stock). is_some (held_at x slot)) is ∙ ap is_some (values-at s slot h (λ values. with_value values (get_or pairs i d).datum (get_or pairs i d).value) there);
+      there = ap (λ (x : Stock). is_some (held_at x slot)) is ∙ ap is_some (values-at s slot h (λ values. with_value values (get_or pairs i d).field (get_or pairs i d).value) there);
       left = ap (λ (x : Stock). with_values x slot (put_pairs (drop (i + 1) pairs))) is
-          ∙ values-again s slot h (λ values. with_value values (get_or pairs i d).datum (get_or pairs i d).value) (put_pairs (drop (i + 1) pairs)) there
+          ∙ values-again s slot h (λ values. with_value values (get_or pairs i d).field (get_or pairs i d).value) (put_pairs (drop (i + 1) pairs)) there
           ∙ sym (at_drop_more (λ ps. with_values s slot (put_pairs ps)) pairs i d inside);
     }
 

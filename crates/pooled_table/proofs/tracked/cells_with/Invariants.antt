@@ -1,6 +1,6 @@
-use Rattle.std.proofs.Common.{◌≡◌, take}
-use Rattle.pooled_table.specs.Seen.{cells_of}
+use Rattle.std.proofs.Common.{◌≡◌, take, map}
+use Rattle.pooled_table.specs.Seen.{cell_of}
 use Rattle.pooled_table.proofs.tracked.cells_with.Given as goal
 
-abbrev pub invariant-loop-column : goal.invariant-loop-column
-invariant-loop-column l = l.cells.items ≡ cells_of (take l.column-index l.column-items) l.clock l.refs l.values
+abbrev pub invariant-loop-field : goal.invariant-loop-field
+invariant-loop-field l = l.cells.items ≡ map (cell_of l.clock l.refs l.values) (take l.field-index l.field-items)

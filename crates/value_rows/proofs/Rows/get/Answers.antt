@@ -13,5 +13,5 @@ pub returns : goal.returns
 returns c =
     let r = c.self.inside in
     let row = rw c.as_slice.ensures.value at c.row_in-row.ensures.row in
-    c.get.ensures ∙ ap (λ (fields : List StoredValue). value_at fields c.args.datum c.args.now)
+    c.get.ensures ∙ ap (λ (fields : List StoredValue). value_at fields c.args.field c.args.now)
     (read-as r.columns c.columns.result.now r.count r.width c.args.at r.words.items c.row_in-row.result.now c.args.self.now c.self.view_is c.requires c.columns.ensures.columns row)

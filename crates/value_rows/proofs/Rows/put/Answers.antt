@@ -17,5 +17,5 @@ pub returns : goal.returns
 returns c =
     let r = c.self.inside in
     let shows = rw c.columns.ensures.columns at c.put_in.ensures.data in
-    write r.columns r.count r.width c.args.at r.words.items c.put_in.new.words.items (with_value _ c.args.datum c.args.value) c.args.self.now c.self.view_is c.requires c.self.invariant.1 c.put_in.ensures.sized c.put_in.ensures.elsewhere
-    (shows ∙ ap (λ fields. with_value fields c.args.datum c.args.value) (read r.columns r.count r.width c.args.at r.words.items c.args.self.now c.self.view_is c.requires))
+    write r.columns r.count r.width c.args.at r.words.items c.put_in.new.words.items (with_value _ c.args.field c.args.value) c.args.self.now c.self.view_is c.requires c.self.invariant.1 c.put_in.ensures.sized c.put_in.ensures.elsewhere
+    (shows ∙ ap (λ fields. with_value fields c.args.field c.args.value) (read r.columns r.count r.width c.args.at r.words.items c.args.self.now c.self.view_is c.requires))

@@ -7,7 +7,7 @@ use Rattle.table_model.specs.State.{State}
 use Rattle.table_model.specs.declared.rows.Record.{Record}
 use Rattle.table_model.specs.declared.replies.Reply.{Reply}
 use Rattle.table_model.specs.declared.replies.Reply.TheVariants.{NotStored}
-use Rattle.stored_data.specs.declared.datum.Datum.{Datum}
+use Rattle.stored_data.specs.declared.field.Field.{Field}
 use Rattle.stick_table.proofs.plain.PlainTable.clear_where.Goals as goal
 
 pub returns-in-None : goal.returns-in-None
@@ -19,6 +19,6 @@ returns-in-None c =
     let reply = rw c.deref.ensures.value at c.clear_matching.ensures.reply in
     let records = rw c.deref.ensures.value at c.clear_matching.ensures.records in
     ap (λ s. clear_where s choice) (sym (c.self.view_is ∙ c.begin.ensures))
-    ∙ ap (λ (o : Option Datum). option_map_or {U = Outcome} (λ datum. (NotStored datum, state)) o (cleared state choice)) fine
+    ∙ ap (λ (o : Option Field). option_map_or {U = Outcome} (λ field. (NotStored field, state)) o (cleared state choice)) fine
     ∙ ap (λ (r : Reply). let outcome : Outcome = (r, (cleared state choice).1) in outcome) (sym reply)
     ∙ ap (λ (rs : List (Key × Record)). let outcome : Outcome = (c.clear_matching.result, record state { records = rs }) in outcome) (sym records)
