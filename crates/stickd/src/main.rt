@@ -3,15 +3,12 @@
 
 ghost use Rattle.std.specs.Prelude.{◌≤◌};
 
-mod command_line;
-mod configuration;
-mod explanation;
 mod run_plan;
 
 use byte_ports::{StreamSink, StreamSource};
 use clap::ArgMatches;
-use command_line::{read_command_line, read_keeping};
-use configuration::{Detail, Keeping, open_setup, read_file};
+use command_line::{Keeping, read_command_line, read_keeping};
+use configuration_file::{Detail, open_setup, read_file};
 use log::Log;
 use proxy::{ProxyRuntime, run_pooled};
 use run_plan::read_plan;

@@ -2,8 +2,8 @@
 
 ghost use Rattle.std.specs.Prelude.{◌≤◌, IfOk};
 
-use crate::command_line::{CLIENT, CONNECT, SERVER};
 use clap::ArgMatches;
+use command_line::{CLIENT, CONNECT, SERVER};
 use config_words::read_time;
 use proxy::Plan;
 use socket_link::Timeouts;

@@ -108,7 +108,7 @@ fn cause_of(kind: ReadError, line: &[u8]) -> &'static str {
             "A table needs 'size N', 1 to 1g, a decimal number with k, m or g for 2^10, 2^20 or 2^30 behind it."
         }
         Fault::UnknownType => {
-            "A table needs 'type ip', 'ipv6', 'integer', 'string' or 'binary'; a datum of 'store' stands once, a rate with its period, as conn_rate(10s), and none counts HTTP requests."
+            "A table needs 'type ip', 'ipv6', 'integer', 'string' or 'binary'; a datum of 'store' stands once, a rate with its period, as conn_rate(10s), an array with its count, as gpc(2), and in place of gpc0 and gpc1, or of gpt0; and none counts HTTP requests."
         }
         Fault::UnknownTable => unknown_table(word),
         Fault::SecondName => second_name(word),
@@ -158,7 +158,7 @@ fn unknown_keyword(line: &[u8]) -> &'static str {
 /// Why a `tcp-request` line isn't known, by its second word.
 fn tcp_request_unknown(second: &[u8]) -> &'static str {
     if second == b"connection".as_slice() {
-        return "The actions are accept, reject, track-sc0 to track-sc2 KEY, sc-inc-gpc0(n), sc-inc-gpc1(n) and sc-set-gpt0(n) V, in a frontend or listen section, with 'if' or 'unless' behind them.";
+        return "The actions are accept, reject, track-sc0 to track-sc2 KEY, sc-inc-gpc0(n), sc-inc-gpc1(n), sc-set-gpt0(n) V, sc-inc-gpc(i,n) and sc-set-gpt(i,n) V, in a frontend or listen section, with 'if' or 'unless' behind them.";
     }
     "Rules are of connections alone, 'tcp-request connection': their contents and sessions aren't looked at."
 }
@@ -180,9 +180,9 @@ fn section_unknown(word: &[u8]) -> &'static str {
 /// Why a number or a time is bad, in a line that begins so.
 fn bad_number(word: &[u8]) -> &'static str {
     if word == b"stick-table".as_slice() {
-        return "A time is 1 ms to 2147483647 ms, which is less than 25 days, a decimal number with us, ms, s, m, h or d behind it; the length of a string or of a binary key is 1 to 1024.";
+        return "A time is 1 ms to 2147483647 ms, which is less than 25 days, a decimal number with us, ms, s, m, h or d behind it; the length of a string or a binary key is 1 to 1024, and an array has 1 to 100 elements.";
     }
-    "The slot of an action is 0 to 2, as in sc-inc-gpc0(0), and a number at most 4294967295."
+    "The slot of an action is 0 to 2, as in sc-inc-gpc0(0), an element of an array 0 to 99, as the first number of sc-inc-gpc(1,0), and a value at most 4294967295."
 }
 
 /// Why a table or a backend isn't known, in a line that begins so.

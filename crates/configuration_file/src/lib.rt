@@ -1,10 +1,14 @@
-//! The configuration that the program is given, and what is served of it.
+//! The configuration that the program is given, what is served of it, and what is said of its faults.
+#![tactic(auto)]
 
 ghost use Rattle.std.specs.Prelude.{◌≡◌, ◌≤◌, IfOk, IfSome};
 ghost use Rattle.rule_model.specs.Served.{AreTables, AreTableSpecs};
 ghost use Rattle.connection_drive.specs.Tables.{CanOpen};
 
-use crate::explanation::{explain_fault, explain_warnings};
+mod explanation;
+
+use command_line::Keeping;
+use explanation::{explain_fault, explain_warnings};
 use rule_config::{ConfigFault, read_config};
 use rule_model::{Config, NamedSpec, Setup};
 use script::built_in_setup;
@@ -92,15 +96,6 @@ fn report_narrow<R: Eprint>(rt: &R, named: &NamedSpec) -> io::Result<()> {
         Ok(name) => eprintln!(rt; "stickd: table {name} has fewer places than shards"),
         Err(_) => eprintln!(rt; "stickd: a table has fewer places than shards"),
     }
-}
-
-/// How each table is kept: in so many shards, and removing so many of its oldest entries for a new one where it is full.
-#[derive(Clone, Copy, Debug)]
-pub struct Keeping {
-    /// 1 to 64.
-    pub shards: u32,
-    /// 1 to 1,024.
-    pub purge: u32,
 }
 
 /// What is served by a configuration, or without one, each table kept in this way. None where that can't be had, which

@@ -1,16 +1,18 @@
 //! What the program can be asked, and the texts of its help.
+#![tactic(auto)]
 
 ghost use Rattle.std.specs.Prelude.{◌≤◌};
 
-use crate::configuration::Keeping;
 use clap::{Arg, ArgAction, ArgMatches, Command, Error, value_parser};
 use std::alloc::{AllocError, Global};
 
-/// The options that name a time.
+/// The option that says how long a server may take to accept a connection.
 pub const CONNECT: &str = "timeout-connect";
 
+/// The option that says how long a client may be silent.
 pub const CLIENT: &str = "timeout-client";
 
+/// The option that says how long a server may be silent.
 pub const SERVER: &str = "timeout-server";
 
 /// What `stickd check --help` says last.
@@ -35,6 +37,7 @@ The commands are:
   clear table T                      removes the entries that no connection holds
   clear table T data.X OP V          those of them that match
   clear table T key K                the entry of a key
+X is a datum that the table stores, as gpc0, or an element of an array, as gpc[1].
 What they are answered is written to standard output, and behind the script's end the
 numbers of the first ten lines that were bad to standard error. A connection is accepted
 or rejected by the rules of FILE. Without FILE there is one table, t, which has keys of
@@ -219,7 +222,16 @@ fn read_purge(arguments: &ArgMatches<'_>) -> u32
         .clamp(1, 1024)
 }
 
-/// How each table is kept.
+/// How each table is kept: in so many shards, and removing so many of its oldest entries for a new one where it is full.
+#[derive(Clone, Copy, Debug)]
+pub struct Keeping {
+    /// 1 to 64.
+    pub shards: u32,
+    /// 1 to 1,024.
+    pub purge: u32,
+}
+
+/// How each table is kept, as the words say or, where they don't, in one shard and one entry for another.
 pub fn read_keeping(arguments: &ArgMatches<'_>) -> Keeping
     ensures shards { (1 ≤ result.shards) × (result.shards ≤ 64) }
     ensures purge { (1 ≤ result.purge) × (result.purge ≤ 1024) }
