@@ -35,7 +35,7 @@ fn show_cells(
     requires { IsSome (held_at store.now slot) }
     ensures { IfOk result (λ cells. (held : Held) → held_at store.now slot ≡ Some held → cells ≡ cells_of columns.now clock refs held.values) }
 {
-    let mut cells = Vec::new(alloc);
+    let mut cells = Vec::with_capacity(alloc, columns.fields().len())?;
     for field in columns.fields() {
         let value = store.get(slot, *field, clock).unwrap_or(u64::from(refs));
         cells.push(Cell {

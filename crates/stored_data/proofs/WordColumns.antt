@@ -131,6 +131,20 @@ nothing_kept column first (suc count) words at none =
     ap (λ b. cond b (field_at (element column first) words at ∷ fields_from (elements_from column (first + 1) count) words (at + words_of (element column first))) (fields_from (elements_from column (first + 1) count) words (at + words_of (element column first)))) none
     ∙ nothing_kept column (first + 1) count words (at + words_of (element column first)) none
 
+-- an edit that leaves what is kept of the datum leaves the column
+pub leaves_all : (column : Column) (edit : Edit) (first count : ℕ) (words : List ℕ) (at : ℕ) → ((stored : StoredValue) → stored.field.datum ≡ column.datum → edited edit stored ≡ stored) →
+    fields_from (elements_from column first count) words at ≡ map (edited edit) (fields_from (elements_from column first count) words at)
+leaves_all column edit first zero words at leaves = refl
+leaves_all column edit first (suc count) words at leaves = by_kept (is_kept (element column first)) (leaves_all column edit (first + 1) count words (at + words_of (element column first)) leaves)
+  where
+    by_kept : (b : Bool) → fields_from (elements_from column (first + 1) count) words (at + words_of (element column first)) ≡ map (edited edit) (fields_from (elements_from column (first + 1) count) words (at + words_of (element column first)))
+        → cond b (field_at (element column first) words at ∷ fields_from (elements_from column (first + 1) count) words (at + words_of (element column first))) (fields_from (elements_from column (first + 1) count) words (at + words_of (element column first)))
+        ≡ map (edited edit) (cond b (field_at (element column first) words at ∷ fields_from (elements_from column (first + 1) count) words (at + words_of (element column first))) (fields_from (elements_from column (first + 1) count) words (at + words_of (element column first))))
+    by_kept true rest =
+        ap (λ f. f ∷ fields_from (elements_from column (first + 1) count) words (at + words_of (element column first))) (sym (leaves (field_at (element column first) words at) refl))
+        ∙ ap (λ fs. edited edit (field_at (element column first) words at) ∷ fs) rest
+    by_kept false rest = rest
+
 -- an edit of an index past those of the elements leaves them
 pub past_all : (column : Column) (edit : Edit) (first count : ℕ) (words : List ℕ) (at : ℕ) → first + count ≤ edited_index edit column.datum →
     fields_from (elements_from column first count) words at ≡ map (edited edit) (fields_from (elements_from column first count) words at)

@@ -4,8 +4,10 @@ use Rattle.std.specs.Prelude.{◌≡◌, ℕ, ◌+◌, ◌==◌, ◌&&◌, nat_l
 use Rattle.rate_window.specs.Words.{tally_in}
 use Rattle.stored_data.specs.Data.{is_rate, place}
 use Rattle.stored_data.specs.Fields.{Element, element, elements, size}
-use Rattle.stored_data.specs.Acts.{is_kept, index_of, changed_field, put_field}
+use Rattle.stored_data.specs.Acts.{is_kept, index_of, change, changed, changed_field, put_field}
 use Rattle.stored_data.specs.declared.datum.Datum.{Datum}
+use Rattle.stored_data.specs.declared.act.Change.{Change}
+use Rattle.stored_data.specs.declared.act.Change.TheVariants.{Keep, Set}
 use Rattle.stored_data.specs.declared.field.Field.{Field}
 use Rattle.stored_data.specs.declared.stored_set.Column.{Column}
 use Rattle.stored_data.specs.declared.values.Content.{Content}
@@ -55,6 +57,19 @@ edited (Put field value) stored = put_field field value stored
 abbrev pub edited_index : Edit → Datum → ℕ
 edited_index (Do now act) datum = index_of act datum
 edited_index (Put field value) datum = field.index
+
+-- what it does to the field of a datum that it is done to, and when: a put sets a number, at whatever moment
+abbrev pub edited_change : Edit → Datum → Change
+edited_change (Do now act) datum = change act datum
+edited_change (Put field value) datum = if place datum == place field.datum then Set value else Keep
+
+abbrev pub edited_moment : Edit → ℕ
+edited_moment (Do now act) = now
+edited_moment (Put field value) = 0
+
+-- what is stored of a field, after a change at a moment
+abbrev pub altered : ℕ → Change → StoredValue → StoredValue
+altered now change stored = record { field = stored.field; content = changed now stored.field.datum change stored.content }
 
 -- the words from this place on keep the content
 abbrev pub IsKeptAt : Content → List ℕ → ℕ → Type 0

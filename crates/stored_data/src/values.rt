@@ -62,7 +62,7 @@ impl StoredValue {
     ghost use Rattle.stored_data.specs.Acts.{changed, shown, changed_field, put_field};
 
     /// The content after a change at a moment.
-    fn changed(self, now: u64, change: Change) -> Content
+    pub(crate) fn changed(self, now: u64, change: Change) -> Content
         ensures { result ≡ changed now self.field.datum change self.content }
     {
         match (change, self.content) {
@@ -250,13 +250,13 @@ impl Values {
         ensures data { self.new ≡ acted self.old now act }
         ensures answer { result ≡ answer self.old now act }
     {
-        let before = told(self.fields.as_slice(), act, now);
-        change_fields(self.fields.as_mut_slice(), now, act);
         if act.answers_before() {
-            before
-        } else {
-            told(self.fields.as_slice(), act, now)
+            let before = told(self.fields.as_slice(), act, now);
+            change_fields(self.fields.as_mut_slice(), now, act);
+            return before;
         }
+        change_fields(self.fields.as_mut_slice(), now, act);
+        told(self.fields.as_slice(), act, now)
     }
 
     /// The same data once more, where there is memory.

@@ -5,10 +5,10 @@ ghost use Rattle.stored_data.specs.Data.{is_rate};
 ghost use Rattle.stored_data.specs.Fields.{element, elements_of, size};
 ghost use Rattle.stored_data.specs.Stored.{IsPeriod, HavePeriods, IsSound};
 ghost use Rattle.stored_data.specs.Acts.{acted, answer, told as specified_told, value_at, with_value, zero_of, is_kept as specified_kept};
-ghost use Rattle.stored_data.specs.Words.{is_kept_in as specified_kept_in, words_of as specified_words, words_in, width as specified_width, field_at as specified_field, fields_from, fields_in, edited, edited_index, taken, IsKeptAt};
+ghost use Rattle.stored_data.specs.Words.{is_kept_in as specified_kept_in, words_of as specified_words, words_in, width as specified_width, field_at as specified_field, fields_from, fields_in, altered, edited, edited_index, edited_change, edited_moment, taken, IsKeptAt};
 ghost use Rattle.stored_data.specs.declared.stored_set.Column.{Column};
 
-use crate::act::Act;
+use crate::act::{Act, Change};
 use crate::values::{Content, StoredValue, Values};
 use crate::{Column, Datum, Field};
 use rate_window::Meter;
@@ -26,15 +26,26 @@ enum Edit {
 
 impl Edit {
     ghost use Rattle.std.specs.Prelude.{◌≡◌};
-    ghost use Rattle.stored_data.specs.Words.{edited, edited_index};
+    ghost use Rattle.stored_data.specs.Words.{edited_change, edited_index, edited_moment};
 
-    /// What is kept of a field after it.
-    fn applied(self, stored: StoredValue) -> StoredValue
-        ensures { result ≡ edited self stored }
+    /// What it does to the field of a datum that it is done to.
+    fn change(self, datum: Datum) -> Change
+        ensures { result ≡ edited_change self datum }
     {
         match self {
-            Edit::Do(now, act) => stored.acted(now, act),
-            Edit::Put(field, value) => stored.with_value(field, value),
+            Edit::Do(_, act) => act.change(datum),
+            Edit::Put(field, value) if datum.place() == field.datum.place() => Change::Set(value),
+            Edit::Put(..) => Change::Keep,
+        }
+    }
+
+    /// The moment in ms at which it counts; of a put, which counts nothing, 0.
+    fn moment(self) -> u64
+        ensures { result ≡ edited_moment self }
+    {
+        match self {
+            Edit::Do(now, _) => now,
+            Edit::Put(..) => 0,
         }
     }
 
@@ -121,17 +132,17 @@ fn write(words: &mut [u64], at: usize, content: Content)
     }
 }
 
-/// Does it to a column's field whose words begin at `at`.
-fn edit_at(column: Column, index: u32, words: &mut [u64], at: usize, edit: Edit)
+/// Does a change at a moment in ms to a column's field whose words begin at `at`.
+fn change_at(column: Column, index: u32, words: &mut [u64], at: usize, now: u64, change: Change)
     requires period { IsPeriod (is_rate column.datum) column.period }
     requires kept { IsTrue (specified_kept (element column index)) }
     requires within { at + specified_words (element column index) ≤ length words.old }
     ensures sized { length words.new ≡ length words.old }
-    ensures field { specified_field (element column index) words.new at ≡ edited edit (specified_field (element column index) words.old at) }
+    ensures field { specified_field (element column index) words.new at ≡ altered now change (specified_field (element column index) words.old at) }
     ensures elsewhere { (k : ℕ) → (k < at) ⊎ (at + specified_words (element column index) ≤ k) → slice_index words.new k ≡ slice_index words.old k }
 {
-    let stored = edit.applied(field_at(column, index, words, at));
-    write(words, at, stored.content);
+    let content = field_at(column, index, words, at).changed(now, change);
+    write(words, at, content);
 }
 
 /// Does it to the fields of a column whose words begin at `at`: to one of them, and all others stay.
@@ -142,6 +153,10 @@ fn edit_column(column: Column, words: &mut [u64], at: usize, edit: Edit)
     ensures fields { fields_from (elements_of column) words.new at ≡ map (edited edit) (fields_from (elements_of column) words.old at) }
     ensures elsewhere { (k : ℕ) → (k < at) ⊎ (at + words_in (elements_of column) ≤ k) → slice_index words.new k ≡ slice_index words.old k }
 {
+    let change = edit.change(column.datum);
+    if change.keeps() {
+        return;
+    }
     if !is_kept(column) {
         return;
     }
@@ -149,7 +164,14 @@ fn edit_column(column: Column, words: &mut [u64], at: usize, edit: Edit)
     if index >= column.size() {
         return;
     }
-    edit_at(column, index, words, at + index as usize, edit);
+    change_at(
+        column,
+        index,
+        words,
+        at + index as usize,
+        edit.moment(),
+        change,
+    );
 }
 
 /// Does it to each field.
@@ -226,13 +248,13 @@ pub fn act(columns: &[Column], words: &mut [u64], now: u64, act: Act) -> Option<
     ensures data { fields_in columns.now words.new ≡ acted (fields_in columns.now words.old) now act }
     ensures answer { result ≡ answer (fields_in columns.now words.old) now act }
 {
-    let before = told(columns, words, act, now);
-    edit_fields(columns, words, Edit::Do(now, act));
     if act.answers_before() {
-        before
-    } else {
-        told(columns, words, act, now)
+        let before = told(columns, words, act, now);
+        edit_fields(columns, words, Edit::Do(now, act));
+        return before;
     }
+    edit_fields(columns, words, Edit::Do(now, act));
+    told(columns, words, act, now)
 }
 
 /// Makes them the data of a new key: all words are 0.
