@@ -3,10 +3,11 @@ ghost use Rattle.std.specs.Prelude.{◌≡◌, ◌<◌, ◌≤◌, ℕ, IsSome, 
 ghost use Rattle.key_index.specs.Keys.{capacity_of, entry_at};
 ghost use Rattle.table_benchmark.specs.declared.random.TheConstants.{SLOTS};
 
+use crate::converting::key_of;
 use crate::random::{Random, SLOTS};
 use key_index::{Handle, Index};
 use std::alloc::{AllocError, Global};
-use stick_key::{KeyType, Sample, StickKey, convert};
+use stick_key::{KeyType, Sample, StickKey};
 
 /// The key of an address that has this number, of IPv4 or of IPv6.
 fn key(alloc: Global, number: u32, wide: bool) -> Result<StickKey, AllocError> {
@@ -19,10 +20,7 @@ fn key(alloc: Global, number: u32, wide: bool) -> Result<StickKey, AllocError> {
     } else {
         (Sample::V4([a, b, c, d]), KeyType::Ip)
     };
-    match convert(alloc, &sample, kind) {
-        Ok(Some(key)) => Ok(key),
-        _ => Err(AllocError),
-    }
+    key_of(alloc, &sample, kind)
 }
 
 /// Keys of so many addresses from this one on.

@@ -1,12 +1,13 @@
 //! A table that is full, and what is done to it.
-ghost use Rattle.std.specs.Prelude.{◌≤◌, ◌<◌, ◌^◌, IfOk};
+ghost use Rattle.std.specs.Prelude.{◌≤◌, ◌<◌, ◌^◌, All, IfOk};
 ghost use Rattle.table_model.specs.Limits.{IsTableEvent, IsTableSpec};
 
+use crate::converting::key_of;
 use drawn_calls::ticket_of;
 use random_numbers::Random;
-use sequence::Sequence;
+use sequence::{NoMemory, Sequence};
 use std::alloc::{AllocError, Global};
-use stick_key::{KeyType, Sample, StickKey, convert};
+use stick_key::{KeyType, Sample, StickKey};
 use stick_table::{Cell, Event, Spec, Table, Ticket};
 use stored_data::{Act, Column, Datum, Field, StoredSet};
 
@@ -58,25 +59,27 @@ fn spec(alloc: Global, size: u32, purge: u32) -> Result<Spec, AllocError>
 
 /// The key of an address.
 fn key(alloc: Global, number: u32) -> Result<StickKey, AllocError> {
-    match convert(alloc, &Sample::V4(number.to_be_bytes()), KeyType::Ip) {
-        Ok(Some(key)) => Ok(key),
-        _ => Err(AllocError),
-    }
+    let [a, b, c, d] = number.to_be_bytes();
+    key_of(alloc, &Sample::V4([a, b, c, d]), KeyType::Ip)
+}
+
+/// One value.
+fn pairs(alloc: Global) -> Result<Sequence<Cell>, NoMemory>
+    ensures { IfOk result (All (λ pair. pair.value ≤ 1)) }
+{
+    let pair = Cell {
+        field: Field::plain(Datum::Gpc0),
+        value: 1,
+    };
+    Sequence::from_slice(alloc, &[pair])
 }
 
 /// A put of one value.
 fn put(alloc: Global, number: u32) -> Result<Event, AllocError>
     ensures { IfOk result IsTableEvent }
 {
-    let pair = Cell {
-        field: Field::plain(Datum::Gpc0),
-        value: 1,
-    };
-    Ok(Event::Put(
-        0,
-        key(alloc, number)?,
-        Sequence::from_slice(alloc, &[pair])?,
-    ))
+    let key = key(alloc, number)?;
+    Ok(Event::Put(0, key, pairs(alloc)?))
 }
 
 /// A table that has as many entries as it can have, of the keys from 0 on.
@@ -108,7 +111,7 @@ impl<T: Table> FullTable<T> {
     }
 
     /// One event; answers how many were refused.
-    fn step(&mut self, event: &Event) -> u64
+    fn ask(&mut self, event: &Event) -> u64
         requires { IsTableEvent event.now }
     {
         match self.table.step(event) {
@@ -117,16 +120,23 @@ impl<T: Table> FullTable<T> {
         }
     }
 
+    /// The same of an event that is let go then.
+    fn step(&mut self, event: Event) -> u64
+        requires { IsTableEvent event }
+    {
+        self.ask(&event)
+    }
+
     /// Asks for the row of a key.
     fn get(&mut self, number: u32) -> Result<u64, AllocError> {
-        let event = Event::Get(0, key(self.alloc, number)?);
-        Ok(self.step(&event))
+        let key = key(self.alloc, number)?;
+        Ok(self.step(Event::Get(0, key)))
     }
 
     /// Puts a value at a key.
     fn put(&mut self, number: u32) -> Result<u64, AllocError> {
         let event = put(self.alloc, number)?;
-        Ok(self.step(&event))
+        Ok(self.step(event))
     }
 
     /// Puts a value at a key that was never there.
@@ -145,19 +155,19 @@ impl<T: Table> FullTable<T> {
     }
 
     fn release(&mut self, ticket: Ticket) -> u64 {
-        self.step(&Event::Release(0, ticket))
+        self.step(Event::Release(0, ticket))
     }
 
     fn count(&mut self, ticket: Ticket) -> u64 {
-        self.step(&Event::Count(0, ticket, Act::IncGpc0))
+        self.step(Event::Count(0, ticket, Act::IncGpc0))
     }
 
     fn look(&mut self, ticket: Ticket) -> u64 {
-        self.step(&Event::Look(0, ticket))
+        self.step(Event::Look(0, ticket))
     }
 
     fn expire(&mut self) -> u64 {
-        self.step(&Event::Expire(0))
+        self.step(Event::Expire(0))
     }
 
     /// Takes a reference to a key, and gives it back.

@@ -11,6 +11,9 @@ ghost use Rattle.std.specs.Prelude.{◌≤◌};
 use opening::{bare_callers, locked_callers, open_table};
 use pooled_table::StickTable;
 use runner::{Timed, Work, measure};
+use sequence::NoMemory;
+use shard_locks::Shards;
+use shard_seats::Seat;
 use std::io;
 use std::io::Print;
 use std::rt::Clock;
@@ -52,6 +55,18 @@ fn time_bare<T: Table + Send, R: Threads + Clock + Sync + AllocGlobal>(
     Ok(measure(rt, runners.as_mut_slice(), work, rounds)?)
 }
 
+/// Times a work of the callers of a table.
+fn time_seats<T: Table + Send, R: Threads + Wait + Clock + Sync + AllocGlobal>(
+    rt: &R,
+    table: &Shards<T>,
+    seats: Vec<Seat>,
+    work: Work,
+    rounds: u32,
+) -> Result<Timed, NoMemory> {
+    let mut runners = locked_callers(rt.alloc(), rt, table, seats)?;
+    measure(rt, runners.as_mut_slice(), work, rounds)
+}
+
 /// Times a work with locks.
 fn time_locked<T: Table + Send, R: Threads + Wait + Clock + Sync + AllocGlobal>(
     rt: &R,
@@ -62,9 +77,7 @@ fn time_locked<T: Table + Send, R: Threads + Wait + Clock + Sync + AllocGlobal>(
     requires threads { (1 ≤ setting.threads) × (setting.threads ≤ 64) }
 {
     let (table, seats) = open_table::<T>(rt.alloc(), setting.shards, setting.threads)?;
-    let mut runners = locked_callers(rt.alloc(), rt, &table, seats)?;
-    let rounds = setting.rounds.unwrap_or(FEW);
-    Ok(measure(rt, runners.as_mut_slice(), work, rounds)?)
+    Ok(time_seats(rt, &table, seats, work, setting.rounds.unwrap_or(FEW))?)
 }
 
 /// Tenths of a nanosecond for each round.

@@ -6,6 +6,7 @@
 
 ghost use Rattle.std.specs.Prelude.{◌≤◌};
 
+mod converting;
 mod full_index;
 mod full_order;
 mod full_pool;

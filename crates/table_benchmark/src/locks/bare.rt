@@ -1,5 +1,6 @@
 //! A caller of books of its own, which have no lock: what is done under one, and nothing else.
 
+ghost use Rattle.std.specs.Prelude.{◌<◌};
 ghost use Rattle.table_model.specs.Limits.{IsTableEvent};
 
 use crate::locks::calls::{Calls, KEYS};
@@ -20,6 +21,22 @@ pub struct BareCaller<T: Table> {
 }
 
 /// Has the book of a shard answer an event, as it does under its lock.
+fn serve_by<T: Table>(
+    book: &mut Book<T>,
+    seat: &mut Seat,
+    shard: u32,
+    event: Event,
+) -> Option<Reply>
+    requires shard { shard < 64 }
+    requires event { IsTableEvent event }
+{
+    match serve(book, seat, shard, event) {
+        Ok(reply) => Some(reply),
+        Err(_) => None,
+    }
+}
+
+/// The same by the book of the shard, where there is one.
 fn serve_at<T: Table>(
     books: &mut Vec<Book<T>>,
     seat: &mut Seat,
@@ -28,11 +45,17 @@ fn serve_at<T: Table>(
 ) -> Option<Reply>
     requires { IsTableEvent event }
 {
-    if shard >= 64 {
-        return None;
+    match books.get_mut(shard as usize) {
+        Some(book) if shard < 64 => serve_by(book, seat, shard, event),
+        _ => None,
     }
-    let book = books.get_mut(shard as usize)?;
-    serve(book, seat, shard, event).ok()
+}
+
+/// The same, of an event whose reply tells no ticket; answers whether there was a reply.
+fn is_served<T: Table>(books: &mut Vec<Book<T>>, seat: &mut Seat, shard: u32, event: Event) -> bool
+    requires { IsTableEvent event }
+{
+    serve_at(books, seat, shard, event).is_some()
 }
 
 impl<T: Table> BareCaller<T> {
@@ -57,12 +80,12 @@ impl<T: Table> Calls for BareCaller<T> {
 
     fn look(&mut self, held: Held) -> bool {
         let event = Event::Look(0, held.ticket);
-        serve_at(&mut self.books, &mut self.seat, held.shard, event).is_some()
+        is_served(&mut self.books, &mut self.seat, held.shard, event)
     }
 
     fn release(&mut self, held: Held) -> bool {
         let event = Event::Release(0, held.ticket);
-        serve_at(&mut self.books, &mut self.seat, held.shard, event).is_some()
+        is_served(&mut self.books, &mut self.seat, held.shard, event)
     }
 
     fn begin_again(&mut self) -> Result<(), NoMemory> {

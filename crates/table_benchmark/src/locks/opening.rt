@@ -19,7 +19,7 @@ const PLACES: u32 = 8_192;
 /// How many references a shard may have.
 const REFERENCES: u32 = 1_024;
 
-/// A table in so many shards, and so many seats.
+/// A table in so many shards, and so many seats without receipts.
 pub fn open_table<T: Table>(
     alloc: Global,
     shards: u32,
@@ -32,6 +32,16 @@ pub fn open_table<T: Table>(
     Shards::new(alloc, spec, shards, seats, false)
 }
 
+/// The caller of a seat.
+fn locked_caller<'a, T: Table, R: Wait>(
+    alloc: Global,
+    rt: &'a R,
+    table: &'a Shards<T>,
+    seat: Seat,
+) -> Result<Runner<LockedCaller<'a, T, R>>, NoMemory> {
+    Runner::new(alloc, LockedCaller::new(alloc, rt, table, seat))
+}
+
 /// The callers of a table, one for each seat.
 pub fn locked_callers<'a, T: Table, R: Wait>(
     alloc: Global,
@@ -41,8 +51,7 @@ pub fn locked_callers<'a, T: Table, R: Wait>(
 ) -> Result<Vec<Runner<LockedCaller<'a, T, R>>>, NoMemory> {
     let mut runners = Vec::new(alloc);
     for seat in seats {
-        let caller = LockedCaller::new(alloc, rt, table, seat);
-        runners.push(Runner::new(alloc, caller)?)?;
+        runners.push(locked_caller(alloc, rt, table, seat)?)?;
     }
     Ok(runners)
 }

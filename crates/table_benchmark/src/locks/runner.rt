@@ -28,6 +28,12 @@ pub struct Timed {
     pub refused: u64,
 }
 
+/// No time, and no call that was refused.
+const NOTHING: Timed = Timed {
+    nanos: 0,
+    refused: 0,
+};
+
 /// A caller, and what its last run took.
 #[derive(Drop)]
 pub struct Runner<C: Calls> {
@@ -36,15 +42,19 @@ pub struct Runner<C: Calls> {
     timed: Timed,
 }
 
+/// A look at the reference of a place; answers whether it was shown.
+fn look_at<C: Calls>(caller: &mut C, held: &[Held], place: u32) -> bool {
+    match held.get(place as usize) {
+        Some(one) => caller.look(*one),
+        None => false,
+    }
+}
+
 /// So many looks at references in turn; answers how many were refused.
 fn look_often<C: Calls>(caller: &mut C, held: &[Held], count: u32) -> u64 {
     let mut refused = 0u64;
     for number in 0..count {
-        let shown = match held.get((number % KEYS) as usize) {
-            Some(one) => caller.look(*one),
-            None => false,
-        };
-        if !shown {
+        if !look_at(caller, held, number % KEYS) {
             refused = refused.saturating_add(1);
         }
     }
@@ -66,23 +76,25 @@ fn track_often<C: Calls>(caller: &mut C, count: u32) -> u64 {
     refused
 }
 
+/// References to the keys of a caller, as many as aren't refused.
+fn track_all<C: Calls>(alloc: Global, caller: &mut C) -> Result<Vec<Held>, NoMemory> {
+    let mut held = Vec::new(alloc);
+    for place in 0..KEYS {
+        if let Some(one) = caller.track(place) {
+            held.push(one)?;
+        }
+    }
+    Ok(held)
+}
+
 impl<C: Calls> Runner<C> {
     /// A caller that holds a reference to each of its keys.
     pub fn new(alloc: Global, mut caller: C) -> Result<Runner<C>, NoMemory> {
-        let mut held = Vec::new(alloc);
-        for place in 0..KEYS {
-            if let Some(one) = caller.track(place) {
-                held.push(one)?;
-            }
-        }
-        let timed = Timed {
-            nanos: 0,
-            refused: 0,
-        };
+        let held = track_all(alloc, &mut caller)?;
         Ok(Runner {
             caller,
             held,
-            timed,
+            timed: NOTHING,
         })
     }
 
@@ -117,15 +129,19 @@ fn nanos_since<R: Clock>(rt: &R, start: Instant) -> u128 {
     }
 }
 
+/// What two runs side by side took.
+fn beside(one: Timed, other: Timed) -> Timed {
+    Timed {
+        nanos: one.nanos.max(other.nanos),
+        refused: one.refused.saturating_add(other.refused),
+    }
+}
+
 /// The longest time of some runs side by side, and all that were refused.
 fn longest<C: Calls>(runners: &[Runner<C>]) -> Timed {
-    let mut longest = Timed {
-        nanos: 0,
-        refused: 0,
-    };
+    let mut longest = NOTHING;
     for runner in runners {
-        longest.nanos = longest.nanos.max(runner.timed.nanos);
-        longest.refused = longest.refused.saturating_add(runner.timed.refused);
+        longest = beside(longest, runner.timed);
     }
     longest
 }

@@ -1,5 +1,7 @@
 //! What callers do before their table is settled.
 
+ghost use Rattle.table_model.specs.Limits.{IsTableEvent};
+
 use crate::stress::calling::caller_of;
 use drawn_calls::{Caller, Held, key};
 use shard_locks::Shards;
@@ -15,6 +17,16 @@ pub struct Shown {
     pub held: Vec<Held>,
 }
 
+/// Has a caller ask an event, and lets go what it was told.
+fn ask<T: Table>(rt: &impl Wait, caller: &mut Caller<'_, T>, event: Event) -> Result<(), Refusal>
+    requires { IsTableEvent event }
+{
+    match caller.ask(rt, 0, event) {
+        Ok(_receipt) => Ok(()),
+        Err(refusal) => Err(refusal),
+    }
+}
+
 /// Has a caller ask so often for what has expired.
 fn expire_often<T: Table>(
     rt: &impl Wait,
@@ -22,9 +34,7 @@ fn expire_often<T: Table>(
     expires: u64,
 ) -> Result<(), Refusal> {
     for _ in 0..expires {
-        if let Err(refusal) = caller.ask(rt, 0, Event::Expire(0)) {
-            return Err(refusal);
-        }
+        ask(rt, caller, Event::Expire(0))?;
     }
     Ok(())
 }
@@ -37,10 +47,7 @@ fn track<T: Table>(
     number: u32,
 ) -> Result<(), Refusal> {
     let key = key(alloc, number)?;
-    match caller.ask(rt, 0, Event::Track(0, key)) {
-        Ok(_receipt) => Ok(()),
-        Err(refusal) => Err(refusal),
-    }
+    ask(rt, caller, Event::Track(0, key))
 }
 
 /// Has a caller ask so often for what has expired, and track the key of a number, if there is one.
