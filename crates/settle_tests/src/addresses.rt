@@ -90,14 +90,25 @@ pub struct Wanted {
     pub bytes_out: u64,
 }
 
+/// Whether a row shows each of these values.
+fn has_each(row: &Row, values: &[(Datum, u64)]) -> bool {
+    for (datum, value) in values {
+        if !has(row, *datum, *value) {
+            return false;
+        }
+    }
+    true
+}
+
 impl Wanted {
     fn is_shown_by(self, row: &Row) -> bool {
-        row.refs == self.current
-            && row.left == self.left
-            && has(row, Datum::ConnCur, u64::from(self.current))
-            && has(row, Datum::SessCnt, self.sessions)
-            && has(row, Datum::BytesInCnt, self.bytes_in)
-            && has(row, Datum::BytesOutCnt, self.bytes_out)
+        let values = [
+            (Datum::ConnCur, u64::from(self.current)),
+            (Datum::SessCnt, self.sessions),
+            (Datum::BytesInCnt, self.bytes_in),
+            (Datum::BytesOutCnt, self.bytes_out),
+        ];
+        row.refs == self.current && row.left == self.left && has_each(row, &values)
     }
 }
 

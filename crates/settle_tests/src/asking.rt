@@ -29,14 +29,15 @@ pub enum Call {
     Release,
 }
 
-/// Puts gpc0 of the key of 5.
-fn put(
+/// Sets gpc0 of the key of a number to 3.
+pub fn put(
     rt: &impl Wait,
     alloc: Global,
     table: &Shards<PlainTable>,
     seat: &mut Seat,
+    number: u32,
 ) -> Result<Reply, Refusal> {
-    let key = key(alloc, 5)?;
+    let key = key(alloc, number)?;
     let pair = Cell {
         field: Field::plain(Datum::Gpc0),
         value: 3,
@@ -109,7 +110,7 @@ fn reply_to(
     call: Call,
 ) -> Result<Reply, Refusal> {
     match call {
-        Call::Put => put(rt, alloc, table, seat),
+        Call::Put => put(rt, alloc, table, seat, 5),
         Call::Track => track(rt, alloc, table, seat, 5, 10),
         Call::TrackOther => track(rt, alloc, table, seat, 7, 35),
         Call::Look | Call::Count | Call::Release => use_held(rt, table, seat, held, call),

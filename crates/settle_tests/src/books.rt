@@ -118,27 +118,46 @@ enum Tracked {
     Otherwise,
 }
 
-/// Tracks the key of a number.
-fn try_track(rt: &impl Wait, alloc: Global, opened: &mut Opened, number: u32) -> Tracked {
-    let (table, seats) = opened;
-    let Some(seat) = seats.as_mut_slice().first_mut() else {
-        return Tracked::Otherwise;
-    };
-    match track(rt, alloc, table, seat, number, 0) {
-        Ok(Reply::Tracked { .. }) => Tracked::Yes,
-        Ok(Reply::Full) => Tracked::Full,
-        Ok(Reply::NoRefs) => Tracked::NoRefs,
+/// What a reply tells of a track.
+fn told_by(reply: &Reply) -> Tracked {
+    match reply {
+        Reply::Tracked { .. } => Tracked::Yes,
+        Reply::Full => Tracked::Full,
+        Reply::NoRefs => Tracked::NoRefs,
         _ => Tracked::Otherwise,
     }
 }
 
+/// Tracks the key of a number by a seat.
+fn track_by(
+    rt: &impl Wait,
+    alloc: Global,
+    table: &Shards<PlainTable>,
+    seat: &mut Seat,
+    number: u32,
+) -> Tracked {
+    match track(rt, alloc, table, seat, number, 0) {
+        Ok(reply) => told_by(&reply),
+        Err(_) => Tracked::Otherwise,
+    }
+}
+
+/// Tracks the key of a number by the first seat.
+fn try_track(rt: &impl Wait, alloc: Global, opened: &mut Opened, number: u32) -> Tracked {
+    let (table, seats) = opened;
+    match seats.as_mut_slice().first_mut() {
+        Some(seat) => track_by(rt, alloc, table, seat, number),
+        None => Tracked::Otherwise,
+    }
+}
+
 /// A table of two shards with so many places, each shard of which may have so many references, and its only seat.
-fn open_narrow(alloc: Global, size: u32, max_refs: u32) -> Option<Opened>
+pub fn open_narrow(alloc: Global, size: u32, max_refs: u32, keep: bool) -> Option<Opened>
     requires size { (2 ≤ size) × (size ≤ 2 ^ 30) }
     requires max_refs { (1 ≤ max_refs) × (max_refs ≤ 2 ^ 20) }
 {
     match spec(alloc, size, max_refs, 1_000) {
-        Ok(spec) => Shards::new(alloc, spec, 2, 1, true).ok(),
+        Ok(spec) => Shards::new(alloc, spec, 2, 1, keep).ok(),
         Err(_) => None,
     }
 }
@@ -155,11 +174,33 @@ fn three_tracks(rt: &impl Wait, alloc: Global, opened: Option<Opened>) -> Option
 #[test]
 fn want_of_room_is_told(rt: HostRuntime) {
     let full = Some([Tracked::Yes, Tracked::Full, Tracked::Yes]);
-    let narrow = open_narrow(rt.alloc(), 2, 5);
+    let narrow = open_narrow(rt.alloc(), 2, 5, true);
     assert!(rt; three_tracks(&rt, rt.alloc(), narrow) == full);
     let no_refs = Some([Tracked::Yes, Tracked::NoRefs, Tracked::NoRefs]);
-    let narrow = open_narrow(rt.alloc(), 12, 1);
+    let narrow = open_narrow(rt.alloc(), 12, 1, true);
     assert!(rt; three_tracks(&rt, rt.alloc(), narrow) == no_refs);
+}
+
+/// The field that a listing says isn't stored.
+fn field_of(listing: &Listing) -> Option<Field> {
+    match listing {
+        Listing::NotStored(field) => Some(*field),
+        Listing::Rows { .. } => None,
+    }
+}
+
+/// The field that a listing by a seat says isn't stored.
+fn field_not_listed(
+    rt: &impl Wait,
+    alloc: Global,
+    table: &Shards<PlainTable>,
+    seat: &mut Seat,
+    filter: &Filter,
+) -> Option<Field> {
+    match list(rt, alloc, table, seat, filter) {
+        Ok(listing) => field_of(&listing),
+        Err(_) => None,
+    }
 }
 
 /// The field that a listing by the first seat says isn't stored.
@@ -170,10 +211,9 @@ fn field_not_stored(
     filter: &Filter,
 ) -> Option<Field> {
     let (table, seats) = opened;
-    let seat = seats.as_mut_slice().first_mut()?;
-    match list(rt, alloc, table, seat, filter) {
-        Ok(Listing::NotStored(field)) => Some(field),
-        _ => None,
+    match seats.as_mut_slice().first_mut() {
+        Some(seat) => field_not_listed(rt, alloc, table, seat, filter),
+        None => None,
     }
 }
 

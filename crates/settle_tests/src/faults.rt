@@ -3,10 +3,12 @@
 ghost use Rattle.std.specs.Prelude.{◌≤◌, ◌^◌};
 
 use crate::asking::{get, track};
+use crate::books::open_narrow;
 use crate::tables::{Opened, Outcome, open, show};
-use drawn_calls::{Held, spec, ticket_of};
+use drawn_calls::{Held, ticket_of};
 use settlement::{Fault, Settled, check};
 use shard_locks::{Shards, Unlocked};
+use shard_seats::Seat;
 use std::alloc::Global;
 use std::sync::Wait;
 use stick_table::{PlainTable, Refusal, Reply, Ticket};
@@ -29,11 +31,23 @@ fn track_five(rt: &impl Wait, alloc: Global, opened: &mut Opened) -> Option<Held
     told_held(&track(rt, alloc, table, seat, 5, 0))
 }
 
+/// Whether a get of the entry of a number, at a moment, is answered.
+fn is_got(
+    rt: &impl Wait,
+    alloc: Global,
+    table: &Shards<PlainTable>,
+    seat: &mut Seat,
+    number: u32,
+    now: u32,
+) -> bool {
+    get(rt, alloc, table, seat, number, now).is_ok()
+}
+
 /// Whether a get of the entry of 5 by the first seat, at a moment, is answered.
 fn get_five(rt: &impl Wait, alloc: Global, opened: &mut Opened, now: u32) -> bool {
     let (table, seats) = opened;
     match seats.as_mut_slice().first_mut() {
-        Some(seat) => get(rt, alloc, table, seat, 5, now).is_ok(),
+        Some(seat) => is_got(rt, alloc, table, seat, 5, now),
         None => false,
     }
 }
@@ -42,7 +56,7 @@ fn get_five(rt: &impl Wait, alloc: Global, opened: &mut Opened, now: u32) -> boo
 fn get_six(rt: &impl Wait, alloc: Global, opened: &mut Opened, now: u32) -> bool {
     let (table, seats) = opened;
     match seats.as_mut_slice().last_mut() {
-        Some(seat) => get(rt, alloc, table, seat, 6, now).is_ok(),
+        Some(seat) => is_got(rt, alloc, table, seat, 6, now),
         None => false,
     }
 }
@@ -80,10 +94,30 @@ fn called(
 }
 
 /// The table and its seats as they come back, where they are unsettled for this fault.
-fn unsettled(alloc: Global, opened: Opened, held: &[Held], wanted: Fault) -> Option<Opened> {
+pub fn unsettled(alloc: Global, opened: Opened, held: &[Held], wanted: Fault) -> Option<Opened> {
     match show(alloc, opened, held) {
         Outcome::Unsettled(fault, back) => if fault == wanted { Some(back) } else { None },
         _ => None,
+    }
+}
+
+/// A table, and its seats but for one, and that seat.
+fn left_out(opened: Opened, place: usize) -> Option<(Opened, Seat)> {
+    let (table, mut seats) = opened;
+    if place < seats.len() {
+        let left_out = seats.remove(place);
+        Some(((table, seats), left_out))
+    } else {
+        None
+    }
+}
+
+/// A table, and its seats with one more behind them.
+pub fn with_seat(opened: Opened, seat: Seat) -> Option<Opened> {
+    let (table, mut seats) = opened;
+    match seats.push(seat) {
+        Ok(()) => Some((table, seats)),
+        Err(_) => None,
     }
 }
 
@@ -95,15 +129,10 @@ fn unsettled_without(
     held: &[Held],
     wanted: Fault,
 ) -> Option<Opened> {
-    let (table, mut seats) = opened;
-    if seats.len() <= place {
-        return None;
-    }
-    let left_out = seats.remove(place);
-    let (table, mut seats) = unsettled(alloc, (table, seats), held, wanted)?;
-    match seats.push(left_out) {
-        Ok(()) => Some((table, seats)),
-        Err(_) => None,
+    let (opened, seat) = left_out(opened, place)?;
+    match unsettled(alloc, opened, held, wanted) {
+        Some(back) => with_seat(back, seat),
+        None => None,
     }
 }
 
@@ -242,12 +271,9 @@ fn receipts_are_those_of_the_record(rt: HostRuntime) {
 fn table_of(alloc: Global, size: u32) -> Option<Shards<PlainTable>>
     requires { (2 ≤ size) × (size ≤ 2 ^ 30) }
 {
-    let Ok(spec) = spec(alloc, size, 5, 1_000) else {
-        return None;
-    };
-    match Shards::new(alloc, spec, 2, 1, false) {
-        Ok((table, _)) => Some(table),
-        Err(_) => None,
+    match open_narrow(alloc, size, 5, false) {
+        Some((table, _)) => Some(table),
+        None => None,
     }
 }
 

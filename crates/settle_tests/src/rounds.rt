@@ -2,13 +2,12 @@
 
 ghost use Rattle.std.specs.Prelude.{◌≡◌, length, IfSome};
 
-use crate::asking::get;
+use crate::asking::{get, put};
 use crate::books::{is_put, listed};
-use crate::tables::{Outcome, place, show};
-use drawn_calls::{ask, key, spec};
+use crate::tables::{Outcome, show};
+use drawn_calls::spec;
 use housekeeping::{Kept, Pace, housekeep};
 use moments::StoppedClock;
-use sequence::Sequence;
 use settlement::Settled;
 use shard_book::Book;
 use shard_locks::Shards;
@@ -17,8 +16,7 @@ use std::alloc::Global;
 use std::slice;
 use std::sync::Wait;
 use std::sync::atomic::{AtomicU64, Ordering};
-use stick_table::{Cell, Event, PlainTable, Reply, Row};
-use stored_data::{Datum, Field};
+use stick_table::{PlainTable, Reply, Row};
 
 /// A pace of so many rounds.
 #[derive(Drop)]
@@ -63,17 +61,20 @@ fn alone(alloc: Global, seat: Seat) -> Option<Vec<Seat>>
     }
 }
 
+/// Whether a reply tells of a new entry.
+fn is_created(reply: &Reply) -> bool {
+    match reply {
+        Reply::Written { created } => *created,
+        _ => false,
+    }
+}
+
 /// Whether gpc0 of the key of 1 is set to 3, in a new entry.
 fn puts(rt: &impl Wait, alloc: Global, table: &Shards<PlainTable>, seat: &mut Seat) -> bool {
-    let pair = Cell {
-        field: Field::plain(Datum::Gpc0),
-        value: 3,
-    };
-    let (Ok(key), Ok(pairs)) = (key(alloc, 1), Sequence::from_slice(alloc, &[pair])) else {
-        return false;
-    };
-    let reply = ask(rt, table, seat, place(table, 0), Event::Put(0, key, pairs));
-    matches!(reply, Ok(Reply::Written { created }) if created)
+    match put(rt, alloc, table, seat, 1) {
+        Ok(reply) => is_created(&reply),
+        Err(_) => false,
+    }
 }
 
 /// Whether a row is the one that was put.

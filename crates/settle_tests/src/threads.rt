@@ -1,5 +1,6 @@
 //! Two threads that share a table, and what it is settled with once they have ended.
 
+use crate::faults::{unsettled, with_seat};
 use crate::records::{is_counted, is_noted};
 use crate::tables::{Opened, Outcome, open, show};
 use drawn_calls::{Caller, Drawing, Held, key};
@@ -10,7 +11,8 @@ use std::alloc::Global;
 use std::sync::Wait;
 use std::thread;
 use std::thread::Threads;
-use stick_table::{Event, PlainTable};
+use stick_key::StickKey;
+use stick_table::{Event, PlainTable, Table};
 
 /// How many calls each thread makes.
 const CALLS: usize = 1_000;
@@ -23,28 +25,54 @@ pub struct Noted {
     pub held: Vec<Held>,
 }
 
-/// A caller by a seat, which holds nothing yet.
-fn caller_of(alloc: Global, table: &Shards<PlainTable>, seat: Seat) -> Caller<'_, PlainTable> {
-    let drawing = Drawing {
+impl Noted {
+    /// The seat and the notes.
+    fn into_parts(self) -> (Seat, Vec<Receipt>) {
+        (self.seat, self.notes)
+    }
+}
+
+/// What is drawn for a seat: by its number.
+fn drawing_of(seat: &Seat) -> Drawing {
+    Drawing {
         seed: u64::from(seat.number()),
         keys: 16,
         moments: 2_000,
-    };
+    }
+}
+
+/// A caller by a seat, which holds nothing yet.
+fn caller_of<T: Table>(alloc: Global, table: &Shards<T>, seat: Seat) -> Caller<'_, T> {
+    let drawing = drawing_of(&seat);
     Caller::new(alloc, table, seat, drawing)
 }
 
-/// Has a caller call until so many calls are noted; answers whether none was refused.
-fn call_on(
+/// Notes a call; answers whether there is memory for it.
+fn note_down(notes: &mut Vec<Receipt>, note: Receipt) -> bool {
+    notes.push(note).is_ok()
+}
+
+/// Has a caller call, and notes that; answers whether it wasn't refused.
+fn call_once<T: Table>(
     rt: &impl Wait,
-    caller: &mut Caller<'_, PlainTable>,
+    caller: &mut Caller<'_, T>,
+    notes: &mut Vec<Receipt>,
+) -> bool {
+    match caller.call(rt) {
+        Ok(note) => note_down(notes, note),
+        Err(_) => false,
+    }
+}
+
+/// Has a caller call until so many calls are noted; answers whether none was refused.
+fn call_on<T: Table>(
+    rt: &impl Wait,
+    caller: &mut Caller<'_, T>,
     notes: &mut Vec<Receipt>,
     calls: usize,
 ) -> bool {
     for _ in notes.len()..calls {
-        let Ok(note) = caller.call(rt) else {
-            return false;
-        };
-        if notes.push(note).is_err() {
+        if !call_once(rt, caller, notes) {
             return false;
         }
     }
@@ -52,10 +80,10 @@ fn call_on(
 }
 
 /// The calls of one thread, on and on until there are so many. What its caller held before, it still holds.
-fn call_often(
+fn call_often<T: Table>(
     rt: &impl Wait,
     alloc: Global,
-    table: &Shards<PlainTable>,
+    table: &Shards<T>,
     noted: Noted,
 ) -> Option<Noted> {
     let Noted {
@@ -105,27 +133,37 @@ fn unnoted(alloc: Global, seat: Seat) -> Noted {
     }
 }
 
+/// Has a caller track a key, and notes that call.
+fn track<T: Table>(
+    rt: &impl Wait,
+    caller: &mut Caller<'_, T>,
+    notes: &mut Vec<Receipt>,
+    key: StickKey,
+) -> bool {
+    match caller.ask(rt, 0, Event::Track(0, key)) {
+        Ok(note) => note_down(notes, note),
+        Err(_) => false,
+    }
+}
+
 /// Has a caller track 5, which lies on the first shard, and notes that call.
-fn track_five(
+fn track_five<T: Table>(
     rt: &impl Wait,
     alloc: Global,
-    caller: &mut Caller<'_, PlainTable>,
+    caller: &mut Caller<'_, T>,
     notes: &mut Vec<Receipt>,
 ) -> bool {
-    let Ok(key) = key(alloc, 5) else {
-        return false;
-    };
-    match caller.ask(rt, 0, Event::Track(0, key)) {
-        Ok(note) => notes.push(note).is_ok(),
+    match key(alloc, 5) {
+        Ok(key) => track(rt, caller, notes, key),
         Err(_) => false,
     }
 }
 
 /// A seat whose caller has noted that it made a reference to the entry of 5, and holds it.
-fn track_first(
+fn track_first<T: Table>(
     rt: &impl Wait,
     alloc: Global,
-    table: &Shards<PlainTable>,
+    table: &Shards<T>,
     seat: Seat,
 ) -> Option<Noted> {
     let mut notes = Vec::new(alloc);
@@ -168,18 +206,10 @@ fn miss_calls(
     second: Seat,
     held: &[Held],
 ) -> Option<Opened> {
-    let mut seats = Vec::new(alloc);
-    seats.push(first).ok()?;
-    let Outcome::Unsettled(Fault::MissingCalls(0), (table, mut seats)) = show(
-        alloc,
-        (table, seats),
-        held,
-    ) else {
-        return None;
-    };
-    match seats.push(second) {
-        Ok(()) => Some((table, seats)),
-        Err(_) => None,
+    let opened = with_seat((table, Vec::new(alloc)), first)?;
+    match unsettled(alloc, opened, held, Fault::MissingCalls(0)) {
+        Some(back) => with_seat(back, second),
+        None => None,
     }
 }
 
@@ -188,10 +218,7 @@ fn miss_first(alloc: Global, opened: Opened, held: &[Held]) -> Option<Opened> {
     let [_, rest @ ..] = held else {
         return None;
     };
-    match show(alloc, opened, rest) {
-        Outcome::Unsettled(Fault::MissingRefs(0), opened) => Some(opened),
-        _ => None,
-    }
+    unsettled(alloc, opened, rest, Fault::MissingRefs(0))
 }
 
 /// Whether so many calls are counted in all.
@@ -218,21 +245,49 @@ fn is_settled(
         && is_noted(alloc, settled, 1, notes)
 }
 
+/// A table that is shown with less than what two callers keep, which it misses; all comes back.
+fn miss(
+    alloc: Global,
+    table: Shards<PlainTable>,
+    first: Seat,
+    second: Seat,
+    held: &[Held],
+) -> Option<Opened> {
+    match miss_calls(alloc, table, first, second, held) {
+        Some(opened) => miss_first(alloc, opened, held),
+        None => None,
+    }
+}
+
+/// Whether a table is settled so.
+fn settles_so(alloc: Global, opened: Opened, notes: [&[Receipt]; 2], held: &[Held]) -> bool {
+    match show(alloc, opened, held) {
+        Outcome::Settled(settled) => is_settled(alloc, &settled, notes, held),
+        _ => false,
+    }
+}
+
+/// Whether a table is settled with what two callers noted and all that they hold, and not with less.
+fn settles_holding(
+    alloc: Global,
+    table: Shards<PlainTable>,
+    first: Noted,
+    second: Noted,
+    held: &[Held],
+) -> bool {
+    let (first, notes) = first.into_parts();
+    let (second, more) = second.into_parts();
+    match miss(alloc, table, first, second, held) {
+        Some(opened) => settles_so(alloc, opened, [&notes, &more], held),
+        None => false,
+    }
+}
+
 /// Whether a table is settled with what two callers keep, and not with less.
 fn settles_with(alloc: Global, table: Shards<PlainTable>, first: Noted, second: Noted) -> bool {
-    let Some(held) = held_by_both(alloc, first.held.as_slice(), second.held.as_slice()) else {
-        return false;
-    };
-    let Some(opened) = miss_calls(alloc, table, first.seat, second.seat, &held) else {
-        return false;
-    };
-    let Some(opened) = miss_first(alloc, opened, &held) else {
-        return false;
-    };
-    let notes = [first.notes.as_slice(), second.notes.as_slice()];
-    match show(alloc, opened, &held) {
-        Outcome::Settled(settled) => is_settled(alloc, &settled, notes, &held),
-        _ => false,
+    match held_by_both(alloc, &first.held, &second.held) {
+        Some(held) => settles_holding(alloc, table, first, second, &held),
+        None => false,
     }
 }
 

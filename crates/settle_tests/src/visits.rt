@@ -193,6 +193,55 @@ fn an_accepted_connection_leaves_what_was_counted(rt: HostRuntime) {
     assert!(rt; is_served(&rt, rt.alloc()));
 }
 
+/// Whether the table shows the address with one session, so many references and so many ms left.
+fn shows_one(
+    alloc: Global,
+    rt: &impl Wait,
+    table: &Shards<PlainTable>,
+    viewer: &mut Seat,
+    current: u32,
+    left: u64,
+) -> bool {
+    let wanted = Wanted {
+        current,
+        left,
+        sessions: 1,
+        bytes_in: 0,
+        bytes_out: 0,
+    };
+    shows(rt, alloc, table, viewer, wanted)
+}
+
+/// Whether a connection is rejected, and holds a reference.
+fn is_rejected(
+    alloc: Global,
+    rt: &impl Wait,
+    tables: &[Shards<PlainTable>],
+    seats: &mut [Seat],
+    conn: &mut Conn<'_, TrackRef>,
+    clock: &mut CountingClock,
+) -> bool
+    requires ready { IsReady tables.now seats.old conn.old }
+    ensures ready { IsReady tables.now seats.new conn.new }
+{
+    let is_admitted = is_judged_good(alloc, rt, tables, seats, conn, clock);
+    !is_admitted && holds_in(conn, Phase::Rejected)
+}
+
+/// Whether a connection goes on to where it rests or ends, and no release is refused.
+fn is_still(
+    alloc: Global,
+    rt: &impl Wait,
+    tables: &[Shards<PlainTable>],
+    seats: &mut [Seat],
+    conn: &mut Conn<'_, TrackRef>,
+    clock: &mut CountingClock,
+) -> bool
+    requires ready { IsReady tables.now seats.old conn.old }
+{
+    go_on(alloc, rt, tables, seats, conn, clock) == Rested::Still
+}
+
 /// Whether a connection beside another is tracked, at 104 ms, by the fifth move, and rejected; and is gone once it goes
 /// on, behind a look at the table at 500 ms.
 fn goes_away(
@@ -206,24 +255,11 @@ fn goes_away(
 ) -> bool
     requires ready { IsReady tables.now seats.old conn.old }
 {
-    let wanted = Wanted {
-        current: 2,
-        left: 604,
-        sessions: 1,
-        bytes_in: 0,
-        bytes_out: 0,
-    };
-    let is_admitted = is_judged_good(alloc, rt, tables, seats, conn, clock);
-    let is_held = holds_in(conn, Phase::Rejected);
-    let are_both = shows(rt, alloc, &tables[0], viewer, wanted);
-    let rested = go_on(alloc, rt, tables, seats, conn, clock);
-    let wanted = Wanted {
-        current: 1,
-        left: 1_000,
-        ..wanted
-    };
-    let is_one = shows(rt, alloc, &tables[0], viewer, wanted);
-    !is_admitted && is_held && are_both && rested == Rested::Still && is_one
+    let is_rejected = is_rejected(alloc, rt, tables, seats, conn, clock);
+    let are_both = shows_one(alloc, rt, &tables[0], viewer, 2, 604);
+    let is_still = is_still(alloc, rt, tables, seats, conn, clock);
+    let is_one = shows_one(alloc, rt, &tables[0], viewer, 1, 1_000);
+    is_rejected && are_both && is_still && is_one
 }
 
 /// Whether a connection that comes beside another goes away with nothing.
