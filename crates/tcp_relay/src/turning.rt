@@ -10,16 +10,22 @@ use crate::watch::{LISTENER, TICK, Watch};
 use crate::width::Width;
 use crate::worker::Worker;
 use crate::{Gate, ServeRuntime};
-use mio::net;
+use mio::{Events, net};
 use moments::Clock;
 use running_clock::RunningClock;
 use socket_link::{Buffer, Link, Ready, reset};
 use std::io::ErrorKind;
 use std::net::{SocketAddr, TcpStream};
+use std::thread;
+use std::time::Duration;
 use stick_table::Table;
 
 /// How many connections are accepted before others get their turn.
 const ACCEPTS: u32 = 16;
+
+/// How long a worker rests once it has rejected all that had come, in us. Clients that come meanwhile are accepted in one lot:
+/// a third of what a rejected one takes is to be woken for it alone.
+const REST: u64 = 100;
 
 /// A worker at its work: what it waits for, and by which clock.
 #[derive(Drop)]
@@ -151,25 +157,27 @@ fn unaccepted<W: Width>(worker: &mut Worker<'_, W>, kind: ErrorKind) -> Accepted
     }
 }
 
-/// Accepts what connections there are, and then has the listener reported again where there may be more.
+/// Accepts what connections there are, and then has the listener reported again where there may be more. Whether there are none
+/// now.
 fn accept_some<'a, T: Table, R: ServeRuntime, G: Gate, W: Width>(
     house: &House<'a, T, R, G, W>,
     worker: &mut Worker<'a, W>,
     shift: &mut Shift<'_, R>,
     buffer: &mut Buffer,
-) {
+) -> bool {
     shift.desk.has_waiting = false;
     for _connection in 0..ACCEPTS {
         match accept_one(house, worker, shift, buffer) {
             Accepted::TakenIn => {}
-            Accepted::NoMore => return,
+            Accepted::NoMore => return true,
             Accepted::Waits => {
                 shift.desk.has_waiting = true;
-                return;
+                return false;
             }
         }
     }
     let _ = shift.watch.again();
+    false
 }
 
 /// Gives a connection its turn, of which a socket is ready.
@@ -201,7 +209,29 @@ fn close_silent<'a, T: Table, R: ServeRuntime, G, W: Width>(
     }
 }
 
-/// Waits until something is ready, and gives each its turn. False where waiting failed.
+/// Gives each that is ready its turn. Whether that was the listener alone, where no connection waits now.
+fn turn_each<'a, T: Table, R: ServeRuntime, G: Gate, W: Width>(
+    house: &House<'a, T, R, G, W>,
+    worker: &mut Worker<'a, W>,
+    shift: &mut Shift<'_, R>,
+    events: &Events,
+    buffer: &mut Buffer,
+    moment: u64,
+) -> bool {
+    let mut has_all = true;
+    for event in events.iter() {
+        if event.token() != LISTENER {
+            turn(house, worker, shift, buffer, Ready::of(event), moment);
+            has_all = false;
+        } else if !accept_some(house, worker, shift, buffer) {
+            has_all = false;
+        }
+    }
+    has_all
+}
+
+/// Waits until something is ready, and gives each its turn. Where each client that came was rejected, and that was all, it rests
+/// a moment before the next. False where waiting failed.
 pub(crate) fn turn_all<'a, T: Table, R: ServeRuntime, G: Gate, W: Width>(
     house: &House<'a, T, R, G, W>,
     worker: &mut Worker<'a, W>,
@@ -214,19 +244,16 @@ pub(crate) fn turn_all<'a, T: Table, R: ServeRuntime, G: Gate, W: Width>(
         return false;
     }
     let moment = shift.clock.now();
-    let open = worker.places.open();
-    for event in events.iter() {
-        if event.token() == LISTENER {
-            accept_some(house, worker, shift, buffer);
-        } else {
-            turn(house, worker, shift, buffer, Ready::of(event), moment);
-        }
-    }
+    let (open, tally) = (worker.places.open(), worker.tally);
+    let has_all = turn_each(house, worker, shift, events, buffer, moment);
     // One that has ended has left its place and its descriptors.
     if shift.desk.has_waiting && worker.places.open() < open {
         let _ = shift.watch.again();
     }
     look_after(house, worker, shift, moment);
+    if has_all && worker.places.open() == open && worker.tally.has_only_rejected(tally) {
+        thread::sleep(house.rt, Duration::from_micros(REST));
+    }
     true
 }
 

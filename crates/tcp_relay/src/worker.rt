@@ -1,6 +1,6 @@
 //! What a worker has done, and what it holds.
 
-ghost use Rattle.std.specs.Prelude.{◌≡◌, ◌+◌, ◌*◌, ◌||◌, ℕ, if◌then◌else◌, length, map, option_map, vec_capacity, vec_len};
+ghost use Rattle.std.specs.Prelude.{◌≡◌, ◌+◌, ◌*◌, ◌==◌, ◌&&◌, ◌||◌, ℕ, not, if◌then◌else◌, length, map, option_map, vec_capacity, vec_len};
 ghost use Rattle.tcp_relay.specs.Counts.{more, sum};
 ghost use Rattle.tcp_relay.specs.Seating.{HaveEach, HaveFew, HaveRoom, held_in};
 ghost use Rattle.tcp_relay.specs.Visitors.{left_by_all};
@@ -56,6 +56,13 @@ impl Tally {
         ensures failed { self.new.has_failed ≡ self.old.has_failed }
     {
         self.unaccepted = self.unaccepted.saturating_add(1);
+    }
+
+    /// Whether connections were rejected since an earlier tally, and no admitted one has ended.
+    pub(crate) fn has_only_rejected(self, earlier: Tally) -> bool
+        ensures exact { result ≡ (not (self.rejected == earlier.rejected) && (self.admitted == earlier.admitted)) }
+    {
+        self.rejected != earlier.rejected && self.admitted == earlier.admitted
     }
 
     /// What two have counted together.
