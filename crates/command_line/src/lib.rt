@@ -56,150 +56,256 @@ milliseconds since the start. With --stop-after, once N connections have ended, 
 NAME: C calls, R references' is printed for each table whose record is what its callers
 were told; or 'unsettled NAME: S1' and its kin, and the status is 1.";
 
-/// `stickd check`.
-fn check_command<'a>(alloc: Global) -> Result<Command<'a>, AllocError> {
-    let file = Arg::new(alloc, "FILE")
-        .required(true)
-        .help("The configuration");
-    let explain = Arg::new(alloc, "explain")
+/// A command whose one argument yet is its configuration, with what its help says first and last.
+fn file_command<'a>(
+    alloc: Global,
+    name: &'a str,
+    about: &'a str,
+    help: &'a str,
+    file: Arg<'a>,
+) -> Result<Command<'a>, AllocError> {
+    Command::new(alloc, name)
+        .about(about)
+        .after_help(help)
+        .arg(file)
+}
+
+/// Adds an argument to a command, if there was memory for it so far. A command is made by a row of such calls, since each
+/// `?` between them, and each clause of clap's that they would carry on, costs its proof more than the call.
+fn add_argument<'a>(
+    command: Result<Command<'a>, AllocError>,
+    argument: Arg<'a>,
+) -> Result<Command<'a>, AllocError> {
+    command?.arg(argument)
+}
+
+/// The configuration that a command reads.
+fn file_argument<'a>(alloc: Global, required: bool, help: &'a str) -> Arg<'a> {
+    Arg::new(alloc, "FILE").required(required).help(help)
+}
+
+/// The option that asks for an explanation of each fault.
+fn explain_option<'a>(alloc: Global) -> Arg<'a> {
+    Arg::new(alloc, "explain")
         .long("explain")
         .action(ArgAction::SetTrue)
         .help(
             "Show the line below a fault or a warning, and say what commonly causes it, or what is lost",
-        );
-    Command::new(alloc, "check")
-        .about("Read a configuration, and say what is wrong with it")
-        .after_help(CHECK_HELP)
-        .arg(file)?
-        .arg(explain)
+        )
+}
+
+/// `stickd check`.
+fn check_command<'a>(alloc: Global) -> Result<Command<'a>, AllocError> {
+    let command = file_command(
+        alloc,
+        "check",
+        "Read a configuration, and say what is wrong with it",
+        CHECK_HELP,
+        file_argument(alloc, true, "The configuration"),
+    );
+    add_argument(command, explain_option(alloc))
 }
 
 /// `stickd replay`.
 fn replay_command<'a>(alloc: Global) -> Result<Command<'a>, AllocError> {
-    let file = Arg::new(alloc, "FILE").help(
+    let file = file_argument(
+        alloc,
+        false,
         "The configuration whose tables and rules are used [default: one table, t]",
     );
-    Command::new(alloc, "replay")
-        .about("Replay a timed script of connections and commands on standard input")
-        .after_help(REPLAY_HELP)
-        .arg(file)?
-        .arg(shards_option(alloc))?
-        .arg(purge_option(alloc))
+    let command = file_command(
+        alloc,
+        "replay",
+        "Replay a timed script of connections and commands on standard input",
+        REPLAY_HELP,
+        file,
+    );
+    let command = add_argument(command, shards_option(alloc));
+    add_argument(command, purge_option(alloc))
+}
+
+/// An option that has a value.
+fn value_option<'a>(alloc: Global, name: &'a str, value: &'a str, help: &'a str) -> Arg<'a> {
+    Arg::new(alloc, name)
+        .long(name)
+        .value_name(value)
+        .help(help)
+}
+
+/// An option that has a number, 1 to `most`.
+fn count_option<'a>(
+    alloc: Global,
+    name: &'a str,
+    value: &'a str,
+    most: u32,
+    help: &'a str,
+) -> Arg<'a> {
+    value_option(alloc, name, value, help).value_parser(value_parser!(u32).range(
+        1..=i64::from(most),
+    ))
 }
 
 /// The option that says in how many parts each table is kept.
 fn shards_option<'a>(alloc: Global) -> Arg<'a> {
-    Arg::new(alloc, "shards")
-        .long("shards")
-        .value_name("K")
-        .value_parser(value_parser!(u32).range(1..=64))
-        .default_value("1")
-        .help("In how many parts each table is kept, 1 to 64")
+    count_option(
+        alloc,
+        "shards",
+        "K",
+        64,
+        "In how many parts each table is kept, 1 to 64",
+    )
+    .default_value("1")
 }
 
 /// The option that says how many entries go at once where a table is full.
 fn purge_option<'a>(alloc: Global) -> Arg<'a> {
-    Arg::new(alloc, "purge")
-        .long("purge")
-        .value_name("N")
-        .value_parser(value_parser!(u32).range(1..=1024))
-        .default_value("1")
-        .help("How many of its oldest entries a full table removes for a new one, 1 to 1024")
+    count_option(
+        alloc,
+        "purge",
+        "N",
+        1024,
+        "How many of its oldest entries a full table removes for a new one, 1 to 1024",
+    )
+    .default_value("1")
 }
 
 /// The option that says how long a server may take to accept a connection.
 fn connect_option<'a>(alloc: Global) -> Arg<'a> {
-    Arg::new(alloc, CONNECT)
-        .long(CONNECT)
-        .value_name("TIME")
-        .default_value("5s")
-        .help("How long a server may take to accept a connection, as 1500ms, 5s or 10m")
+    value_option(
+        alloc,
+        CONNECT,
+        "TIME",
+        "How long a server may take to accept a connection, as 1500ms, 5s or 10m",
+    )
+    .default_value("5s")
 }
 
 /// The option that says how long a client may be silent.
 fn client_option<'a>(alloc: Global) -> Arg<'a> {
-    Arg::new(alloc, CLIENT)
-        .long(CLIENT)
-        .value_name("TIME")
-        .help("How long a client may be silent [default: for ever]")
+    value_option(
+        alloc,
+        CLIENT,
+        "TIME",
+        "How long a client may be silent [default: for ever]",
+    )
 }
 
 /// The option that says how long a server may be silent.
 fn server_option<'a>(alloc: Global) -> Arg<'a> {
-    Arg::new(alloc, SERVER)
-        .long(SERVER)
-        .value_name("TIME")
-        .help("How long a server may be silent [default: for ever]")
+    value_option(
+        alloc,
+        SERVER,
+        "TIME",
+        "How long a server may be silent [default: for ever]",
+    )
 }
 
 /// The limit of all connections together.
 fn connections_option<'a>(alloc: Global) -> Arg<'a> {
-    Arg::new(alloc, "connections")
-        .long("connections")
-        .value_name("N")
-        .value_parser(value_parser!(u32).range(1..))
-        .default_value("10000")
-        .help("How many connections are open at once at most, on all threads together")
+    count_option(
+        alloc,
+        "connections",
+        "N",
+        u32::MAX,
+        "How many connections are open at once at most, on all threads together",
+    )
+    .default_value("10000")
 }
 
 /// When the record of a part of a table begins again.
 fn roll_option<'a>(alloc: Global) -> Arg<'a> {
-    Arg::new(alloc, "roll-at")
-        .long("roll-at")
-        .value_name("N")
-        .value_parser(value_parser!(u32).range(1..))
-        .default_value("65536")
-        .help("How many calls of a part of a table are recorded before its record begins again")
+    count_option(
+        alloc,
+        "roll-at",
+        "N",
+        u32::MAX,
+        "How many calls of a part of a table are recorded before its record begins again",
+    )
+    .default_value("65536")
+}
+
+/// The socket on which commands are answered.
+fn socket_option<'a>(alloc: Global) -> Arg<'a> {
+    value_option(
+        alloc,
+        "socket",
+        "PATH",
+        "The Unix socket on which commands are answered",
+    )
+    .required(true)
+}
+
+/// How many threads serve connections.
+fn threads_option<'a>(alloc: Global) -> Arg<'a> {
+    count_option(
+        alloc,
+        "threads",
+        "N",
+        64,
+        "How many threads serve connections, 1 to 64",
+    )
+    .required(true)
+}
+
+/// After how many connections the proxy stops.
+fn stop_option<'a>(alloc: Global) -> Arg<'a> {
+    value_option(
+        alloc,
+        "stop-after",
+        "N",
+        "Stop once N connections have ended, and settle the tables",
+    )
+    .value_parser(value_parser!(u64))
 }
 
 /// `stickd run`.
 fn run_command<'a>(alloc: Global) -> Result<Command<'a>, AllocError> {
-    let file = Arg::new(alloc, "FILE")
-        .required(true)
-        .help("The configuration");
-    let socket = Arg::new(alloc, "socket")
-        .long("socket")
-        .value_name("PATH")
-        .required(true)
-        .help("The Unix socket on which commands are answered");
-    let threads = Arg::new(alloc, "threads")
-        .long("threads")
-        .value_name("N")
-        .required(true)
-        .value_parser(value_parser!(u32).range(1..=64))
-        .help("How many threads serve connections, 1 to 64");
-    let stop_after = Arg::new(alloc, "stop-after")
-        .long("stop-after")
-        .value_name("N")
-        .value_parser(value_parser!(u64))
-        .help("Stop once N connections have ended, and settle the tables");
-    Command::new(alloc, "run")
-        .about("Run the proxy, and answer commands on a socket")
-        .after_help(RUN_HELP)
-        .arg(file)?
-        .arg(socket)?
-        .arg(threads)?
-        .arg(shards_option(alloc))?
-        .arg(purge_option(alloc))?
-        .arg(connections_option(alloc))?
-        .arg(connect_option(alloc))?
-        .arg(client_option(alloc))?
-        .arg(server_option(alloc))?
-        .arg(stop_after)?
-        .arg(roll_option(alloc))
+    let command = file_command(
+        alloc,
+        "run",
+        "Run the proxy, and answer commands on a socket",
+        RUN_HELP,
+        file_argument(alloc, true, "The configuration"),
+    );
+    let command = add_argument(command, socket_option(alloc));
+    let command = add_argument(command, threads_option(alloc));
+    let command = add_argument(command, shards_option(alloc));
+    let command = add_argument(command, purge_option(alloc));
+    let command = add_argument(command, connections_option(alloc));
+    let command = add_argument(command, connect_option(alloc));
+    let command = add_argument(command, client_option(alloc));
+    let command = add_argument(command, server_option(alloc));
+    let command = add_argument(command, stop_option(alloc));
+    add_argument(command, roll_option(alloc))
 }
 
-/// Reads the words of a command line, the program's name first.
-pub fn read_command_line<'a>(alloc: Global, words: &'a [String]) -> Result<ArgMatches<'a>, Error> {
-    let command = Command::new(alloc, "stickd")
+/// Adds a subcommand to a command, if there was memory to make it.
+fn add_subcommand<'a>(
+    command: Command<'a>,
+    subcommand: Result<Command<'a>, AllocError>,
+) -> Result<Command<'a>, AllocError> {
+    command.subcommand(subcommand?)
+}
+
+/// `stickd` with no subcommands yet.
+fn bare_program<'a>(alloc: Global) -> Command<'a> {
+    Command::new(alloc, "stickd")
         .about("Stick tables in HAProxy's language, with answers that are proved")
         .version("0.1.0")
         .subcommand_required(true)
         .arg_required_else_help(true)
-        .subcommand(check_command(alloc)?)?
-        .subcommand(replay_command(alloc)?)?
-        .subcommand(run_command(alloc)?)?;
-    command.try_get_matches_from(words)
+}
+
+/// `stickd` and its subcommands.
+fn program_command<'a>(alloc: Global) -> Result<Command<'a>, AllocError> {
+    let command = add_subcommand(bare_program(alloc), check_command(alloc))?;
+    let command = add_subcommand(command, replay_command(alloc))?;
+    add_subcommand(command, run_command(alloc))
+}
+
+/// Reads the words of a command line, the program's name first.
+pub fn read_command_line<'a>(alloc: Global, words: &'a [String]) -> Result<ArgMatches<'a>, Error> {
+    program_command(alloc)?.try_get_matches_from(words)
 }
 
 /// In how many parts each table is kept. That it is 1 to 64 was seen as the command line was read.
