@@ -5,19 +5,19 @@ use address_text::{
 };
 use stick_key::{read_ipv4, read_ipv6, unmapped};
 
-/// Whether an address is this IPv4 one.
-fn is_ipv4(address: Address, bytes: [u8; 4]) -> bool {
-    match address {
-        Address::V4(read) => read == bytes,
-        Address::V6(_) => false,
-    }
+/// The address that a text should say, of IPv6 by its number.
+#[derive(Clone, Copy)]
+enum Wanted {
+    V4([u8; 4]),
+    V6(u128),
 }
 
-/// Whether an address is the IPv6 one of this number.
-fn is_ipv6(address: Address, number: u128) -> bool {
-    match address {
-        Address::V4(_) => false,
-        Address::V6(read) => u128::from_be_bytes(read) == number,
+/// Whether an address is the wanted one.
+fn is_wanted(address: Address, wanted: Wanted) -> bool {
+    match (address, wanted) {
+        (Address::V4(read), Wanted::V4(bytes)) => read == bytes,
+        (Address::V6(read), Wanted::V6(number)) => u128::from_be_bytes(read) == number,
+        _ => false,
     }
 }
 
@@ -31,18 +31,10 @@ fn network_of(text: &str) -> Option<Network> {
     read_network(text.as_bytes())
 }
 
-/// Whether a text says this IPv4 address.
-fn is_ipv4_address(text: &str, bytes: [u8; 4]) -> bool {
+/// Whether a text says this address.
+fn says_address(text: &str, wanted: Wanted) -> bool {
     match address_of(text) {
-        Some(address) => is_ipv4(address, bytes),
-        None => false,
-    }
-}
-
-/// Whether a text says this IPv6 address.
-fn is_ipv6_address(text: &str, number: u128) -> bool {
-    match address_of(text) {
-        Some(address) => is_ipv6(address, number),
+        Some(address) => is_wanted(address, wanted),
         None => false,
     }
 }
@@ -80,6 +72,19 @@ fn stands_for(number: u128, wanted: Option<[u8; 4]>) -> bool {
     unmapped(number.to_be_bytes()) == wanted
 }
 
+/// Whether an address that stands for an IPv4 one is known from one that doesn't.
+fn are_unmapped() -> bool {
+    stands_for(0xffff_c000_0221, Some([192, 0, 2, 33])) && stands_for(0xc000_0221, None)
+}
+
+/// Whether addresses of both kinds are read, and a network is none.
+fn are_of_both_kinds() -> bool {
+    let wide = Wanted::V6(0xff01_0000_0000_0000_0000_0000_0000_0101);
+    says_address("192.0.2.33", Wanted::V4([192, 0, 2, 33]))
+        && says_address("FF01::101", wide)
+        && address_of("10.0.0.1/8").is_none()
+}
+
 #[test]
 fn addresses_of_both_kinds(rt: HostRuntime) {
     for (text, wanted) in IPV4_TEXTS.iter() {
@@ -88,57 +93,54 @@ fn addresses_of_both_kinds(rt: HostRuntime) {
     for (text, wanted) in IPV6_TEXTS.iter() {
         assert!(rt; reads_ipv6(text, *wanted), "{text}");
     }
-    assert!(rt; stands_for(0xffff_c000_0221, Some([192, 0, 2, 33])));
-    assert!(rt; stands_for(0xc000_0221, None));
-    assert!(rt; is_ipv4_address("192.0.2.33", [192, 0, 2, 33]));
-    assert!(rt; is_ipv6_address("FF01::101", 0xff01_0000_0000_0000_0000_0000_0000_0101));
-    assert!(rt; address_of("10.0.0.1/8").is_none());
+    assert!(rt; are_unmapped());
+    assert!(rt; are_of_both_kinds());
 }
 
-/// Texts of IPv4 networks, with what they say.
-static IPV4_NETWORKS: [(&str, [u8; 4], u8); 8] = [
-    ("10.0.0.1", [10, 0, 0, 1], 32),
-    ("10.0.0.1/32", [10, 0, 0, 1], 32),
-    ("10.0.0.1/8", [10, 0, 0, 1], 8),
-    ("10.0.0.0/0", [10, 0, 0, 0], 0),
-    ("0.0.0.0/0", [0, 0, 0, 0], 0),
-    ("192.168.0.0/0000000016", [192, 168, 0, 0], 16),
-    ("255.255.255.255/31", [255, 255, 255, 255], 31),
-    ("203.0.113.7/24", [203, 0, 113, 7], 24),
-];
-
-/// Texts of IPv6 networks, with what they say; three are worked out in RFC 4291, section 2.3.
-static IPV6_NETWORKS: [(&str, u128, u8); 10] = [
+/// Texts of networks, with what they say; three are worked out in RFC 4291, section 2.3.
+static NETWORKS: [(&str, Wanted, u8); 18] = [
+    ("10.0.0.1", Wanted::V4([10, 0, 0, 1]), 32),
+    ("10.0.0.1/32", Wanted::V4([10, 0, 0, 1]), 32),
+    ("10.0.0.1/8", Wanted::V4([10, 0, 0, 1]), 8),
+    ("10.0.0.0/0", Wanted::V4([10, 0, 0, 0]), 0),
+    ("0.0.0.0/0", Wanted::V4([0, 0, 0, 0]), 0),
+    ("192.168.0.0/0000000016", Wanted::V4([192, 168, 0, 0]), 16),
+    ("255.255.255.255/31", Wanted::V4([255, 255, 255, 255]), 31),
+    ("203.0.113.7/24", Wanted::V4([203, 0, 113, 7]), 24),
     (
         "2001:0DB8:0000:CD30:0000:0000:0000:0000/60",
-        0x2001_0db8_0000_cd30_0000_0000_0000_0000,
+        Wanted::V6(0x2001_0db8_0000_cd30_0000_0000_0000_0000),
         60,
     ),
     (
         "2001:0DB8::CD30:0:0:0:0/60",
-        0x2001_0db8_0000_cd30_0000_0000_0000_0000,
+        Wanted::V6(0x2001_0db8_0000_cd30_0000_0000_0000_0000),
         60,
     ),
     (
         "2001:0DB8:0:CD30::/60",
-        0x2001_0db8_0000_cd30_0000_0000_0000_0000,
+        Wanted::V6(0x2001_0db8_0000_cd30_0000_0000_0000_0000),
         60,
     ),
     (
         "2001:db8::1",
-        0x2001_0db8_0000_0000_0000_0000_0000_0001,
+        Wanted::V6(0x2001_0db8_0000_0000_0000_0000_0000_0001),
         128,
     ),
     (
         "2001:db8::/032",
-        0x2001_0db8_0000_0000_0000_0000_0000_0000,
+        Wanted::V6(0x2001_0db8_0000_0000_0000_0000_0000_0000),
         32,
     ),
-    ("::/0", 0, 0),
-    ("::1/128", 1, 128),
-    ("::ffff:0:0/96", 0xffff_0000_0000, 96),
-    ("::ffff:192.0.2.1/120", 0xffff_c000_0201, 120),
-    ("fe80::/10", 0xfe80_0000_0000_0000_0000_0000_0000_0000, 10),
+    ("::/0", Wanted::V6(0), 0),
+    ("::1/128", Wanted::V6(1), 128),
+    ("::ffff:0:0/96", Wanted::V6(0xffff_0000_0000), 96),
+    ("::ffff:192.0.2.1/120", Wanted::V6(0xffff_c000_0201), 120),
+    (
+        "fe80::/10",
+        Wanted::V6(0xfe80_0000_0000_0000_0000_0000_0000_0000),
+        10,
+    ),
 ];
 
 /// Texts of no network.
@@ -171,29 +173,18 @@ static NO_NETWORKS: [&str; 26] = [
     "localhost",
 ];
 
-/// Whether a text says these IPv4 addresses.
-fn is_ipv4_network(text: &str, address: [u8; 4], length: u8) -> bool {
+/// Whether a text says these addresses.
+fn says_network(text: &str, address: Wanted, length: u8) -> bool {
     match network_of(text) {
-        Some(network) => is_ipv4(network.address, address) && network.length == length,
-        None => false,
-    }
-}
-
-/// Whether a text says these IPv6 addresses.
-fn is_ipv6_network(text: &str, address: u128, length: u8) -> bool {
-    match network_of(text) {
-        Some(network) => is_ipv6(network.address, address) && network.length == length,
+        Some(network) => is_wanted(network.address, address) && network.length == length,
         None => false,
     }
 }
 
 #[test]
 fn networks(rt: HostRuntime) {
-    for (text, address, length) in IPV4_NETWORKS.iter() {
-        assert!(rt; is_ipv4_network(text, *address, *length), "{text}");
-    }
-    for (text, address, length) in IPV6_NETWORKS.iter() {
-        assert!(rt; is_ipv6_network(text, *address, *length), "{text}");
+    for (text, address, length) in NETWORKS.iter() {
+        assert!(rt; says_network(text, *address, *length), "{text}");
     }
     for text in NO_NETWORKS.iter() {
         assert!(rt; network_of(text).is_none(), "{text}");
@@ -281,24 +272,20 @@ fn networks_hold_addresses(rt: HostRuntime) {
 }
 
 /// Texts that say where a listener binds and a server listens, IPv4 addresses first.
-static IPV4_ENDPOINTS: [(&str, [u8; 4], u16); 5] = [
-    ("10.0.0.1:80", [10, 0, 0, 1], 80),
-    ("0.0.0.0:1", [0, 0, 0, 0], 1),
-    ("127.0.0.1:65535", [127, 0, 0, 1], 65535),
-    ("127.0.0.1:00443", [127, 0, 0, 1], 443),
-    ("127.0.0.1:0000000080", [127, 0, 0, 1], 80),
-];
-
-/// The same with IPv6 addresses.
-static IPV6_ENDPOINTS: [(&str, u128, u16); 4] = [
-    ("[::1]:80", 1, 80),
-    ("[::]:65535", 0, 65535),
+static ENDPOINTS: [(&str, Wanted, u16); 9] = [
+    ("10.0.0.1:80", Wanted::V4([10, 0, 0, 1]), 80),
+    ("0.0.0.0:1", Wanted::V4([0, 0, 0, 0]), 1),
+    ("127.0.0.1:65535", Wanted::V4([127, 0, 0, 1]), 65535),
+    ("127.0.0.1:00443", Wanted::V4([127, 0, 0, 1]), 443),
+    ("127.0.0.1:0000000080", Wanted::V4([127, 0, 0, 1]), 80),
+    ("[::1]:80", Wanted::V6(1), 80),
+    ("[::]:65535", Wanted::V6(0), 65535),
     (
         "[2001:DB8::1]:08080",
-        0x2001_0db8_0000_0000_0000_0000_0000_0001,
+        Wanted::V6(0x2001_0db8_0000_0000_0000_0000_0000_0001),
         8080,
     ),
-    ("[::ffff:10.0.0.1]:80", 0xffff_0a00_0001, 80),
+    ("[::ffff:10.0.0.1]:80", Wanted::V6(0xffff_0a00_0001), 80),
 ];
 
 /// Texts that say where a listener binds alone: at every IPv4 address.
@@ -340,18 +327,10 @@ static NO_ENDPOINTS: [&str; 32] = [
     "[[::1]]:80",
 ];
 
-/// Whether an endpoint is this IPv4 one.
-fn is_ipv4_endpoint(endpoint: Option<Endpoint>, address: [u8; 4], port: u16) -> bool {
+/// Whether an endpoint is this one.
+fn is_endpoint(endpoint: Option<Endpoint>, address: Wanted, port: u16) -> bool {
     match endpoint {
-        Some(endpoint) => is_ipv4(endpoint.address, address) && endpoint.port == port,
-        None => false,
-    }
-}
-
-/// Whether an endpoint is this IPv6 one.
-fn is_ipv6_endpoint(endpoint: Option<Endpoint>, address: u128, port: u16) -> bool {
-    match endpoint {
-        Some(endpoint) => is_ipv6(endpoint.address, address) && endpoint.port == port,
+        Some(endpoint) => is_wanted(endpoint.address, address) && endpoint.port == port,
         None => false,
     }
 }
@@ -366,28 +345,30 @@ fn server_of(text: &str) -> Option<Endpoint> {
     read_server(text.as_bytes())
 }
 
+/// Whether a text says this endpoint to both.
+fn says_endpoint(text: &str, address: Wanted, port: u16) -> bool {
+    is_endpoint(bind_of(text), address, port) && is_endpoint(server_of(text), address, port)
+}
+
+/// Whether a text has a listener bind at every IPv4 address, and says nothing to a server.
+fn binds_alone(text: &str, port: u16) -> bool {
+    is_endpoint(bind_of(text), Wanted::V4([0; 4]), port) && server_of(text).is_none()
+}
+
+/// Whether a text says no endpoint to either.
+fn says_no_endpoint(text: &str) -> bool {
+    bind_of(text).is_none() && server_of(text).is_none()
+}
+
 #[test]
 fn endpoints(rt: HostRuntime) {
-    for (text, address, port) in IPV4_ENDPOINTS.iter() {
-        assert!(rt; is_ipv4_endpoint(bind_of(text), *address, *port), "{text}");
-        assert!(rt;
-            is_ipv4_endpoint(server_of(text), *address, *port),
-            "{text}"
-        );
-    }
-    for (text, address, port) in IPV6_ENDPOINTS.iter() {
-        assert!(rt; is_ipv6_endpoint(bind_of(text), *address, *port), "{text}");
-        assert!(rt;
-            is_ipv6_endpoint(server_of(text), *address, *port),
-            "{text}"
-        );
+    for (text, address, port) in ENDPOINTS.iter() {
+        assert!(rt; says_endpoint(text, *address, *port), "{text}");
     }
     for (text, port) in EVERY_ADDRESS.iter() {
-        assert!(rt; is_ipv4_endpoint(bind_of(text), [0; 4], *port), "{text}");
-        assert!(rt; server_of(text).is_none(), "{text}");
+        assert!(rt; binds_alone(text, *port), "{text}");
     }
     for text in NO_ENDPOINTS.iter() {
-        assert!(rt; bind_of(text).is_none(), "{text}");
-        assert!(rt; server_of(text).is_none(), "{text}");
+        assert!(rt; says_no_endpoint(text), "{text}");
     }
 }

@@ -57,12 +57,20 @@ static ACTS: [Acted; 10] = [
     (Act::SetGpt(3, 4), None, [0, 0, 7, 0, 9, 5, 3, 0]),
 ];
 
-/// Whether an act on a copy of the sample is answered and then shown so, and the sample stays.
-fn acts_so(set: &StoredSet, before: &Values, acted: &Acted) -> Result<bool, AllocError> {
-    let mut values = before.copy()?;
+/// Whether an act on these values is answered and then shown so.
+fn answers_so(set: &StoredSet, values: &mut Values, acted: &Acted) -> bool {
     let answer = values.act(1000, acted.0);
-    let is_shown = shown(set, &values, 1000) == acted.2;
-    Ok((answer == acted.1) & is_shown & (shown(set, before, 1000) == BEFORE))
+    (answer == acted.1) & (shown(set, values, 1000) == acted.2)
+}
+
+/// Whether an act on a copy of the sample is answered and then shown so, and the sample stays.
+fn acts_so(set: &StoredSet, before: &Values, acted: &Acted) -> bool {
+    match before.copy() {
+        Ok(mut values) => {
+            answers_so(set, &mut values, acted) & (shown(set, before, 1000) == BEFORE)
+        }
+        Err(_) => false,
+    }
 }
 
 #[test]
@@ -70,7 +78,7 @@ fn acts_on_elements(rt: HostRuntime) -> Result<(), Fail> {
     let set = columns_of(rt.alloc(), &DATA)?;
     let before = sample(rt.alloc(), &set)?;
     for acted in ACTS.iter() {
-        assert!(rt; acts_so(&set, &before, acted)?, "{:?}", acted.0);
+        assert!(rt; acts_so(&set, &before, acted), "{:?}", acted.0);
     }
     Ok(())
 }

@@ -40,10 +40,25 @@ fn dropped(drops: &[Rc<Cell<u32>>], times: u32) -> usize {
 }
 
 impl Watched {
-    /// Gives the pool a value, which comes back and is dropped where the pool is full.
-    fn insert(&mut self, alloc: Global) -> Result<(), AllocError> {
+    /// An empty pool of twenty slots.
+    fn new(alloc: Global) -> Result<Watched, AllocError> {
+        Ok(Watched {
+            pool: Numbered::new(alloc, 20)?,
+            handles: Vec::new(alloc),
+            drops: Vec::new(alloc),
+        })
+    }
+
+    /// A counter of the drops of one more value.
+    fn counter(&mut self, alloc: Global) -> Result<Rc<Cell<u32>>, AllocError> {
         let drops = Rc::new(alloc, Cell::new(0u32))?;
         self.drops.push(drops.clone()?)?;
+        Ok(drops)
+    }
+
+    /// Gives the pool a value, which comes back and is dropped where the pool is full.
+    fn insert(&mut self, alloc: Global) -> Result<(), AllocError> {
+        let drops = self.counter(alloc)?;
         if let Ok(handle) = self.pool.insert(Counted { drops }) {
             self.handles.push(handle)?;
         }
@@ -64,29 +79,35 @@ impl Watched {
         dropped(&self.drops, 0) == live
             && dropped(&self.drops, 1).saturating_add(live) == self.drops.len()
     }
+
+    /// Gives the pool a value and takes one out, and tells whether each was dropped once after either.
+    fn turn(&mut self, alloc: Global, random: &mut Random) -> Result<bool, AllocError> {
+        self.insert(alloc)?;
+        let were_dropped_once = self.are_dropped_once();
+        self.remove(random);
+        Ok(were_dropped_once && self.are_dropped_once())
+    }
 }
 
-#[test]
-fn each_value_is_dropped_once(rt: HostRuntime) -> Result<(), Fail> {
-    let mut random = Random::new(4);
-    let mut watched = Watched {
-        pool: Numbered::new(rt.alloc(), 20)?,
-        handles: Vec::new(rt.alloc()),
-        drops: Vec::new(rt.alloc()),
-    };
-    for _turn in 0..1000 {
-        watched.insert(rt.alloc())?;
-        assert!(rt; watched.are_dropped_once());
-        watched.remove(&mut random);
-        assert!(rt; watched.are_dropped_once());
-    }
+/// Whether a pool that isn't empty drops the values that are in it, when it is dropped itself.
+fn drops_the_rest(watched: Watched) -> bool {
     let Watched {
         pool,
         handles: _,
         drops,
     } = watched;
-    assert!(rt; pool.len() > 0);
+    let had_values = pool.len() > 0;
     drop(pool);
-    assert_eq!(rt; dropped(&drops, 1), drops.len());
+    had_values && dropped(&drops, 1) == drops.len()
+}
+
+#[test]
+fn each_value_is_dropped_once(rt: HostRuntime) -> Result<(), Fail> {
+    let mut random = Random::new(4);
+    let mut watched = Watched::new(rt.alloc())?;
+    for _turn in 0..1000 {
+        assert!(rt; watched.turn(rt.alloc(), &mut random)?);
+    }
+    assert!(rt; drops_the_rest(watched));
     Ok(())
 }

@@ -80,17 +80,25 @@ fn time_of(rt: &HostRuntime, filled: &Marked, keys: &[StickKey]) -> Result<Durat
     Ok(shortest)
 }
 
+/// The same of the index of these keys by a seed.
+fn time_by(rt: &HostRuntime, keys: &[StickKey], seed: u64) -> Result<Duration, Fail> {
+    let filled = fill(rt.alloc(), keys, seed)?;
+    time_of(rt, &filled, keys)
+}
+
+/// Whether one time is well below another.
+fn is_shorter(spread: Duration, chained: Duration) -> bool {
+    spread.as_nanos() / 2 < chained.as_nanos() / 3
+}
+
 /// Keys of one chain by one seed have many by another. In one chain a key is found after 256 others; by themselves, at
 /// once.
 #[test]
 fn a_seed_spreads_keys(rt: HostRuntime) -> Result<(), Fail> {
     let keys = keys_of_one_chain(rt.alloc())?;
     assert_eq!(rt; keys.len(), SLOTS as usize);
-    let chained = time_of(&rt, &fill(rt.alloc(), &keys, 0)?, &keys)?;
-    let spread = time_of(&rt, &fill(rt.alloc(), &keys, 2_026)?, &keys)?;
-    assert!(rt;
-        spread.as_nanos() / 2 < chained.as_nanos() / 3,
-        "{spread:?} and {chained:?}"
-    );
+    let chained = time_by(&rt, &keys, 0)?;
+    let spread = time_by(&rt, &keys, 2_026)?;
+    assert!(rt; is_shorter(spread, chained), "{spread:?} and {chained:?}");
     Ok(())
 }

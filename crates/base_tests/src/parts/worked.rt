@@ -117,10 +117,28 @@ const SECOND: Handle = Handle {
     generation: 8,
 };
 
+/// The addresses of the two keys.
+const ADDRESSES: [&[u8]; 2] = [b"10.0.0.1", b"10.0.0.2"];
+
+/// Whether an index finds this handle for the key of an address, or none.
+fn finds(alloc: Global, index: &Marked, address: &[u8], handle: Option<Handle>) -> bool {
+    match key(alloc, address) {
+        Ok(key) => index.get(&key) == handle,
+        Err(_) => false,
+    }
+}
+
 /// Whether an index has these handles for the two keys.
-fn has(index: &Marked, keys: &[StickKey; 2], handles: [Option<Handle>; 2]) -> bool {
-    let [first, second] = keys;
-    [index.get(first), index.get(second)] == handles
+fn has(alloc: Global, index: &Marked, first: Option<Handle>, second: Option<Handle>) -> bool {
+    finds(alloc, index, ADDRESSES[0], first) && finds(alloc, index, ADDRESSES[1], second)
+}
+
+/// Puts the key of an address into an index, and tells whether it did.
+fn is_put(alloc: Global, index: &mut Marked, address: &[u8], handle: Handle) -> bool {
+    match key(alloc, address) {
+        Ok(key) => index.put(key, handle),
+        Err(_) => false,
+    }
 }
 
 /// Whether an index has this key, of IPv4, and this handle in a slot.
@@ -139,28 +157,49 @@ fn is_taken(index: &mut Marked, address: &[u8; 4]) -> bool {
     }
 }
 
+/// Whether an index finds each of the two keys from when it is put in.
+fn are_found(alloc: Global, index: &mut Marked) -> bool {
+    is_put(alloc, index, ADDRESSES[0], FIRST)
+        && has(alloc, index, Some(FIRST), None)
+        && is_put(alloc, index, ADDRESSES[1], SECOND)
+        && has(alloc, index, Some(FIRST), Some(SECOND))
+}
+
+/// Whether an index of the two finds the second alone once the first is taken out.
+fn is_found_no_more(alloc: Global, index: &mut Marked) -> bool {
+    holds(index, 1, &[10, 0, 0, 2], SECOND)
+        && is_taken(index, &[10, 0, 0, 1])
+        && has(alloc, index, None, Some(SECOND))
+}
+
 #[test]
 fn a_removed_key_is_not_found(rt: HostRuntime) -> Result<(), Fail> {
     let mut index = Marked::new(rt.alloc(), 2, 0)?;
-    let keys = [key(rt.alloc(), b"10.0.0.1")?, key(rt.alloc(), b"10.0.0.2")?];
-    assert!(rt; index.put(key(rt.alloc(), b"10.0.0.1")?, FIRST));
-    assert!(rt; has(&index, &keys, [Some(FIRST), None]));
-    assert!(rt; index.put(key(rt.alloc(), b"10.0.0.2")?, SECOND));
-    assert!(rt; has(&index, &keys, [Some(FIRST), Some(SECOND)]));
-    assert!(rt; holds(&index, 1, &[10, 0, 0, 2], SECOND));
-    assert!(rt; is_taken(&mut index, &[10, 0, 0, 1]));
-    assert!(rt; has(&index, &keys, [None, Some(SECOND)]));
+    assert!(rt; are_found(rt.alloc(), &mut index));
+    assert!(rt; is_found_no_more(rt.alloc(), &mut index));
     Ok(())
+}
+
+/// The slots that are put in, and last taken out.
+static TOGGLED: [u32; 4] = [3, 1, 2, 1];
+
+/// An order in which these slots are toggled.
+fn toggled(alloc: Global) -> Result<Listed, AllocError> {
+    let mut listed = Listed::new(alloc, 4)?;
+    for slot in TOGGLED.iter() {
+        listed.toggle(*slot)?;
+    }
+    Ok(listed)
+}
+
+/// The first slot of an order, and those after two slots.
+fn order_of(listed: &Listed) -> [Option<u32>; 3] {
+    [listed.front(), listed.after(3), listed.after(2)]
 }
 
 #[test]
 fn a_slot_leaves_the_middle(rt: HostRuntime) -> Result<(), Fail> {
-    let mut listed = Listed::new(rt.alloc(), 4)?;
-    for slot in [3, 1, 2, 1] {
-        listed.toggle(slot)?;
-    }
-    assert_eq!(rt; listed.front(), Some(3));
-    assert_eq!(rt; listed.after(3), Some(2));
-    assert_eq!(rt; listed.after(2), None);
+    let listed = toggled(rt.alloc())?;
+    assert_eq!(rt; order_of(&listed), [Some(3), Some(2), None]);
     Ok(())
 }
