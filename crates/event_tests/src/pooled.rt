@@ -144,6 +144,21 @@ fn have_the_same_out(a: &PlainTable, b: &PlainTable) -> bool {
     a.events() == b.events() && are_the_same(a.tickets(), b.tickets())
 }
 
+/// What a table lists.
+fn listed(table: &mut PlainTable) -> Answer {
+    step(table, &Event::List(0, Filter::Everything))
+}
+
+/// Whether two tables list the same.
+fn list_the_same(a: &mut PlainTable, b: &mut PlainTable) -> bool {
+    is_alike(&listed(a), &listed(b))
+}
+
+/// Whether two tables have counted as many events, have the same references out and list the same.
+fn are_the_same_tables(a: &mut PlainTable, b: &mut PlainTable) -> bool {
+    have_the_same_out(a, b) && list_the_same(a, b)
+}
+
 /// What the table of a seed stores, and what its events are drawn of.
 fn kind(seed: u64) -> (&'static [Datum], Scope) {
     if seed % 2 == 0 {
@@ -162,11 +177,6 @@ fn kind(seed: u64) -> (&'static [Datum], Scope) {
         acts: &ELEMENT_ACTS,
     };
     (STORED_ARRAYS.as_slice(), scope)
-}
-
-/// What a table lists.
-fn listed(table: &mut PlainTable) -> Answer {
-    step(table, &Event::List(0, Filter::Everything))
 }
 
 impl Trial {
@@ -224,16 +234,26 @@ impl Trial {
         Ok(is_alike(&answers.0, plain) && is_alike(&answers.1, plain))
     }
 
+    /// An event on the plain table; answers whether both replies of the other table tell the same as its reply.
+    fn step_alike(
+        &mut self,
+        event: &Event,
+        of_plain: &Event,
+        answers: &Answers,
+    ) -> Result<bool, AllocError>
+        requires { IsTableEvent of_plain.now }
+    {
+        let plain = step(&mut self.plain, of_plain);
+        self.compare(event, answers, &plain)
+    }
+
     /// An event on each table; answers whether both replies of the one tell the same as that of the other.
     fn answer_alike(&mut self, event: &Event, of_plain: &Event) -> Result<bool, AllocError>
         requires event { IsTableEvent event.now }
         requires plain { IsTableEvent of_plain.now }
     {
         match ask(&mut self.random, &mut self.table, event) {
-            Ok(answers) => {
-                let plain = step(&mut self.plain, of_plain);
-                self.compare(event, &answers, &plain)
-            }
+            Ok(answers) => self.step_alike(event, of_plain, &answers),
             Err(refused) => Err(refused),
         }
     }
@@ -283,12 +303,21 @@ impl Trial {
         self.ask_both(seed, now, tickets)
     }
 
+    /// Whether a plain copy of the pooled table is the same as a copy of the plain one.
+    fn is_copy(&self, copy: &mut PlainTable) -> Result<bool, AllocError> {
+        match copied(&self.plain) {
+            Ok(mut plain) => Ok(are_the_same_tables(copy, &mut plain)),
+            Err(refused) => Err(refused),
+        }
+    }
+
     /// Whether a plain copy of the table has the same references out, counted as many events, and lists the same as
     /// the plain table.
     fn is_copied(&self) -> Result<bool, AllocError> {
-        let mut copy = copied(&self.table)?;
-        let mut plain = copied(&self.plain)?;
-        Ok(have_the_same_out(&copy, &plain) && is_alike(&listed(&mut copy), &listed(&mut plain)))
+        match copied(&self.table) {
+            Ok(mut copy) => self.is_copy(&mut copy),
+            Err(refused) => Err(refused),
+        }
     }
 }
 

@@ -2,7 +2,7 @@
 
 ghost use Rattle.std.specs.Prelude.{◌≡◌, All, IfOk};
 ghost use Rattle.table_model.specs.Limits.{IsTableEvent};
-ghost use Rattle.table_model.specs.Run.{StoredRun};
+ghost use Rattle.table_model.specs.Run.{CanRedoAll, StoredRun};
 ghost use Rattle.table_model.specs.State.{State};
 ghost use Rattle.table_model.specs.Step.{Step, slot_of};
 ghost use Rattle.table_model.specs.declared.events.Stored.{Stored as ItsStored};
@@ -99,14 +99,34 @@ fn copy_all(alloc: Global, replies: &[Reply]) -> Result<Vec<Reply>, NoMemory> {
     Ok(copies)
 }
 
+/// Whether copies of replies tell that.
+fn are_copies_told(alloc: Global, replies: &[Reply], rows: &[Told]) -> Result<bool, NoMemory> {
+    let copies = copy_all(alloc, replies)?;
+    Ok(are_told(&copies, rows))
+}
+
+/// Whether calls that are made again on a table tell that.
+fn are_told_again(
+    alloc: Global,
+    base: &mut PlainTable,
+    calls: &[Stored],
+    rows: &[Told],
+) -> Result<bool, Refusal>
+    requires events { All (λ (call : ItsStored). IsTableEvent call.event) calls.now }
+    requires slots { CanRedoAll base.old calls.now }
+{
+    let redone = redo_run(alloc, base, calls)?;
+    Ok(are_told(redone.as_slice(), rows))
+}
+
 /// Whether an empty table, copies of its replies, and the calls made again from where it began all tell that.
 #[tactic(auto, using(crate::proofs::RunLemmas::can_redo_run))]
 fn all_are_told(alloc: Global, base: PlainTable, rows: &[Told]) -> Result<bool, Refusal> {
     let mut base = base;
     let (calls, replies) = told_calls(alloc, &base, rows)?;
-    let copies = copy_all(alloc, &replies)?;
-    let redone = redo_run(alloc, &mut base, &calls)?;
-    Ok(are_told(&replies, rows) && are_told(&copies, rows) && are_told(redone.as_slice(), rows))
+    let are_copies_told = are_copies_told(alloc, &replies, rows)?;
+    let are_told_again = are_told_again(alloc, &mut base, &calls, rows)?;
+    Ok(are_told(&replies, rows) && are_copies_told && are_told_again)
 }
 
 #[test]

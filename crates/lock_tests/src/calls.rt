@@ -217,11 +217,19 @@ fn refused_after(rt: &impl Wait, desk: &mut Desk, fresh: &Shards<PlainTable>) ->
     say(rt, desk.alloc, fresh, &mut desk.seat, 0, Ask::Expire(0))
 }
 
+/// What a fresh table refuses a seat that has seen three events of this one.
+fn refused_by_fresh(rt: &impl Wait, desk: &mut Desk, keep: bool) -> Said {
+    match Desk::open(desk.alloc, 1, keep) {
+        Ok(fresh) => refused_after(rt, desk, &fresh.table),
+        Err(_) => Said::Other,
+    }
+}
+
 /// What a fresh table refuses a seat that has seen three events of another.
 fn behind(rt: &impl Wait, alloc: Global, keep: bool) -> Said {
-    match (Desk::open(alloc, 1, keep), Desk::open(alloc, 1, keep)) {
-        (Ok(mut desk), Ok(fresh)) => refused_after(rt, &mut desk, &fresh.table),
-        _ => Said::Other,
+    match Desk::open(alloc, 1, keep) {
+        Ok(mut desk) => refused_by_fresh(rt, &mut desk, keep),
+        Err(_) => Said::Other,
     }
 }
 

@@ -234,13 +234,18 @@ static TRACKED: [Answered; 2] = [
     ),
 ];
 
-/// What a seat is answered of a table where another has tracked the key of 6.
-fn is_shown(rt: &impl Wait, alloc: Global) -> Option<(bool, u64, u64)> {
-    let Ok((mut desk, seat)) = open_two(alloc) else {
-        return None;
-    };
+/// What a seat is answered of a table where another tracks the key of 6.
+fn shown_to(rt: &impl Wait, desk: &mut Desk, seat: Seat) -> Option<(bool, u64, u64)> {
     match desk.track(rt, 6) {
-        Ok(_) => calls_made(rt, alloc, &desk.table, seat, &TRACKED),
+        Ok(_) => calls_made(rt, desk.alloc, &desk.table, seat, &TRACKED),
+        Err(_) => None,
+    }
+}
+
+/// What a seat is answered of a new table where another has tracked the key of 6.
+fn is_shown(rt: &impl Wait, alloc: Global) -> Option<(bool, u64, u64)> {
+    match open_two(alloc) {
+        Ok((mut desk, seat)) => shown_to(rt, &mut desk, seat),
         Err(_) => None,
     }
 }

@@ -80,23 +80,23 @@ fn receipts_of(seat: &Seat) -> usize {
 fn is_answer_kept(
     seat: &Seat,
     before: usize,
-    asked: Event,
-    answer: Result<Reply, Refusal>,
+    asked: &Event,
+    answer: &Result<Reply, Refusal>,
 ) -> bool {
     match answer {
-        Ok(reply) => is_kept(seat, before, &asked, &reply),
+        Ok(reply) => is_kept(seat, before, asked, reply),
         Err(_) => false,
     }
 }
 
 /// Whether a call of shard 7 is answered, and its seat has one call more there, and its receipt, if it keeps any.
-fn is_counted(book: &mut Book<PlainTable>, seat: &mut Seat, event: Event, copy: Event) -> bool
+fn is_counted(book: &mut Book<PlainTable>, seat: &mut Seat, event: Event, copy: &Event) -> bool
     requires { IsTableEvent event }
 {
     let (calls, _seen) = counts_of(seat, 7);
     let before = receipts_of(seat);
     let answer = call(book, seat, event);
-    is_answer_kept(seat, before, copy, answer)
+    is_answer_kept(seat, before, copy, &answer)
         && counts_of(seat, 7) == (calls.saturating_add(1), events_of(book))
 }
 
@@ -112,6 +112,20 @@ fn event(alloc: Global, place: u32) -> Result<Event, NoMemory>
     }
 }
 
+/// Whether such an event is counted, of which this is a copy.
+fn is_copy_counted(
+    alloc: Global,
+    book: &mut Book<PlainTable>,
+    seat: &mut Seat,
+    place: u32,
+    copy: &Event,
+) -> bool {
+    match event(alloc, place) {
+        Ok(event) => is_counted(book, seat, event, copy),
+        Err(_) => false,
+    }
+}
+
 /// Whether such an event is counted.
 fn is_event_counted(
     alloc: Global,
@@ -119,9 +133,9 @@ fn is_event_counted(
     seat: &mut Seat,
     place: u32,
 ) -> bool {
-    match (event(alloc, place), event(alloc, place)) {
-        (Ok(event), Ok(copy)) => is_counted(book, seat, event, copy),
-        _ => false,
+    match event(alloc, place) {
+        Ok(copy) => is_copy_counted(alloc, book, seat, place, &copy),
+        Err(_) => false,
     }
 }
 
@@ -222,14 +236,22 @@ fn is_refused(
         && events_of(fresh) == 0
 }
 
-/// Whether that is so of new books and a seat.
-fn all_are_refused(alloc: Global, keeps: bool) -> bool {
-    match (open(alloc, 3), open(alloc, 3)) {
-        (Ok(mut book), Ok(mut fresh)) => {
+/// Whether that is so of a new seat, this book and a fresh one.
+fn is_refused_by(alloc: Global, book: &mut Book<PlainTable>, keeps: bool) -> bool {
+    match open(alloc, 3) {
+        Ok(mut fresh) => {
             let mut seat = Seat::new(alloc, 0, keeps);
-            is_refused(alloc, &mut book, &mut fresh, &mut seat)
+            is_refused(alloc, book, &mut fresh, &mut seat)
         }
-        _ => false,
+        Err(_) => false,
+    }
+}
+
+/// Whether that is so of a new seat and new books.
+fn all_are_refused(alloc: Global, keeps: bool) -> bool {
+    match open(alloc, 3) {
+        Ok(mut book) => is_refused_by(alloc, &mut book, keeps),
+        Err(_) => false,
     }
 }
 

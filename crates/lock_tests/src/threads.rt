@@ -50,6 +50,14 @@ fn call_often(
     })
 }
 
+/// What both threads noted, if neither was refused.
+fn both(
+    first: Result<Noted, Refusal>,
+    second: Result<Noted, Refusal>,
+) -> Result<[Noted; 2], Refusal> {
+    Ok([first?, second?])
+}
+
 /// The calls of two threads.
 fn call_from_two<R: Threads + Wait + Sync>(
     rt: &R,
@@ -68,8 +76,7 @@ fn call_from_two<R: Threads + Wait + Sync>(
             let Ok(second) = scope.spawn(move || call_often(rt, alloc, table, second)) else {
                 return Err(Refusal::Memory);
             };
-            let (first, second) = (first.join(rt), second.join(rt));
-            Ok([first?, second?])
+            both(first.join(rt), second.join(rt))
         },
     )
 }
