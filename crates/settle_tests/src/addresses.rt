@@ -3,10 +3,9 @@
 ghost use Rattle.std.specs.Prelude.{◌≡◌, IfOk};
 ghost use Rattle.table_model.specs.Limits.{IsTableSpec};
 
-use crate::asking::has;
-use crate::tables::place;
 use drawn_calls::ask;
 use sequence::NoMemory;
+use settle_calls::{has, place};
 use shard_locks::Shards;
 use shard_seats::Seat;
 use std::alloc::Global;

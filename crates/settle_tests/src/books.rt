@@ -2,9 +2,8 @@
 
 ghost use Rattle.std.specs.Prelude.{◌≤◌, ◌^◌};
 
-use crate::asking::{Call, has, list, make, track};
-use crate::tables::{Opened, Outcome, open, show};
 use drawn_calls::{Held, spec};
+use settle_calls::{Call, Opened, Outcome, has, list, make, open, show, track};
 use shard_book::Book;
 use shard_locks::{Listing, Shards};
 use shard_seats::Seat;

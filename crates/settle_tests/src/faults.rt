@@ -2,10 +2,9 @@
 
 ghost use Rattle.std.specs.Prelude.{◌≤◌, ◌^◌};
 
-use crate::asking::{get, track};
 use crate::books::open_narrow;
-use crate::tables::{Opened, Outcome, open, show};
 use drawn_calls::{Held, ticket_of};
+use settle_calls::{Opened, Outcome, get, open, show, track};
 use settlement::{Fault, Settled, check};
 use shard_locks::{Shards, Unlocked};
 use shard_seats::Seat;

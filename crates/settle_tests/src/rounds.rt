@@ -2,12 +2,11 @@
 
 ghost use Rattle.std.specs.Prelude.{◌≡◌, length, IfSome};
 
-use crate::asking::{get, put};
 use crate::books::{is_put, listed};
-use crate::tables::{Outcome, show};
 use drawn_calls::spec;
 use housekeeping::{Kept, Pace, housekeep};
 use moments::StoppedClock;
+use settle_calls::{Outcome, get, put, show};
 use settlement::Settled;
 use shard_book::Book;
 use shard_locks::Shards;

@@ -2,8 +2,8 @@
 
 use crate::faults::{unsettled, with_seat};
 use crate::records::{is_counted, is_noted};
-use crate::tables::{Opened, Outcome, open, show};
 use drawn_calls::{Caller, Drawing, Held, key};
+use settle_calls::{Opened, Outcome, open, show};
 use settlement::{Fault, Settled};
 use shard_locks::Shards;
 use shard_seats::{Receipt, Seat};

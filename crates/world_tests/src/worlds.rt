@@ -3,14 +3,13 @@
 
 ghost use Rattle.std.specs.Prelude.{◌≡◌, ◌≤◌, ◌<◌, ◌^◌, length};
 
-use crate::counts::{admitted, go_on, held, open, out, phase, visit};
-use crate::setups::limiting;
 use admit_core::Phase;
 use pooled_table::StickTable;
 use random_numbers::Random;
 use std::alloc::Global;
 use stick_table::{PlainTable, Table};
 use world::World;
+use world_counts::{admitted, go_on, held, limiting, open, out, phase, visit};
 
 /// An element of a schedule: which connection goes on, when, how many references are out then, and the phase that it has
 /// come to, where that is told.

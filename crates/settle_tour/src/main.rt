@@ -1,38 +1,11 @@
-//! Tests of tables in shards that are called, kept house in, visited by connections, and settled once their callers
-//! have ended; and of the clock that a program that serves reads.
-//!
-//! As a program it makes each call of such a table once, without receipts and with them, and settles it: first with a
-//! reference that is out and isn't shown, then with that given back. And it holds two references over a roll of the
-//! record and a hundred calls, gives both back and rolls again. Where a growth is refused it asks once more, and
-//! says how often that was, and how many answers were those that are wanted. `tests/refusals calls` refuses each of its
-//! allocations in turn.
+//! Makes each call of a table in shards once, without receipts and with them, and settles it: first with a reference that
+//! is out and isn't shown, then with that given back. And it holds two references over a roll of the record and a hundred
+//! calls, gives both back and rolls again. Where a growth is refused it asks once more, and says how often that was, and
+//! how many answers were those that are wanted. `tests/refusals calls` refuses each of its allocations in turn.
 #![tactic(auto)]
 
-#[cfg(test)]
-mod addresses;
-mod asking;
-#[cfg(test)]
-mod books;
-#[cfg(test)]
-mod clocks;
-#[cfg(test)]
-mod counting_clock;
-#[cfg(test)]
-mod faults;
-#[cfg(test)]
-mod records;
-#[cfg(test)]
-mod rounds;
-#[cfg(test)]
-mod setups;
-mod tables;
-#[cfg(test)]
-mod threads;
-#[cfg(test)]
-mod visits;
-
-use asking::{Call, make};
 use drawn_calls::Held;
+use settle_calls::{Call, Opened, Outcome, make, open, show};
 use settlement::Fault;
 use shard_locks::Shards;
 use shard_seats::Seat;
@@ -40,7 +13,6 @@ use std::alloc::Global;
 use std::io;
 use std::sync::Wait;
 use stick_table::{PlainTable, Refusal, Ticket};
-use tables::{Opened, Outcome, open, show};
 
 /// What is done before the table is shown.
 const CALLS: [Call; 10] = [

@@ -1,22 +1,15 @@
-//! Tests of connections that share tables: by hand, and in random order. As a program it leads four connections through
-//! a schedule, of which one from each address is admitted at most, and says after each element what is out, what is held
-//! and who is admitted. Its status is 1 where that isn't as the schedule says. `tests/refusals worlds` refuses each of its
-//! allocations in turn.
+//! Leads four connections that share a table through a schedule, of which one from each address is admitted at most, and
+//! says after each element what is out, what is held and who is admitted. Its status is 1 where that isn't as the schedule
+//! says. `tests/refusals worlds` refuses each of its allocations in turn.
 #![tactic(auto)]
 
 ghost use Rattle.std.specs.Prelude.{◌≡◌, length};
 
-mod counts;
-mod setups;
-#[cfg(test)]
-mod worlds;
-
-use counts::{admitted, go_on, held, open, out, visit};
 use pooled_table::StickTable;
-use setups::limiting;
 use std::io;
 use std::process::ExitCode;
 use world::World;
+use world_counts::{admitted, go_on, held, limiting, open, out, visit};
 
 /// The hosts that the connections come from.
 const HOSTS: [u8; 4] = [1, 1, 1, 2];
