@@ -134,6 +134,14 @@ class Proxy:
         with open(f'/proc/{self.program.pid}/status', encoding='utf-8') as lines:
             return next(int(line.split()[1]) for line in lines if line.startswith('VmRSS'))
 
+    def switches(self):
+        """How often a thread of the program has given up its processor to wait, by the threads."""
+        tasks, counts = f'/proc/{self.program.pid}/task', {}
+        for task in os.listdir(tasks):
+            with open(f'{tasks}/{task}/status', encoding='utf-8') as lines:
+                counts[task] = next(int(line.split()[1]) for line in lines if line.startswith('voluntary'))
+        return counts
+
     def is_unused(self):
         return all(row['use'] == 0 and row['conn_cur'] == 0 for row in self.rows().values())
 

@@ -41,6 +41,11 @@ impl Desk {
         self.number
     }
 
+    /// Whether a connection that comes can be accepted, as far as is known.
+    pub(crate) fn can_accept(&self) -> bool {
+        self.number.is_some() && !self.has_waiting
+    }
+
     /// The connection with that number is accepted.
     pub(crate) fn pass(&mut self) {
         self.number = None;

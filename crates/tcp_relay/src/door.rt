@@ -1,23 +1,25 @@
-//! The numbers of connections.
+//! What all workers share where connections come in.
 
 ghost use Rattle.std.specs.Prelude.{◌≡◌, ◌+◌, ◌≤◌, IfNone, IfSome};
 ghost use Rattle.tcp_relay.specs.Numbers.{last_of};
 
+use crate::lookout::Lookout;
 use std::sync::{Mutex, Wait};
 
 /// The greatest number of a connection.
 const LAST: u64 = 1 << 62;
 
-/// Hands out the numbers of connections from 1 on, each once, up to the last.
+/// Hands out the numbers of connections from 1 on, each once, up to the last; and has one worker at a time told of connections.
 #[derive(Drop)]
 pub(crate) struct Door {
     last: u64,
     drawn: Mutex<u64>,
+    pub(crate) lookout: Lookout,
 }
 
 impl Door {
     /// A door of which no number is drawn yet. The last is the one after which serving stops, and at most 2^62.
-    pub(crate) fn new(stop_after: Option<u64>) -> Self
+    pub(crate) fn new(stop_after: Option<u64>, lookout: Lookout) -> Self
         ensures { result.last ≡ last_of stop_after }
     {
         let last = match stop_after {
@@ -27,6 +29,7 @@ impl Door {
         Door {
             last,
             drawn: Mutex::new(0),
+            lookout,
         }
     }
 

@@ -14,6 +14,7 @@ mod gear;
 mod house;
 mod leaving;
 mod limits;
+mod lookout;
 mod places;
 mod room;
 mod runtime;

@@ -5,6 +5,7 @@ ghost use Rattle.tcp_relay.specs.Seating.{HaveEach};
 
 use crate::gear::{Gear, reserve_gears};
 use crate::leaving::MOST_HELD;
+use crate::lookout::Crew;
 use crate::seating::{discard_lists, reserve_lists};
 use crate::visitor::Visitor;
 use crate::width::Width;
@@ -17,6 +18,8 @@ use std::alloc::Global;
 pub(crate) struct Room<'a, W: Width> {
     pub(crate) workers: Vec<Worker<'a, W>>,
     pub(crate) gears: Vec<Gear>,
+    /// Room for what the workers share to be told of connections.
+    pub(crate) crew: Crew,
     /// For each worker, places for a seat of each table.
     pub(crate) rows: Vec<Vec<Seat>>,
     /// For each worker, places for its connections.
@@ -27,18 +30,19 @@ pub(crate) struct Room<'a, W: Width> {
     pub(crate) refs: Vec<Vec<TrackRef>>,
 }
 
-/// The lists that can be dropped, for so many workers with so many connections each.
+/// What can be dropped, for so many workers with so many connections each.
 fn reserve_plain(
     alloc: Global,
     workers: usize,
     connections: usize,
-) -> Result<(Vec<Gear>, Vec<Vec<usize>>), NoMemory>
+) -> Result<(Vec<Gear>, Crew, Vec<Vec<usize>>), NoMemory>
     ensures gears { IfOk result (λ lists. length lists.0.items ≡ workers) }
-    ensures free { IfOk result (λ lists. length lists.1.items ≡ workers) }
+    ensures free { IfOk result (λ lists. length lists.2.items ≡ workers) }
 {
     let gears = reserve_gears(alloc, workers)?;
+    let crew = Crew::reserve(alloc, workers)?;
     let free = reserve_lists(alloc, workers, connections)?;
-    Ok((gears, free))
+    Ok((gears, crew, free))
 }
 
 /// Room for so many workers and tables, and so many connections of each worker.
@@ -57,7 +61,7 @@ pub(crate) fn reserve<'a, W: Width>(
     ensures free { IfOk result (λ room. length room.free.items ≡ workers) }
     ensures refs { IfOk result (λ room. (length room.refs.items ≡ tables) × HaveEach 0 (workers * (connections * 3)) room.refs.items) }
 {
-    let (gears, free) = reserve_plain(alloc, workers, connections)?;
+    let (gears, crew, free) = reserve_plain(alloc, workers, connections)?;
     let rows = reserve_lists(alloc, workers, tables)?;
     let visitors = reserve_lists(alloc, workers, connections)?;
     let Ok(refs) = reserve_lists(alloc, tables, workers * (connections * MOST_HELD)) else {
@@ -68,6 +72,7 @@ pub(crate) fn reserve<'a, W: Width>(
         Ok(workers) => Ok(Room {
             workers,
             gears,
+            crew,
             rows,
             visitors,
             free,

@@ -9,6 +9,7 @@ use crate::desk::Desk;
 use crate::door::Door;
 use crate::gathering::{gather, seat_workers};
 use crate::house::House;
+use crate::lookout::{Crew, Lookout, Post};
 use crate::room::{Room, reserve};
 use crate::turning::{Shift, turn_all};
 use crate::watch::Watch;
@@ -21,7 +22,7 @@ use shard_locks::Shards;
 use shard_seats::Seat;
 use std::alloc::Global;
 use std::marker::{Brand, PhantomData};
-use std::net::TcpListener;
+use std::net::{Net, TcpListener};
 use std::thread;
 use std::time::Instant;
 use stick_table::Table;
@@ -37,6 +38,7 @@ fn serve_each<'a, T: Table, R: ServeRuntime, G: Gate, W: Width>(
         return;
     };
     let mut shift = Shift {
+        post: Post::new(&house.door.lookout, watch.worker()),
         watch,
         desk: Desk::new(),
         clock: RunningClock::new(house.rt, house.start),
@@ -54,21 +56,55 @@ fn serve_each<'a, T: Table, R: ServeRuntime, G: Gate, W: Width>(
     }
 }
 
-/// Has each worker watch the listener, before the connections of one take the descriptors that another needs for that. Answers
-/// whether all do; one that can't has failed.
-fn watch_each<'a, T: Table, R: ServeRuntime, G, W: Width>(
-    house: &House<'a, T, R, G, W>,
-    workers: &mut [Worker<'a, W>],
-) -> bool {
-    let mut all = true;
+/// A watch of the listener for the next of a crew, of this number. None where the system refuses it.
+fn watch_one(rt: &impl Net, listener: &TcpListener, number: u32, crew: &mut Crew) -> Option<Watch> {
+    let watch = Watch::new(rt, listener, number).ok()?;
+    let registry = watch.registry().try_clone().ok()?;
+    if crew.add(registry) {
+        Some(watch)
+    } else {
+        None
+    }
+}
+
+/// Has each worker watch the listener, before the connections of one take the descriptors that another needs for that. One that
+/// can't has failed.
+fn watch_each<W: Width>(
+    rt: &impl Net,
+    listener: &TcpListener,
+    workers: &mut [Worker<'_, W>],
+    crew: &mut Crew,
+) {
+    let mut number = 0u32;
     for worker in workers.iter_mut() {
-        worker.watch = Watch::new(house.rt, house.listener).ok();
+        worker.watch = watch_one(rt, listener, number, crew);
         if worker.watch.is_none() {
             worker.tally.has_failed = true;
-            all = false;
+        }
+        number = number.wrapping_add(1);
+    }
+}
+
+/// The same. There are as many workers afterwards.
+fn watch_all<W: Width>(
+    rt: &impl Net,
+    listener: &TcpListener,
+    workers: &mut Vec<Worker<'_, W>>,
+    crew: &mut Crew,
+)
+    ensures workers { vec_len workers.new ≡ vec_len workers.old }
+{
+    watch_each(rt, listener, workers.as_mut_slice(), crew);
+}
+
+/// Whether a worker has failed.
+fn has_failed<W: Width>(workers: &[Worker<'_, W>]) -> bool {
+    for worker in workers {
+        if worker.tally.has_failed {
+            return true;
         }
     }
-    all
+    false
 }
 
 /// Starts a thread for each worker, and waits until all have ended. Answers whether all could be started; behind the first
@@ -77,7 +113,7 @@ fn run_each<'a, T: Table + Send, R: ServeRuntime, G: Gate + Sync, W: Width + Sen
     house: &House<'a, T, R, G, W>,
     workers: &mut [Worker<'a, W>],
 ) -> bool {
-    if !watch_each(house, workers) {
+    if has_failed(workers) {
         return true;
     }
     thread::scope(thread::scope_env(), house.rt, |scope| {
@@ -151,20 +187,24 @@ fn serve_wide<W: Width + Send + Sync, T: Table + Send, R: ServeRuntime, G: Gate 
     let Some(server) = setup.server else {
         unreachable!();
     };
-    let door = Door::new(stop_after);
     let most = limits.connections as usize;
     let Ok(room) = reserve::<W>(alloc, threads as usize, tables.len(), most) else {
         return Err(without_memory(alloc, seats));
     };
     let Room {
-        mut workers,
+        workers: mut seated,
         gears,
+        mut crew,
         rows,
         visitors,
         free,
         refs,
     } = room;
-    seat_workers(&mut seats, &mut workers, rows, visitors, free, gears, most);
+    seat_workers(&mut seats, &mut seated, rows, visitors, free, gears, most);
+    watch_all(rt, listener, &mut seated, &mut crew);
+    let lookout = Lookout::new(listener, crew);
+    let door = Door::new(stop_after, lookout);
+    let mut workers = seated;
     let house = House {
         alloc,
         rt,

@@ -5,6 +5,7 @@ ghost use Rattle.std.specs.Prelude.{◌≡◌, Some, None, slice_get};
 use crate::desk::Desk;
 use crate::gear::Gear;
 use crate::house::House;
+use crate::lookout::Post;
 use crate::visiting::{closed, end_at, judge_one};
 use crate::watch::{LISTENER, TICK, Watch};
 use crate::width::Width;
@@ -24,13 +25,14 @@ use stick_table::Table;
 const ACCEPTS: u32 = 16;
 
 /// How long a worker rests once it has rejected all that had come, in us. Clients that come meanwhile are accepted in one lot:
-/// a third of what a rejected one takes is to be woken for it alone.
+/// a third of what the system takes for a rejected one is to wake a worker for it alone.
 const REST: u64 = 100;
 
 /// A worker at its work: what it waits for, and by which clock.
 #[derive(Drop)]
 pub(crate) struct Shift<'r, R> {
     pub(crate) watch: Watch,
+    pub(crate) post: Post<'r>,
     pub(crate) desk: Desk,
     pub(crate) clock: RunningClock<'r, R>,
     /// When it last looked for connections that are silent, in ms.
@@ -133,7 +135,10 @@ fn accept_one<'a, T: Table, R: ServeRuntime, G: Gate, W: Width>(
     let Some(place) = worker.places.claim() else {
         return Accepted::Waits;
     };
-    let (client, peer) = match house.listener.accept() {
+    let accepted = house.listener.accept();
+    // From here on another is told, as the gate may block this one.
+    shift.post.end(house.rt);
+    let (client, peer) = match accepted {
         Ok(accepted) => accepted,
         Err(error) => {
             worker.places.free(place);
@@ -157,8 +162,7 @@ fn unaccepted<W: Width>(worker: &mut Worker<'_, W>, kind: ErrorKind) -> Accepted
     }
 }
 
-/// Accepts what connections there are, and then has the listener reported again where there may be more. Whether there are none
-/// now.
+/// Accepts what connections there are, and notes where there may be more. Whether there are none now.
 fn accept_some<'a, T: Table, R: ServeRuntime, G: Gate, W: Width>(
     house: &House<'a, T, R, G, W>,
     worker: &mut Worker<'a, W>,
@@ -176,7 +180,7 @@ fn accept_some<'a, T: Table, R: ServeRuntime, G: Gate, W: Width>(
             }
         }
     }
-    let _ = shift.watch.again();
+    shift.post.leave_some();
     false
 }
 
@@ -192,6 +196,8 @@ fn turn<'a, T: Table, R: ServeRuntime, G, W: Width>(
     let registry = shift.watch.registry();
     if worker.places.turn(registry, ready, moment, buffer) {
         close(house, worker, &mut shift.clock, ready.number);
+        // It has left its place and its descriptors.
+        shift.desk.has_waiting = false;
     }
 }
 
@@ -209,7 +215,17 @@ fn close_silent<'a, T: Table, R: ServeRuntime, G, W: Width>(
     }
 }
 
-/// Gives each that is ready its turn. Whether that was the listener alone, where no connection waits now.
+/// Whether the listener is among what is ready.
+fn tells_of_connections(events: &Events) -> bool {
+    for event in events.iter() {
+        if event.token() == LISTENER {
+            return true;
+        }
+    }
+    false
+}
+
+/// Gives each that is ready its turn, the listener first. Whether that was the listener alone, where no connection waits now.
 fn turn_each<'a, T: Table, R: ServeRuntime, G: Gate, W: Width>(
     house: &House<'a, T, R, G, W>,
     worker: &mut Worker<'a, W>,
@@ -218,16 +234,16 @@ fn turn_each<'a, T: Table, R: ServeRuntime, G: Gate, W: Width>(
     buffer: &mut Buffer,
     moment: u64,
 ) -> bool {
-    let mut has_all = true;
+    let mut only_accepts = tells_of_connections(events)
+        && accept_some(house, worker, shift, buffer);
+    shift.post.end(house.rt);
     for event in events.iter() {
         if event.token() != LISTENER {
             turn(house, worker, shift, buffer, Ready::of(event), moment);
-            has_all = false;
-        } else if !accept_some(house, worker, shift, buffer) {
-            has_all = false;
+            only_accepts = false;
         }
     }
-    has_all
+    only_accepts
 }
 
 /// Waits until something is ready, and gives each its turn. Where each client that came was rejected, and that was all, it rests
@@ -240,24 +256,22 @@ pub(crate) fn turn_all<'a, T: Table, R: ServeRuntime, G: Gate, W: Width>(
 ) -> bool {
     let has_to_look = !worker.places.is_idle() || shift.desk.has_waiting;
     let Gear { events, buffer } = gear;
+    shift.post.begin(house.rt, shift.desk.can_accept());
     if shift.watch.wait(events, has_to_look).is_err() {
+        shift.post.end(house.rt);
         return false;
     }
     let moment = shift.clock.now();
     let (open, tally) = (worker.places.open(), worker.tally);
-    let has_all = turn_each(house, worker, shift, events, buffer, moment);
-    // One that has ended has left its place and its descriptors.
-    if shift.desk.has_waiting && worker.places.open() < open {
-        let _ = shift.watch.again();
-    }
+    let only_accepts = turn_each(house, worker, shift, events, buffer, moment);
     look_after(house, worker, shift, moment);
-    if has_all && worker.places.open() == open && worker.tally.has_only_rejected(tally) {
+    if only_accepts && worker.places.open() == open && worker.tally.has_only_rejected(tally) {
         thread::sleep(house.rt, Duration::from_micros(REST));
     }
     true
 }
 
-/// Looks after connections that are silent, and those that wait to be accepted, once a tick has passed.
+/// Looks after connections that are silent, once a tick has passed; those that wait to be accepted are tried again then.
 fn look_after<'a, T: Table, R: ServeRuntime, G, W: Width>(
     house: &House<'a, T, R, G, W>,
     worker: &mut Worker<'a, W>,
@@ -269,7 +283,5 @@ fn look_after<'a, T: Table, R: ServeRuntime, G, W: Width>(
     }
     shift.looked = moment;
     close_silent(house, worker, &mut shift.clock, moment);
-    if shift.desk.has_waiting {
-        let _ = shift.watch.again();
-    }
+    shift.desk.has_waiting = false;
 }

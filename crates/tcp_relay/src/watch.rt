@@ -1,46 +1,51 @@
 //! What a worker waits for.
 
-use mio::net::TcpListener;
+use mio::unix::SourceFd;
 use mio::{Events, Interest, Poll, Registry, Token};
-use std::net::Net;
+use std::io;
+use std::net::{Net, TcpListener};
+use std::os::fd::AsRawFd;
 use std::time::Duration;
-use std::{io, net};
 
 /// The listener's token. Those of connections are smaller.
 pub(crate) const LISTENER: Token = Token(usize::MAX);
 
+/// What the lookout is told of the listener.
+pub(crate) const CONNECTIONS: Interest = Interest::READABLE;
+
+/// What others are told of it, as a listener is never writable.
+pub(crate) const NOTHING: Interest = Interest::WRITABLE;
+
 /// How long a worker waits at most while it has to look after something, in ms.
 pub(crate) const TICK: u64 = 100;
 
-/// A worker's own view of the listener, and what the system tells it of that and of its connections.
+/// What the system tells a worker of its connections, and of new ones while it is the lookout.
 #[derive(Drop)]
 pub(crate) struct Watch {
     poll: Poll,
-    listener: TcpListener,
+    /// The worker's number among those of its listener, from 0 on.
+    worker: u32,
 }
 
 impl Watch {
-    /// A watch of the listener, which is shared with others, and doesn't wait from now on.
-    pub(crate) fn new<R: Net>(rt: &R, listener: &net::TcpListener) -> io::Result<Watch> {
+    /// A watch of the listener, which is shared with others, and doesn't wait from now on. Nothing is told of it yet.
+    pub(crate) fn new(rt: &impl Net, listener: &TcpListener, worker: u32) -> io::Result<Watch> {
         let poll = Poll::new(rt)?;
-        let own = listener.try_clone()?;
-        own.set_nonblocking(true)?;
-        let mut listener = TcpListener::from_std(own);
+        listener.set_nonblocking(true)?;
+        let fd = listener.as_raw_fd();
         poll.registry()
-            .register(&mut listener, LISTENER, Interest::READABLE)?;
-        Ok(Watch { poll, listener })
+            .register(&mut SourceFd(&fd), LISTENER, NOTHING)?;
+        Ok(Watch { poll, worker })
+    }
+
+    /// The worker's number.
+    pub(crate) fn worker(&self) -> u32 {
+        self.worker
     }
 
     /// Where connections are registered.
     pub(crate) fn registry(&self) -> &Registry {
         self.poll.registry()
-    }
-
-    /// Has the listener reported again, also if nothing has changed.
-    pub(crate) fn again(&mut self) -> io::Result<()> {
-        self.poll
-            .registry()
-            .reregister(&mut self.listener, LISTENER, Interest::READABLE)
     }
 
     /// Waits until something is ready; for a tick at most, where the worker has to look after something.

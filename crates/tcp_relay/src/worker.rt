@@ -92,7 +92,7 @@ pub(crate) struct Worker<'a, W: Width> {
     pub(crate) places: Places<'a, W>,
     /// What its thread waits and carries by, until that takes it.
     pub(crate) gear: Option<Gear>,
-    /// What its thread waits for, from when it is watched until that takes it.
+    /// What its thread waits for, from when it watches until that takes it.
     pub(crate) watch: Option<Watch>,
     of: PhantomData<W>,
     ghost seated: { vec_len seats ≡ length W.tables },
