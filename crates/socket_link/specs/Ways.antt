@@ -1,5 +1,5 @@
 -- What a turn does to one direction of a connection between sockets.
-use Rattle.std.specs.Prelude.{◌≡◌, ◌+◌, ◌≤◌, Bool, true, false, [], length, nat_lt}
+use Rattle.std.specs.Prelude.{◌≡◌, ◌+◌, ◌≤◌, Bool, true, false, ◌&&◌, ◌||◌, [], length, nat_le, nat_lt}
 use Rattle.relay.specs.Passage.{Passage}
 use Rattle.relay.specs.Turns.{HasTurned, is_last, unbegun}
 use Rattle.relay.specs.declared.steps.Cause.TheVariants.{Memory, Read, Write}
@@ -43,3 +43,7 @@ has_read old new = nat_lt old.direction.passage.read new.direction.passage.read
 
 abbrev pub has_written : Way → Way → Bool
 has_written old new = nat_lt old.direction.passage.written new.direction.passage.written
+
+-- whether more was written, and not for the first time: bytes had come before, or so many are written now as need several reads
+abbrev pub has_written_more : Way → Way → Bool
+has_written_more old new = has_written old new && (nat_lt 0 old.direction.passage.read || nat_le 65536 new.direction.passage.written)

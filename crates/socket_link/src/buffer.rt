@@ -6,7 +6,7 @@ use sequence::NoMemory;
 use std::alloc::Global;
 
 /// How many bytes a read takes at most.
-const ROOM: usize = 65_536;
+pub(crate) const ROOM: usize = 65_536;
 
 /// A buffer of 65,536 bytes, through which those of all connections of a thread pass in turn.
 #[derive(Drop)]

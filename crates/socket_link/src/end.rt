@@ -45,6 +45,8 @@ impl Side {
 #[derive(Drop)]
 pub(crate) struct End {
     pub(crate) socket: TcpStream,
+    /// Whether its bytes don't wait for those before them to be acknowledged.
+    sends_at_once: bool,
     /// Whether it is watched for room, beside bytes.
     watches_room: bool,
     /// When something passed last, in ms.
@@ -57,13 +59,25 @@ impl End {
         ensures heard { result.heard ≡ moment }
         ensures socket { result.socket ≡ socket }
     {
-        // Bytes are sent on as they come. A socket that is gone can't be told so, and needs no telling.
-        let _ = socket.set_nodelay(true);
         End {
             socket,
+            sends_at_once: false,
             watches_room: false,
             heard: moment,
         }
+    }
+
+    /// Has bytes sent as they come, those too that follow others so closely that the system keeps them back, or would (tcp(7),
+    /// `TCP_NODELAY`). The first never wait, so that an end that is written to once needs no such call.
+    pub(crate) fn send_at_once(&mut self)
+        ensures { self.new ≡ record self.old { sends_at_once = true } }
+    {
+        if self.sends_at_once {
+            return;
+        }
+        // A socket that is gone can't be told so, and needs no telling.
+        let _ = self.socket.set_nodelay(true);
+        self.sends_at_once = true;
     }
 
     /// Has the socket reported where there are bytes.

@@ -1,6 +1,7 @@
 //! One direction of a connection between two sockets.
 
 use crate::Buffer;
+use crate::buffer::ROOM;
 use crate::end::End;
 use relay::{Direction, ReadyStream, Step};
 use std::alloc::Global;
@@ -19,9 +20,9 @@ pub(crate) struct Way {
 }
 
 impl Way {
-    ghost use Rattle.std.specs.Prelude.{◌≡◌};
+    ghost use Rattle.std.specs.Prelude.{◌≡◌, ◌&&◌, ◌||◌, true, nat_le, nat_lt};
     ghost use Rattle.socket_link.specs.Silence.{heard_last};
-    ghost use Rattle.socket_link.specs.Ways.{Advances, IsWay, has_read, has_written, unbegun_way};
+    ghost use Rattle.socket_link.specs.Ways.{Advances, IsWay, has_read, has_written, has_written_more, unbegun_way};
 
     pub(crate) fn new(alloc: Global) -> Way
         ensures { result ≡ unbegun_way }
@@ -33,18 +34,32 @@ impl Way {
         }
     }
 
-    /// Moves what can be moved now. Something that passes is heard at both ends, at this moment in ms.
+    /// Moves what can be moved now. Something that passes is heard at both ends, at this moment in ms. What follows the first
+    /// bytes is sent as it comes.
     pub(crate) fn turn(&mut self, from: &mut End, to: &mut End, moment: u64, buffer: &mut Buffer)
         requires way { IsWay self.old }
         ensures way { IsWay self.new }
         ensures advances { Advances self.old self.new }
         ensures from { from.new ≡ record from.old { heard = heard_last (has_read self.old self.new) moment from.old.heard } }
-        ensures to { to.new ≡ record to.old { heard = heard_last (has_written self.old self.new) moment to.old.heard } }
+        ensures to { to.new ≡ record to.old { sends_at_once = to.new.sends_at_once; heard = heard_last (has_written self.old self.new) moment to.old.heard } }
+        ensures at_once { has_written_more self.old self.new ≡ true → to.new.sends_at_once ≡ true }
     {
         let (read, written) = (self.direction.read(), self.direction.written());
         self.carry(from, to, buffer);
+        if self.has_written_more(read, written) {
+            to.send_at_once();
+        }
         from.hear(self.direction.read() > read, moment);
         to.hear(self.direction.written() > written, moment);
+    }
+
+    /// Whether it has written since it had read and written so much, and not for the first time: it had read bytes before, or
+    /// as many are written as take several reads, and each read has its write.
+    fn has_written_more(&self, read: u64, written: u64) -> bool
+        ensures { result ≡ (nat_lt written self.now.direction.passage.written && (nat_lt 0 read || nat_le 65536 self.now.direction.passage.written)) }
+    {
+        let now = self.direction.written();
+        now > written && (read > 0 || now >= ROOM as u64)
     }
 
     /// Moves what can be moved now.

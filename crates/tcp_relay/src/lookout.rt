@@ -32,7 +32,8 @@ impl Line {
         })
     }
 
-    /// A worker begins to wait. False where there is no place for it, and it isn't waited for.
+    /// A worker begins to wait, the last in line. False where the line has no place for it: then it isn't in line, and nobody has
+    /// it told.
     fn join(&mut self, worker: u32) -> bool
         ensures last { result ≡ true → self.new.waiting.items ≡ self.old.waiting.items ++ worker ∷ [] }
         ensures full { result ≡ false → self.new.waiting.items ≡ self.old.waiting.items }

@@ -13,14 +13,15 @@ use crate::width::Width;
 use crate::worker::Worker;
 use crate::{Gate, ServeRuntime};
 use admit_core::Conn;
-use moments::Clock;
+use moments::{Clock, StoppedClock};
 use running_clock::RunningClock;
 use shard_seats::{Seat, TrackRef};
 use shared_visit::{arrive, finish, judge};
 use std::net::SocketAddr;
 use stick_table::Table;
 
-/// Has a connection judged by the rules, and passes it through the gate. Whether it is admitted.
+/// Has a connection judged by the rules, all at the moment at which they begin, and passes it through the gate. Whether it is
+/// admitted.
 pub(crate) fn judge_one<'a, T: Table, R: ServeRuntime, G: Gate, W: Width>(
     house: &House<'a, T, R, G, W>,
     seats: &mut [Seat],
@@ -34,7 +35,8 @@ pub(crate) fn judge_one<'a, T: Table, R: ServeRuntime, G: Gate, W: Width>(
 {
     let (alloc, rt, tables) = (house.alloc, house.rt, house.tables);
     let mut conn = arrive(house.setup, samples(house.setup, peer), tables, seats);
-    let is_admitted = judge(alloc, rt, tables, seats, &mut conn, clock);
+    let mut stopped = StoppedClock::at(clock.now());
+    let is_admitted = judge(alloc, rt, tables, seats, &mut conn, &mut stopped);
     house.gate.pass(number);
     (conn, is_admitted)
 }
@@ -54,8 +56,8 @@ pub(crate) fn closed<'a, W: Width>(
     conn
 }
 
-/// Ends a connection that was rejected or closed: what is left to be counted is counted, and its references go back. One whose
-/// references can't be given back still holds them, and is still there.
+/// Ends a connection that was rejected or closed: what is left to be counted is counted, and its references go back, all at one
+/// moment. One whose references can't be given back still holds them, and is still there.
 fn leave<'a, T: Table, R: ServeRuntime, G, W: Width>(
     house: &House<'a, T, R, G, W>,
     seats: &mut [Seat],
@@ -66,8 +68,16 @@ fn leave<'a, T: Table, R: ServeRuntime, G, W: Width>(
     requires visitor { IsVisitor W.tables conn }
     ensures visitor { IfSome result (IsVisitor W.tables) }
 {
+    let mut stopped = StoppedClock::at(clock.now());
     // A reference whose release is refused is still held.
-    let _rested = finish(house.alloc, house.rt, house.tables, seats, &mut conn, clock);
+    let _rested = finish(
+        house.alloc,
+        house.rt,
+        house.tables,
+        seats,
+        &mut conn,
+        &mut stopped,
+    );
     let_go(conn)
 }
 
