@@ -1,3 +1,4 @@
+pub mod Aheads
 pub mod Links
 pub mod Silence
 pub mod Tokens

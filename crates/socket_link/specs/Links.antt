@@ -2,6 +2,8 @@
 use Rattle.std.specs.Prelude.{◌≡◌, ◌≢◌, ℕ, Bool, true, false, ◌&&◌, ◌||◌, nat_lt, Some, if◌then◌else◌}
 use Rattle.relay.specs.declared.steps.Step.{Step}
 use Rattle.relay.specs.declared.steps.Step.TheVariants.{Ended, Failed, WaitsToRead, WaitsToWrite, Yields}
+use Rattle.socket_link.specs.Aheads.{ahead_with}
+use Rattle.socket_link.specs.declared.ahead.Ahead.{Ahead}
 use Rattle.socket_link.specs.declared.end.Side.{Side}
 use Rattle.socket_link.specs.declared.end.Side.TheVariants.{Client, Server}
 use Rattle.socket_link.specs.declared.timeouts.Timeouts.{Timeouts}
@@ -66,9 +68,9 @@ abbrev pub way_to : Side → LinkState → Way
 way_to Client link = link.back
 way_to Server link = link.there
 
--- where an end has ended, its direction knows
-abbrev pub ended_also : Way → Bool → Way
-ended_also way ended = record way { has_ended = way.has_ended || ended }
+-- a direction knows what is told of its sender
+abbrev pub told_also : Way → Ahead → Way
+told_also way told = record way { ahead = ahead_with way.ahead told }
 
 -- a direction that waited for room had a turn, and any other stayed as it was
 abbrev pub AdvancesIfItWaited : Way → Way → Type 0

@@ -1,15 +1,17 @@
 -- What a turn does to one direction of a connection between sockets.
-use Rattle.std.specs.Prelude.{◌≡◌, ◌+◌, ◌≤◌, Bool, true, false, ◌&&◌, ◌||◌, [], length, nat_le, nat_lt}
+use Rattle.std.specs.Prelude.{◌≡◌, ◌+◌, ◌≤◌, ℕ, Bool, true, false, ◌&&◌, ◌||◌, [], length, nat_le, nat_lt}
 use Rattle.relay.specs.Passage.{Passage}
 use Rattle.relay.specs.Turns.{HasTurned, is_last, unbegun}
 use Rattle.relay.specs.declared.steps.Cause.TheVariants.{Memory, Read, Write}
 use Rattle.relay.specs.declared.steps.Step.{Step}
 use Rattle.relay.specs.declared.steps.Step.TheVariants.{Ended, Failed, WaitsToRead, WaitsToWrite, Yields}
+use Rattle.socket_link.specs.Aheads.{is_uneven}
+use Rattle.socket_link.specs.declared.ahead.Ahead.TheVariants.{More}
 use Rattle.socket_link.specs.declared.way.Way.{Way}
 
--- nothing has passed, and the sender isn't known to send no more
+-- nothing has passed, and nothing is known of what the sender still sends
 abbrev pub unbegun_way : Way
-unbegun_way = record { direction = unbegun; step = WaitsToRead; has_ended = false }
+unbegun_way = record { direction = unbegun; step = WaitsToRead; ahead = More }
 
 -- what was read of the sender is what was written to the receiver and what waits for room; where one of them failed, or there was no memory, what was not written is lost
 abbrev pub Accounts : Passage → Step → Type 0
@@ -35,7 +37,7 @@ pub record Advances (old new : Way) : Type 0 where
   pub most : new.direction.passage.read ≤ old.direction.passage.read + 1048576
   pub read : old.direction.passage.read ≤ new.direction.passage.read
   pub written : old.direction.passage.written ≤ new.direction.passage.written
-  pub has_ended : new.has_ended ≡ old.has_ended
+  pub ahead : new.ahead ≡ old.ahead
 
 -- whether more was read, and whether more was written
 abbrev pub has_read : Way → Way → Bool
@@ -44,6 +46,10 @@ has_read old new = nat_lt old.direction.passage.read new.direction.passage.read
 abbrev pub has_written : Way → Way → Bool
 has_written old new = nat_lt old.direction.passage.written new.direction.passage.written
 
--- whether more was written, and not for the first time: bytes had come before, or so many are written now as need several reads
+-- whether more is written than so much, and perhaps not for the first time: so much had been read before, or as many are written as one read takes at most, or reads stop short
+abbrev pub has_written_more_than : ℕ → ℕ → Way → Bool
+has_written_more_than written read way = nat_lt written way.direction.passage.written && (nat_lt 0 read || nat_le 65536 way.direction.passage.written || is_uneven way.ahead)
+
+-- the same since an earlier moment
 abbrev pub has_written_more : Way → Way → Bool
-has_written_more old new = has_written old new && (nat_lt 0 old.direction.passage.read || nat_le 65536 new.direction.passage.written)
+has_written_more old new = has_written_more_than old.direction.passage.written old.direction.passage.read new

@@ -8,6 +8,11 @@ use mio::net::TcpStream;
 use mio::{Interest, Registry, Token};
 use std::io;
 
+/// That bytes are reported, and urgent ones among them: a read stops short of those, and what lies behind them would wait.
+fn bytes() -> Interest {
+    Interest::READABLE | Interest::PRIORITY
+}
+
 /// One of the ends of a connection.
 #[derive(Clone, Copy, Debug, PartialEq, Eq)]
 pub enum Side {
@@ -80,11 +85,11 @@ impl End {
         self.sends_at_once = true;
     }
 
-    /// Has the socket reported where there are bytes.
+    /// Has the socket reported where there are bytes, or urgent ones.
     pub(crate) fn watch(&mut self, registry: &Registry, token: Token) -> io::Result<()>
         ensures same { self.new ≡ self.old }
     {
-        registry.register(&mut self.socket, token, Interest::READABLE)
+        registry.register(&mut self.socket, token, bytes())
     }
 
     /// Has the socket reported where there is room, too.
@@ -103,9 +108,9 @@ impl End {
         ensures same { self.new ≡ self.old }
     {
         let interest = if self.watches_room {
-            Interest::READABLE | Interest::WRITABLE
+            bytes() | Interest::WRITABLE
         } else {
-            Interest::READABLE
+            bytes()
         };
         registry.reregister(&mut self.socket, token, interest)
     }

@@ -5,13 +5,16 @@
 //! contract can say: a link whose sockets are never ready meets its contracts too.
 #![tactic(auto)]
 
+mod ahead;
 mod buffer;
 mod end;
+mod incoming;
 mod link;
 mod resetting;
 mod timeouts;
 mod way;
 
+pub use ahead::Ahead;
 pub use buffer::Buffer;
 pub use end::Side;
 pub use link::{Link, Ready};

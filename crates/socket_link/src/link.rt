@@ -1,15 +1,16 @@
 //! A connection between two sockets.
 
 ghost use Rattle.std.specs.Prelude.{◌≡◌, ◌≢◌, ◌||◌, true, false, IfSome, IsTrue};
-ghost use Rattle.mio.specs.Event.{event_token, is_read_closed};
-ghost use Rattle.socket_link.specs.Links.{AdvancesIfItWaited, IsHeard, bytes, ended_also, has_passed, is_late, is_over, must_be_accepted, opened, way_from, way_to};
+ghost use Rattle.mio.specs.Event.{event_token};
+ghost use Rattle.socket_link.specs.Aheads.{ahead_of};
+ghost use Rattle.socket_link.specs.Links.{AdvancesIfItWaited, IsHeard, bytes, told_also, has_passed, is_late, is_over, must_be_accepted, opened, way_from, way_to};
 ghost use Rattle.socket_link.specs.Silence.{heard_last};
 ghost use Rattle.socket_link.specs.Tokens.{Tells, number_of, side_of};
 ghost use Rattle.socket_link.specs.Ways.{Advances, IsWay};
 
 use crate::end::{End, Side};
 use crate::way::Way;
-use crate::{Buffer, Timeouts};
+use crate::{Ahead, Buffer, Timeouts};
 use mio::Registry;
 use mio::event::Event;
 use mio::net::TcpStream;
@@ -25,8 +26,8 @@ pub struct Ready {
     /// The connection's number.
     pub number: usize,
     pub side: Side,
-    /// Whether its peer sends no more than what can be read already.
-    pub has_ended: bool,
+    /// What is known of the bytes that its peer still sends.
+    pub ahead: Ahead,
 }
 
 impl Ready {
@@ -35,13 +36,13 @@ impl Ready {
         ensures number { result.number ≡ number_of (event_token event.now) }
         ensures side { result.side ≡ side_of (event_token event.now) }
         ensures tells { Tells (event_token event.now) result.number result.side }
-        ensures ended { result.has_ended ≡ is_read_closed event.now }
+        ensures ahead { result.ahead ≡ ahead_of event.now }
     {
         let (number, side) = Side::of(event.token());
         Ready {
             number,
             side,
-            has_ended: event.is_read_closed(),
+            ahead: Ahead::of(event),
         }
     }
 }
@@ -120,25 +121,25 @@ impl Link {
         moment: u64,
         buffer: &mut Buffer,
     ) -> bool
-        ensures from { Advances (ended_also (way_from ready.side self.old) ready.has_ended) (way_from ready.side self.new) }
+        ensures from { Advances (told_also (way_from ready.side self.old) ready.ahead) (way_from ready.side self.new) }
         ensures to { AdvancesIfItWaited (way_to ready.side self.old) (way_to ready.side self.new) }
         ensures heard { IsHeard moment self.old self.new }
         ensures going { IsTrue result → is_over self.new ≡ false }
     {
         match ready.side {
-            Side::Client => self.turn_client(ready.has_ended, moment, buffer),
-            Side::Server => self.turn_server(ready.has_ended, moment, buffer),
+            Side::Client => self.turn_client(ready.ahead, moment, buffer),
+            Side::Server => self.turn_server(ready.ahead, moment, buffer),
         }
         !self.is_over() && self.watch_on(registry, ready.number).is_ok()
     }
 
     /// The client is ready: it may have sent something, or have room for what is kept.
-    fn turn_client(&mut self, has_ended: bool, moment: u64, buffer: &mut Buffer)
-        ensures there { Advances (ended_also self.old.there has_ended) self.new.there }
+    fn turn_client(&mut self, ahead: Ahead, moment: u64, buffer: &mut Buffer)
+        ensures there { Advances (told_also self.old.there ahead) self.new.there }
         ensures back { AdvancesIfItWaited self.old.back self.new.back }
         ensures heard { IsHeard moment self.old self.new }
     {
-        self.there.has_ended = self.there.has_ended || has_ended;
+        self.there.ahead = self.there.ahead.with(ahead);
         self.carry_there(moment, buffer);
         if self.back.step == Step::WaitsToWrite {
             self.carry_back(moment, buffer);
@@ -146,12 +147,12 @@ impl Link {
     }
 
     /// The server is ready: it may have sent something, or have room for what is kept.
-    fn turn_server(&mut self, has_ended: bool, moment: u64, buffer: &mut Buffer)
-        ensures back { Advances (ended_also self.old.back has_ended) self.new.back }
+    fn turn_server(&mut self, ahead: Ahead, moment: u64, buffer: &mut Buffer)
+        ensures back { Advances (told_also self.old.back ahead) self.new.back }
         ensures there { AdvancesIfItWaited self.old.there self.new.there }
         ensures heard { IsHeard moment self.old self.new }
     {
-        self.back.has_ended = self.back.has_ended || has_ended;
+        self.back.ahead = self.back.ahead.with(ahead);
         self.carry_back(moment, buffer);
         if self.there.step == Step::WaitsToWrite {
             self.carry_there(moment, buffer);

@@ -1,8 +1,9 @@
 //! One direction of a connection between two sockets.
 
-use crate::Buffer;
 use crate::buffer::ROOM;
 use crate::end::End;
+use crate::incoming::Incoming;
+use crate::{Ahead, Buffer};
 use relay::{Direction, ReadyStream, Step};
 use std::alloc::Global;
 use std::net::Shutdown;
@@ -15,14 +16,14 @@ const READS: u32 = 16;
 pub(crate) struct Way {
     pub(crate) direction: Direction,
     pub(crate) step: Step,
-    /// Whether its sender is known to send no more than what can be read already.
-    pub(crate) has_ended: bool,
+    /// What is known of the bytes that its sender still sends.
+    pub(crate) ahead: Ahead,
 }
 
 impl Way {
-    ghost use Rattle.std.specs.Prelude.{◌≡◌, ◌&&◌, ◌||◌, true, nat_le, nat_lt};
+    ghost use Rattle.std.specs.Prelude.{◌≡◌, true};
     ghost use Rattle.socket_link.specs.Silence.{heard_last};
-    ghost use Rattle.socket_link.specs.Ways.{Advances, IsWay, has_read, has_written, has_written_more, unbegun_way};
+    ghost use Rattle.socket_link.specs.Ways.{Advances, IsWay, has_read, has_written, has_written_more, has_written_more_than, unbegun_way};
 
     pub(crate) fn new(alloc: Global) -> Way
         ensures { result ≡ unbegun_way }
@@ -30,7 +31,7 @@ impl Way {
         Way {
             direction: Direction::new(alloc),
             step: Step::WaitsToRead,
-            has_ended: false,
+            ahead: Ahead::More,
         }
     }
 
@@ -53,13 +54,13 @@ impl Way {
         to.hear(self.direction.written() > written, moment);
     }
 
-    /// Whether it has written since it had read and written so much, and not for the first time: it had read bytes before, or
-    /// as many are written as take several reads, and each read has its write.
+    /// Whether it has written since it had read and written so much, and perhaps not for the first time: it had read bytes
+    /// before, or as many are written as one read takes at most, or reads stop short, so that there may have been several.
     fn has_written_more(&self, read: u64, written: u64) -> bool
-        ensures { result ≡ (nat_lt written self.now.direction.passage.written && (nat_lt 0 read || nat_le 65536 self.now.direction.passage.written)) }
+        ensures { result ≡ has_written_more_than written read self.now }
     {
         let now = self.direction.written();
-        now > written && (read > 0 || now >= ROOM as u64)
+        now > written && (read > 0 || now >= ROOM as u64 || self.ahead.is_uneven())
     }
 
     /// Moves what can be moved now.
@@ -71,12 +72,13 @@ impl Way {
         if self.direction.is_over() {
             return;
         }
-        let mut reader = ReadyStream::new(&from.socket);
+        let mut reader = ReadyStream::new(Incoming::new(&from.socket, self.ahead));
         let mut writer = ReadyStream::new(&to.socket);
         let bytes = buffer.bytes.as_mut_slice();
+        let until_end = self.ahead != Ahead::More;
         self.step = self
             .direction
-            .turn(&mut reader, &mut writer, bytes, READS, self.has_ended);
+            .turn(&mut reader, &mut writer, bytes, READS, until_end);
     }
 
     /// Hands its end on: the receiver sees it too, and may still send.
