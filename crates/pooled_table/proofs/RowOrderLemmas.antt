@@ -28,8 +28,9 @@ use Rattle.entry_store.proofs.StockLemmas.{none_some, same_some}
 use Rattle.table_model.specs.Key.{Key, key_cmp}
 use Rattle.table_model.specs.State.{row_of}
 use Rattle.table_model.specs.declared.filters.Filter.{Filter}
+use Rattle.table_model.specs.declared.rows.Record.{Record}
 use Rattle.table_model.specs.declared.rows.Row.{Row}
-use Rattle.pooled_table.specs.Shown.{record_of}
+use Rattle.pooled_table.specs.Shown.{keyed, record_of, records_of}
 use Rattle.pooled_table.specs.Seen.{filled, is_kept, is_meant, listed_entries, listed_in, listed_of, listed_row}
 
 -- ---- the orderings of two keys
@@ -132,6 +133,16 @@ module _ {K X : Type 0} (R : K → K → Ordering) (total : IsTotalOrder R) (exa
       (λ q. same-found es fs one other pairs q ∙ ap (lookup (is_at (R q))) (sym is) ∙ sym (found-filled R q slots) ∙ sym (lookup-entries R total q slots)) in
       sym (values-keyed key ys) ∙ ap values_of same
 
+-- the same of pairs of a key and what it has
+sorted-pairs : {K X : Type 0} (R : K → K → Ordering) (total : IsTotalOrder R) (exact : CmpEqualImpliesEq R) (slots : List (Option (K × X))) (ys : List (K × X)) → IsDistinctIn R slots → IsPermutation (filled slots) ys
+    → IsSortedBy (λ (a b : K × X). is_lt (R a.0 b.0)) ys → ys ≡ entries_of R slots
+sorted-pairs {K} {X} R total exact slots ys distinct moved sorted =
+    let one : IsDistinct (eq_by_cmp R) (keys_of (filled slots)) = distinct-filled R slots distinct in
+    let keys : IsPermutation (keys_of (filled slots)) (keys_of ys) = IsPermutation-map (λ (e : K × X). e.0) (filled slots) ys moved in
+    let other : IsDistinct (eq_by_cmp R) (keys_of ys) = IsDistinct-IsPermutation (eq_by_cmp R) (eq_by_cmp_equiv total).symm (keys_of (filled slots)) (keys_of ys) keys one in
+    same-entries R total exact ys (entries_of R slots) (rising-keys R total exact (λ (e : K × X). e.0) ys sorted other) (sorted-entries R total slots)
+    (λ q. same-found R total exact (filled slots) ys one other moved q ∙ sym (found-filled R q slots) ∙ sym (lookup-entries R total q slots))
+
 -- ---- what a listing shows
 module _ (columns : List Column) (expire : Option ℕ) (clock : ℕ) (choice : Filter) where
   abbrev shown : Held → Row
@@ -173,3 +184,21 @@ module _ (columns : List Column) (expire : Option ℕ) (clock : ℕ) (choice : F
   rows-sorted s rows sorted kept is moved up =
       sorted-is key_cmp nat_list_cmp_total exact_bytes (λ (row : Row). row.key) (map (option_and_then (listed_of columns expire clock choice)) s.slots) rows sorted
       (listed-keyed s.slots ∙ ap (map (λ (row : Row). (row.key, row))) (sym is)) (distinct-listed s kept) moved up
+
+-- ---- what is copied
+module _ (expire : Option ℕ) where
+  keyed-from : (o : Option Held) (d : Key × Record) → option_map (keyed expire) o ≡ Some d → (h : Held) × (o ≡ Some h) × (h.key ≡ d.0)
+  keyed-from None d is = absurd (none_some is)
+  keyed-from (Some h) d is = (h, refl, ap (λ (e : Key × Record). e.0) (same_some is))
+
+  distinct-keyed : (s : Stock) → IsStock s → IsDistinctIn key_cmp (map (option_map (keyed expire)) s.slots)
+  distinct-keyed s kept i j d e one other same =
+      let a = keyed-from (held_at s i) d (sym (get_or-map (option_map (keyed expire)) s.slots i None) ∙ one) in
+      let b = keyed-from (held_at s j) e (sym (get_or-map (option_map (keyed expire)) s.slots j None) ∙ other) in
+      kept.distinct i j a.0 b.0 a.1 b.1 (a.2 ∙ exact_bytes d.0 e.0 same ∙ sym b.2)
+
+  -- the records of the slots, in the order of their keys
+  pub records-sorted : (s : Stock) (pairs sorted : List (Key × Record)) → IsStock s → pairs ≡ filled (map (option_map (keyed expire)) s.slots) → IsPermutation pairs sorted
+      → IsSortedBy (λ (a b : Key × Record). is_lt (key_cmp a.0 b.0)) sorted → sorted ≡ records_of expire s
+  records-sorted s pairs sorted kept is moved up =
+      sorted-pairs key_cmp nat_list_cmp_total exact_bytes (map (option_map (keyed expire)) s.slots) sorted (distinct-keyed s kept) (subst (λ all. IsPermutation all sorted) is moved) up

@@ -1,9 +1,10 @@
 //! A plain table in the same state.
-ghost use Rattle.std.specs.Prelude.{◌≡◌, ℕ, ◌+◌, ◌<◌, ◌^◌, IfOk, IsSome, length};
+ghost use Rattle.std.specs.Prelude.{◌≡◌, ℕ, ◌+◌, ◌<◌, ◌^◌, IfOk, IsSome, length, map};
 ghost use Rattle.std.specs.List.{AllByRecursion};
 ghost use Rattle.std.specs.Option.{option_map};
-ghost use Rattle.entry_store.specs.Stock.{held_at};
+ghost use Rattle.entry_store.specs.Stock.{IsStock, held_at};
 ghost use Rattle.table_model.specs.declared.rows.Ticket.{Ticket as ATicket};
+ghost use Rattle.pooled_table.specs.Seen.{filled};
 ghost use Rattle.pooled_table.specs.Shown.{keyed, moment_at, records_of};
 ghost use Rattle.pooled_table.specs.Table.{tickets_of};
 
@@ -11,7 +12,6 @@ use crate::StickTable;
 use entry_store::Store;
 use sequence::NoMemory;
 use std::alloc::Global;
-use std::collections::BTreeMap;
 use stick_key::StickKey;
 use stick_table::PlainTable;
 use table_model::{Record, Ticket};
@@ -51,23 +51,21 @@ fn record_at(
     Ok(Some((key, found)))
 }
 
-/// The records by their keys.
-fn records_by_key(
+/// The keys and the records of the entries, in the order of the slots.
+fn gather_records(
     alloc: Global,
     store: &Store,
     size: u32,
     expire: Option<u32>,
-) -> Result<BTreeMap<StickKey, Record>, NoMemory>
+) -> Result<Vec<(StickKey, Record)>, NoMemory>
     requires size { size ≡ length store.now.slots }
     requires moments { (slot : ℕ) → moment_at store.now slot < 2 ^ 62 }
-    ensures { IfOk result (λ records. records.entries ≡ records_of expire store.now) }
+    ensures { IfOk result (λ records. records.items ≡ filled (map (option_map (keyed expire)) store.now.slots)) }
 {
-    let mut records = BTreeMap::new(alloc);
-    let mut slot = size;
-    while slot > 0 {
-        slot -= 1;
-        if let Some((key, found)) = record_at(store, expire, slot)? {
-            records.insert(key, found)?;
+    let mut records = Vec::new(alloc);
+    for slot in 0..size {
+        if let Some(found) = record_at(store, expire, slot)? {
+            records.push(found)?;
         }
     }
     Ok(records)
@@ -82,12 +80,11 @@ fn copy_records(
 ) -> Result<Vec<(StickKey, Record)>, NoMemory>
     requires size { size ≡ length store.now.slots }
     requires moments { (slot : ℕ) → moment_at store.now slot < 2 ^ 62 }
+    requires stock { IsStock store.now }
     ensures { IfOk result (λ records. records.items ≡ records_of expire store.now) }
 {
-    let mut records = Vec::new(alloc);
-    for (key, found) in records_by_key(alloc, store, size, expire)? {
-        records.push((key, found))?;
-    }
+    let mut records = gather_records(alloc, store, size, expire)?;
+    records.sort_unstable_by(|a: &(StickKey, Record), b: &(StickKey, Record)| a.0.cmp(&b.0));
     Ok(records)
 }
 
