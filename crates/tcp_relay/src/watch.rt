@@ -2,10 +2,10 @@
 
 use mio::unix::SourceFd;
 use mio::{Events, Interest, Poll, Registry, Token};
-use std::io;
 use std::net::{Net, TcpListener};
 use std::os::fd::AsRawFd;
 use std::time::Duration;
+use std::{io, thread};
 
 /// The listener's token. Those of connections are smaller.
 pub(crate) const LISTENER: Token = Token(usize::MAX);
@@ -48,13 +48,17 @@ impl Watch {
         self.poll.registry()
     }
 
-    /// Waits until something is ready; for a tick at most, where the worker has to look after something.
+    /// Waits until something is ready; for a tick at most, where the worker has to look after something. Then it first lets other
+    /// threads run, which may be those that its connections wait for: so it is seldom asleep when they send, and has to be woken.
     pub(crate) fn wait(&mut self, events: &mut Events, has_to_look: bool) -> io::Result<()> {
-        let limit = if has_to_look {
-            Some(Duration::from_millis(TICK))
-        } else {
-            None
-        };
-        self.poll.poll(events, limit)
+        if !has_to_look {
+            return self.poll.poll(events, None);
+        }
+        self.poll.poll(events, Some(Duration::ZERO))?;
+        if !events.is_empty() {
+            return Ok(());
+        }
+        thread::yield_now();
+        self.poll.poll(events, Some(Duration::from_millis(TICK)))
     }
 }
