@@ -142,6 +142,14 @@ class Proxy:
                 counts[task] = next(int(line.split()[1]) for line in lines if line.startswith('voluntary'))
         return counts
 
+    def has_stopped(self):
+        """Whether each thread of the program has stopped, as by a signal."""
+        tasks, states = f'/proc/{self.program.pid}/task', []
+        for task in os.listdir(tasks):
+            with open(f'{tasks}/{task}/stat', encoding='utf-8', errors='replace') as line:
+                states.append(line.read().rsplit(')', 1)[1].split()[0])
+        return all(state == 'T' for state in states)
+
     def is_unused(self):
         return all(row['use'] == 0 and row['conn_cur'] == 0 for row in self.rows().values())
 
