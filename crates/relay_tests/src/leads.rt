@@ -3,7 +3,7 @@
 use crate::peers::pair;
 use mio::event::Event;
 use mio::{Events, Poll, Registry};
-use socket_link::{Buffer, Link, Ready, Timeouts};
+use socket_link::{Buffer, Link, Ready, ServerSocket, Timeouts};
 use std::alloc::Global;
 use std::net::{Net, SocketAddr, TcpListener, TcpStream};
 use std::time::Duration;
@@ -65,6 +65,7 @@ fn lead_from<R: Net>(
     moment: u64,
 ) -> Option<Lead> {
     let desk = new_desk(rt, alloc)?;
+    let server = ServerSocket::open(rt, server, None).ok()?;
     match Link::open(rt, alloc, near, server, moment) {
         Some(link) => Some(Lead { link, desk }),
         None => None,
@@ -146,14 +147,30 @@ impl Lead {
 
     /// Whether anything is reported within 100 ms, behind which the link goes on.
     pub fn moves(&mut self) -> bool {
-        self.desk.wait(100) && self.desk.turn(&mut self.link)
+        self.moves_within(100)
+    }
+
+    /// The same within so many ms.
+    pub fn moves_within(&mut self, pause: u64) -> bool {
+        self.desk.wait(pause) && self.desk.turn(&mut self.link)
+    }
+
+    /// Moves what is reported until nothing is for 100 ms, or the link ends.
+    pub fn settle(&mut self) {
+        for _turn in 0..100u32 {
+            if !self.moves() {
+                return;
+            }
+        }
+    }
+
+    /// Leads the link from its start until it ends. Whether it does.
+    pub fn to_its_end(&mut self) -> bool {
+        !self.starts(0) || self.ends()
     }
 
     /// Leads the link until it ends. Whether it does.
-    pub fn to_its_end(&mut self) -> bool {
-        if !self.starts(0) {
-            return true;
-        }
+    pub fn ends(&mut self) -> bool {
         for _turn in 0..TURNS {
             if !self.desk.wait(PATIENCE) {
                 return false;
@@ -171,7 +188,13 @@ impl Lead {
     }
 
     /// Whether a peer has been silent for as long as it may, or longer, at a moment in ms.
-    pub fn is_late(&mut self, moment: u64, timeouts: &Timeouts) -> bool {
-        self.link.is_late(moment, timeouts)
+    /// Silence counts from a moment at the earliest.
+    pub fn is_late(&mut self, moment: u64, since: u64, timeouts: &Timeouts) -> bool {
+        self.link.is_late(moment, since, timeouts)
+    }
+
+    /// Closes the link.
+    pub fn close(self, rt: &impl Net) {
+        self.link.close(rt);
     }
 }

@@ -3,7 +3,11 @@
 #![tactic(auto)]
 
 #[cfg(test)]
+mod ending_links;
+#[cfg(test)]
 mod full_links;
+#[cfg(test)]
+mod keepalives;
 #[cfg(test)]
 mod late_links;
 #[cfg(test)]

@@ -22,6 +22,14 @@ pub fn pair<R: Net<Listener = TcpListener, Stream = TcpStream>>(
     rt: &R,
 ) -> Option<(TcpStream, TcpStream)> {
     let listener = TcpListener::bind(rt, "127.0.0.1:0").ok()?;
+    pair_at(rt, &listener)
+}
+
+/// The same, where the second is accepted by a listener.
+pub fn pair_at<R: Net<Listener = TcpListener, Stream = TcpStream>>(
+    rt: &R,
+    listener: &TcpListener,
+) -> Option<(TcpStream, TcpStream)> {
     let address = listener.local_addr().ok()?;
     let here = TcpStream::connect(rt, address).ok()?;
     match listener.accept() {

@@ -1,5 +1,5 @@
--- How long nothing has passed.
-use Rattle.std.specs.Prelude.{ℕ, ◌-◌, Bool, false, nat_le, Option, Some, None, if◌then◌else◌}
+-- How long nothing has passed, and how long nothing may.
+use Rattle.std.specs.Prelude.{ℕ, ◌-◌, Bool, true, false, nat_le, Option, Some, None, if◌then◌else◌}
 
 -- whether, at this moment in ms, nothing has passed since then for as long as is allowed, or longer; never, where nothing is said
 abbrev pub is_silent : ℕ → ℕ → Option ℕ → Bool
@@ -9,3 +9,9 @@ is_silent heard moment (Some limit) = nat_le limit (moment - heard)
 -- when something passed last: now, where something does
 abbrev pub heard_last : Bool → ℕ → ℕ → ℕ
 heard_last passes moment heard = if passes then moment else heard
+
+-- how long nothing may pass where one side has ended: so long as is said for that, or as before where nothing is said
+abbrev pub limit_at_end : Bool → Option ℕ → Option ℕ → Option ℕ
+limit_at_end false fin usual = usual
+limit_at_end true None usual = usual
+limit_at_end true (Some fin) usual = Some fin

@@ -1,11 +1,12 @@
 -- What a turn does to one direction of a connection between sockets.
-use Rattle.std.specs.Prelude.{◌≡◌, ◌+◌, ◌≤◌, ℕ, Bool, true, false, ◌&&◌, ◌||◌, [], length, nat_le, nat_lt}
+use Rattle.std.specs.Prelude.{◌≡◌, ◌+◌, ◌*◌, ◌≤◌, ℕ, Bool, true, false, ◌&&◌, ◌||◌, [], length, nat_le, nat_lt, if◌then◌else◌}
 use Rattle.relay.specs.Passage.{Passage}
 use Rattle.relay.specs.Turns.{HasTurned, is_last, unbegun}
 use Rattle.relay.specs.declared.steps.Cause.TheVariants.{Memory, Read, Write}
 use Rattle.relay.specs.declared.steps.Step.{Step}
 use Rattle.relay.specs.declared.steps.Step.TheVariants.{Ended, Failed, WaitsToRead, WaitsToWrite, Yields}
-use Rattle.socket_link.specs.Aheads.{is_uneven}
+use Rattle.socket_link.specs.Aheads.{ahead_with, is_until_empty}
+use Rattle.socket_link.specs.declared.ahead.Ahead.{Ahead}
 use Rattle.socket_link.specs.declared.ahead.Ahead.TheVariants.{More}
 use Rattle.socket_link.specs.declared.way.Way.{Way}
 
@@ -28,13 +29,29 @@ pub record IsWay (way : Way) : Type 0 where
   pub accounts : Accounts way.direction.passage way.step
   pub over : way.direction.over ≡ is_last way.step
 
--- one that is over stays as it is; the others read at most 16 times 65,536 bytes, and 16 at least where they have more to do. Of what sockets hold no contract tells
+-- how many reads a direction makes in one turn at most, before other connections have theirs
+abbrev pub reads_a_turn : ℕ
+reads_a_turn = 2
+
+-- all came and was written
+abbrev pub is_end : Step → Bool
+is_end WaitsToRead = false
+is_end WaitsToWrite = false
+is_end Yields = false
+is_end Ended = true
+is_end (Failed cause) = false
+
+-- what is told of its sender: what is ahead is known, and where all had come, that the sender's socket has failed since
+abbrev pub told_also : Way → Ahead → Bool → Way
+told_also way told fails = record way { step = if fails && is_end way.step then Failed Read else way.step; ahead = ahead_with way.ahead told }
+
+-- one that is over stays as it is; the others make that many reads of 65,536 bytes at most, and all of them where they have more to do. Of what sockets hold no contract tells
 pub record Advances (old new : Way) : Type 0 where
   pub over : old.direction.over ≡ true → new ≡ old
   pub turned : old.direction.over ≡ false → HasTurned ⊥ [] [] ⊥ [] [] old.direction.passage new.direction.passage new.step
   pub last : old.direction.over ≡ false → new.direction.over ≡ is_last new.step
-  pub yields : old.direction.over ≡ false → new.step ≡ Yields → old.direction.passage.read + 16 ≤ new.direction.passage.read
-  pub most : new.direction.passage.read ≤ old.direction.passage.read + 1048576
+  pub yields : old.direction.over ≡ false → new.step ≡ Yields → old.direction.passage.read + reads_a_turn ≤ new.direction.passage.read
+  pub most : new.direction.passage.read ≤ old.direction.passage.read + reads_a_turn * 65536
   pub read : old.direction.passage.read ≤ new.direction.passage.read
   pub written : old.direction.passage.written ≤ new.direction.passage.written
   pub ahead : new.ahead ≡ old.ahead
@@ -48,7 +65,7 @@ has_written old new = nat_lt old.direction.passage.written new.direction.passage
 
 -- whether more is written than so much, and perhaps not for the first time: so much had been read before, or as many are written as one read takes at most, or reads stop short
 abbrev pub has_written_more_than : ℕ → ℕ → Way → Bool
-has_written_more_than written read way = nat_lt written way.direction.passage.written && (nat_lt 0 read || nat_le 65536 way.direction.passage.written || is_uneven way.ahead)
+has_written_more_than written read way = nat_lt written way.direction.passage.written && (nat_lt 0 read || nat_le 65536 way.direction.passage.written || is_until_empty way.ahead)
 
 -- the same since an earlier moment
 abbrev pub has_written_more : Way → Way → Bool

@@ -1,7 +1,7 @@
 //! What is known of the bytes that a peer still sends.
 
 ghost use Rattle.std.specs.Prelude.{◌≡◌};
-ghost use Rattle.socket_link.specs.Aheads.{ahead_of, ahead_with, is_last, is_uneven};
+ghost use Rattle.socket_link.specs.Aheads.{ahead_of, ahead_with, is_last, is_until_empty};
 
 use mio::event::Event;
 
@@ -13,8 +13,8 @@ pub enum Ahead {
     /// What can be read already is all: a read that leaves room is the last.
     Last,
     /// A read that leaves room isn't the last: it stops short of urgent data (tcp(7)), or the socket has failed, which a further
-    /// one tells.
-    Uneven,
+    /// one tells. So reads go on until one finds nothing.
+    UntilEmpty,
 }
 
 impl Ahead {
@@ -23,7 +23,7 @@ impl Ahead {
         ensures { result ≡ ahead_of event.now }
     {
         if event.is_error() || event.is_priority() {
-            Ahead::Uneven
+            Ahead::UntilEmpty
         } else if event.is_read_closed() {
             Ahead::Last
         } else {
@@ -36,7 +36,7 @@ impl Ahead {
         ensures { result ≡ ahead_with self told }
     {
         match (self, told) {
-            (Ahead::Uneven, _) | (_, Ahead::Uneven) => Ahead::Uneven,
+            (Ahead::UntilEmpty, _) | (_, Ahead::UntilEmpty) => Ahead::UntilEmpty,
             (Ahead::Last, _) | (_, Ahead::Last) => Ahead::Last,
             (Ahead::More, Ahead::More) => Ahead::More,
         }
@@ -49,10 +49,10 @@ impl Ahead {
         matches!(self, Ahead::Last)
     }
 
-    /// Whether reads stop short, and others follow.
-    pub(crate) fn is_uneven(self) -> bool
-        ensures { result ≡ is_uneven self }
+    /// Whether reads stop short, and others follow until one finds nothing.
+    pub(crate) fn is_until_empty(self) -> bool
+        ensures { result ≡ is_until_empty self }
     {
-        matches!(self, Ahead::Uneven)
+        matches!(self, Ahead::UntilEmpty)
     }
 }

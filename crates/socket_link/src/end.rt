@@ -1,12 +1,14 @@
 //! One end of a connection.
 
-ghost use Rattle.std.specs.Prelude.{◌≡◌, true};
+ghost use Rattle.std.specs.Prelude.{◌≡◌, false, max, true};
 ghost use Rattle.socket_link.specs.Silence.{heard_last, is_silent};
 ghost use Rattle.socket_link.specs.Tokens.{Tells, number_of, side_of, token};
 
+use crate::reset;
 use mio::net::TcpStream;
 use mio::{Interest, Registry, Token};
 use std::io;
+use std::net::{Net, Shutdown};
 
 /// That bytes are reported, and urgent ones among them: a read stops short of those, and what lies behind them would wait.
 fn bytes() -> Interest {
@@ -53,7 +55,9 @@ pub(crate) struct End {
     /// Whether its bytes don't wait for those before them to be acknowledged.
     sends_at_once: bool,
     /// Whether it is watched for room, beside bytes.
-    watches_room: bool,
+    pub(crate) watches_room: bool,
+    /// Whether it was told that the other end sends no more.
+    pub(crate) is_told: bool,
     /// When something passed last, in ms.
     pub(crate) heard: u64,
 }
@@ -63,11 +67,14 @@ impl End {
     pub(crate) fn new(socket: TcpStream, moment: u64) -> End
         ensures heard { result.heard ≡ moment }
         ensures socket { result.socket ≡ socket }
+        ensures room { result.watches_room ≡ false }
+        ensures told { result.is_told ≡ false }
     {
         End {
             socket,
             sends_at_once: false,
             watches_room: false,
+            is_told: false,
             heard: moment,
         }
     }
@@ -124,13 +131,29 @@ impl End {
         }
     }
 
-    /// Whether nothing has passed here for so long, at a moment in ms.
-    pub(crate) fn is_silent_for(&self, moment: u64, limit: Option<u64>) -> bool
-        ensures { result ≡ is_silent self.now.heard moment limit }
+    /// Tells it that the other end sends no more. It may still send.
+    pub(crate) fn tell_end(&mut self)
+        ensures { self.new ≡ record self.old { is_told = true } }
+    {
+        // A socket that is gone already can't be shut, and needs no shutting.
+        let _ = self.socket.shutdown(Shutdown::Write);
+        self.is_told = true;
+    }
+
+    /// Whether nothing has passed here for so long, at a moment in ms. Silence doesn't count before another moment.
+    pub(crate) fn is_silent_for(&self, moment: u64, since: u64, limit: Option<u64>) -> bool
+        ensures { result ≡ is_silent (max self.now.heard since) moment limit }
     {
         match limit {
-            Some(limit) => moment.saturating_sub(self.heard) >= limit,
+            Some(limit) => moment.saturating_sub(self.heard.max(since)) >= limit,
             None => false,
+        }
+    }
+
+    /// Closes it, by a reset or in order.
+    pub(crate) fn close(self, rt: &impl Net, is_reset: bool) {
+        if is_reset {
+            reset(rt, self.socket);
         }
     }
 }

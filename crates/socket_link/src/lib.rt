@@ -1,22 +1,31 @@
 //! The two sockets of a connection, none of which waits, and what goes between them.
 //!
-//! The contracts say what a link counts, when it was heard last, when it is late and when it is over, and that in each
-//! direction what was read is what was written and what waits. What sockets give and take, and whether they are reported, no
-//! contract can say: a link whose sockets are never ready meets its contracts too.
+//! The contracts say what a link counts, when it was heard last, when it is late and when it is over, when each side is told
+//! that the other has ended, and that in each direction what was read is what was written and what waits. What sockets give
+//! and take, and whether they are reported, no contract can say: a link whose sockets are never ready meets its contracts too.
 #![tactic(auto)]
 
+mod address;
 mod ahead;
 mod buffer;
+mod calls;
+mod closing;
 mod end;
 mod incoming;
+mod keepalive;
 mod link;
+mod ready;
 mod resetting;
+mod server_socket;
 mod timeouts;
 mod way;
 
 pub use ahead::Ahead;
 pub use buffer::Buffer;
 pub use end::Side;
-pub use link::{Link, Ready};
+pub use keepalive::Keepalive;
+pub use link::Link;
+pub use ready::Ready;
 pub use resetting::reset;
+pub use server_socket::ServerSocket;
 pub use timeouts::Timeouts;

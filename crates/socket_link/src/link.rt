@@ -1,53 +1,24 @@
 //! A connection between two sockets.
 
-ghost use Rattle.std.specs.Prelude.{◌≡◌, ◌≢◌, ◌||◌, true, false, IfSome, IsTrue};
-ghost use Rattle.mio.specs.Event.{event_token};
-ghost use Rattle.socket_link.specs.Aheads.{ahead_of};
-ghost use Rattle.socket_link.specs.Links.{AdvancesIfItWaited, IsHeard, bytes, told_also, has_passed, is_late, is_over, must_be_accepted, opened, way_from, way_to};
+ghost use Rattle.std.specs.Prelude.{◌≡◌, ◌≢◌, ◌||◌, true, false, IfSome, IsTrue, OnOk};
+ghost use Rattle.socket_link.specs.Closing.{closing};
+ghost use Rattle.socket_link.specs.Links.{AdvancesIfItWaited, HandsOn, IsHeard, IsWatched, KeepsWhatIsKnown, bytes, has_ended, has_passed, is_held_up, is_late, is_over, must_be_accepted, opened, owes_client, owes_server, way_from, way_to};
 ghost use Rattle.socket_link.specs.Silence.{heard_last};
-ghost use Rattle.socket_link.specs.Tokens.{Tells, number_of, side_of};
-ghost use Rattle.socket_link.specs.Ways.{Advances, IsWay};
+ghost use Rattle.socket_link.specs.Ways.{Advances, IsWay, told_also};
 
+use crate::closing::Closing;
 use crate::end::{End, Side};
 use crate::way::Way;
-use crate::{Ahead, Buffer, Timeouts};
+use crate::{Buffer, Ready, ServerSocket, Timeouts};
 use mio::Registry;
-use mio::event::Event;
 use mio::net::TcpStream;
 use relay::Step;
 use std::alloc::Global;
 use std::io;
 use std::marker::Model;
-use std::net::{Net, SocketAddr};
+use std::net::Net;
 
-/// What is reported of a connection.
-#[derive(Clone, Copy, Debug, PartialEq, Eq)]
-pub struct Ready {
-    /// The connection's number.
-    pub number: usize,
-    pub side: Side,
-    /// What is known of the bytes that its peer still sends.
-    pub ahead: Ahead,
-}
-
-impl Ready {
-    /// What an event reports.
-    pub fn of(event: &Event) -> Ready
-        ensures number { result.number ≡ number_of (event_token event.now) }
-        ensures side { result.side ≡ side_of (event_token event.now) }
-        ensures tells { Tells (event_token event.now) result.number result.side }
-        ensures ahead { result.ahead ≡ ahead_of event.now }
-    {
-        let (number, side) = Side::of(event.token());
-        Ready {
-            number,
-            side,
-            ahead: Ahead::of(event),
-        }
-    }
-}
-
-/// Both sockets of a connection, and both directions between them. Dropping it closes both.
+/// Both sockets of a connection, and both directions between them. `close` closes both; dropping it closes both in order.
 #[derive(Drop)]
 pub struct Link {
     client: End,
@@ -64,23 +35,23 @@ impl Model for Link {
 
     ghost Value = { LinkState };
 
-    ghost view = { λ link. record { there = link.there; back = link.back; client = link.client.heard; server = link.server.heard; accepted = link.is_accepted } };
+    ghost view = { λ link. record { there = link.there; back = link.back; client = link.client.heard; server = link.server.heard; accepted = link.is_accepted; client_told = link.client.is_told; server_told = link.server.is_told; client_watched = link.client.watches_room; server_watched = link.server.watches_room } };
 
     ghost invariant = { λ link. IsWay link.there × IsWay link.back };
 }
 
 impl Link {
     /// Begins to connect a client to its server, at a moment in ms. None where the system says at once that it can't.
-    pub fn open<R: Net>(
-        rt: &R,
+    pub fn open(
+        _rt: &impl Net,
         alloc: Global,
         client: TcpStream,
-        server: SocketAddr,
+        server: ServerSocket,
         moment: u64,
     ) -> Option<Link>
         ensures { IfSome result (λ link. link ≡ opened moment) }
     {
-        let server = TcpStream::connect(rt, server).ok()?;
+        let server = server.connect().ok()?;
         Some(Link {
             client: End::new(client, moment),
             server: End::new(server, moment),
@@ -102,9 +73,12 @@ impl Link {
         ensures there { Advances self.old.there self.new.there }
         ensures back { self.new.back ≡ self.old.back }
         ensures heard { IsHeard moment self.old self.new }
+        ensures ends { HandsOn self.old self.new }
         ensures going { IsTrue result → is_over self.new ≡ false }
+        ensures watched { IsTrue result → IsWatched self.new }
     {
         self.carry_there(moment, buffer);
+        self.hand_on();
         if self.is_over() {
             return false;
         }
@@ -121,25 +95,29 @@ impl Link {
         moment: u64,
         buffer: &mut Buffer,
     ) -> bool
-        ensures from { Advances (told_also (way_from ready.side self.old) ready.ahead) (way_from ready.side self.new) }
+        ensures from { Advances (told_also (way_from ready.side self.old) ready.ahead ready.has_failed) (way_from ready.side self.new) }
         ensures to { AdvancesIfItWaited (way_to ready.side self.old) (way_to ready.side self.new) }
         ensures heard { IsHeard moment self.old self.new }
+        ensures ends { HandsOn self.old self.new }
         ensures going { IsTrue result → is_over self.new ≡ false }
+        ensures watched { IsTrue result → IsWatched self.new }
     {
         match ready.side {
-            Side::Client => self.turn_client(ready.ahead, moment, buffer),
-            Side::Server => self.turn_server(ready.ahead, moment, buffer),
+            Side::Client => self.turn_client(ready, moment, buffer),
+            Side::Server => self.turn_server(ready, moment, buffer),
         }
+        self.hand_on();
         !self.is_over() && self.watch_on(registry, ready.number).is_ok()
     }
 
     /// The client is ready: it may have sent something, or have room for what is kept.
-    fn turn_client(&mut self, ahead: Ahead, moment: u64, buffer: &mut Buffer)
-        ensures there { Advances (told_also self.old.there ahead) self.new.there }
+    fn turn_client(&mut self, ready: Ready, moment: u64, buffer: &mut Buffer)
+        ensures there { Advances (told_also self.old.there ready.ahead ready.has_failed) self.new.there }
         ensures back { AdvancesIfItWaited self.old.back self.new.back }
         ensures heard { IsHeard moment self.old self.new }
+        ensures same { KeepsWhatIsKnown self.old self.new }
     {
-        self.there.ahead = self.there.ahead.with(ahead);
+        self.there.hear_of(ready.ahead, ready.has_failed);
         self.carry_there(moment, buffer);
         if self.back.step == Step::WaitsToWrite {
             self.carry_back(moment, buffer);
@@ -147,12 +125,13 @@ impl Link {
     }
 
     /// The server is ready: it may have sent something, or have room for what is kept.
-    fn turn_server(&mut self, ahead: Ahead, moment: u64, buffer: &mut Buffer)
-        ensures back { Advances (told_also self.old.back ahead) self.new.back }
+    fn turn_server(&mut self, ready: Ready, moment: u64, buffer: &mut Buffer)
+        ensures back { Advances (told_also self.old.back ready.ahead ready.has_failed) self.new.back }
         ensures there { AdvancesIfItWaited self.old.there self.new.there }
         ensures heard { IsHeard moment self.old self.new }
+        ensures same { KeepsWhatIsKnown self.old self.new }
     {
-        self.back.ahead = self.back.ahead.with(ahead);
+        self.back.hear_of(ready.ahead, ready.has_failed);
         self.carry_back(moment, buffer);
         if self.there.step == Step::WaitsToWrite {
             self.carry_there(moment, buffer);
@@ -163,27 +142,48 @@ impl Link {
         ensures there { Advances self.old.there self.new.there }
         ensures back { self.new.back ≡ self.old.back }
         ensures heard { IsHeard moment self.old self.new }
+        ensures same { KeepsWhatIsKnown self.old self.new }
     {
-        let was_ended = self.there.step == Step::Ended;
         self.there
             .turn(&mut self.client, &mut self.server, moment, buffer);
-        // Closing says the same to both.
-        if !was_ended && self.there.step == Step::Ended && self.back.step != Step::Ended {
-            self.there.hand_on(&self.server);
-        }
     }
 
     fn carry_back(&mut self, moment: u64, buffer: &mut Buffer)
         ensures back { Advances self.old.back self.new.back }
         ensures there { self.new.there ≡ self.old.there }
         ensures heard { IsHeard moment self.old self.new }
+        ensures same { KeepsWhatIsKnown self.old self.new }
     {
-        let was_ended = self.back.step == Step::Ended;
         self.back
             .turn(&mut self.server, &mut self.client, moment, buffer);
-        if !was_ended && self.back.step == Step::Ended && self.there.step != Step::Ended {
-            self.back.hand_on(&self.client);
+    }
+
+    /// Tells each side that the other has ended, where it is to be told so now: the server not before it has accepted, as the
+    /// system undoes what isn't connected yet where its writing side is shut.
+    fn hand_on(&mut self)
+        ensures ends { HandsOn self.old self.new }
+        ensures same { self.new ≡ record self.old { accepted = self.new.accepted; client_told = self.new.client_told; server_told = self.new.server_told } }
+    {
+        if self.owes_client() {
+            self.client.tell_end();
         }
+        if self.owes_server() && self.is_accepted() {
+            self.server.tell_end();
+        }
+    }
+
+    /// Whether the server has ended and the client is still to be told so. Where the connection is over, closing tells it.
+    fn owes_client(&self) -> bool
+        ensures { result ≡ owes_client self.now }
+    {
+        self.back.step == Step::Ended && !self.is_over() && !self.client.is_told
+    }
+
+    /// Whether the client has ended and the server is still to be told so.
+    fn owes_server(&self) -> bool
+        ensures { result ≡ owes_server self.now }
+    {
+        self.there.step == Step::Ended && !self.is_over() && !self.server.is_told
     }
 
     /// Whether both directions have ended, or one has failed.
@@ -206,12 +206,15 @@ impl Link {
 
     /// Has the sockets reported for which a direction waits, or which has more to do.
     fn watch_on(&mut self, registry: &Registry, number: usize) -> io::Result<()>
-        ensures same { self.new ≡ self.old }
+        ensures same { self.new ≡ record self.old { client_watched = self.new.client_watched; server_watched = self.new.server_watched } }
+        ensures watched { OnOk result (IsWatched self.new) }
     {
         let (client, server) = (Side::Client.token(number), Side::Server.token(number));
         match self.there.step {
             Step::WaitsToWrite => self.server.watch_room(registry, server)?,
             Step::Yields => self.client.watch_again(registry, client)?,
+            // It has room as soon as it has accepted.
+            Step::Ended if self.owes_server() => self.server.watch_room(registry, server)?,
             _ => {}
         }
         match self.back.step {
@@ -239,20 +242,34 @@ impl Link {
         self.there.direction.written() > 0
             || self.back.direction.read() > 0
             || self.back.step == Step::Ended
+            || self.client.is_told
+    }
+
+    /// Whether one side has ended.
+    fn has_ended(&self) -> bool
+        ensures { result ≡ has_ended self.now }
+    {
+        self.there.step == Step::Ended || self.back.step == Step::Ended
     }
 
     /// Whether, at a moment in ms, a peer has been silent for as long as it may, or longer: the server until it has accepted the
-    /// connection, and then each of both. Where nothing has passed at the server, the system is asked whether it has accepted.
-    pub fn is_late(&mut self, moment: u64, timeouts: &Timeouts) -> bool
-        ensures late { result ≡ is_late self.new moment timeouts.now }
+    /// connection, and then each of both that isn't held up by the other. Silence counts from when something passed last, or from a later moment `since`. Where
+    /// nothing has passed at the server, the system is asked whether it has accepted.
+    pub fn is_late(&mut self, moment: u64, since: u64, timeouts: &Timeouts) -> bool
+        ensures late { result ≡ is_late self.new moment since timeouts.now }
         ensures same { self.new ≡ record self.old { accepted = self.new.accepted } }
         ensures known { must_be_accepted self.old ≡ true → self.new.accepted ≡ true }
     {
         if !self.is_accepted() {
-            return self.server.is_silent_for(moment, Some(timeouts.connect));
+            return self
+                .server
+                .is_silent_for(moment, since, Some(timeouts.connect));
         }
-        self.client.is_silent_for(moment, timeouts.client)
-            || self.server.is_silent_for(moment, timeouts.server)
+        let client = timeouts.limit(self.has_ended(), timeouts.client);
+        let server = timeouts.limit(self.has_ended(), timeouts.server);
+        let (there, back) = (self.there.step, self.back.step);
+        !is_held_up(there, back) && self.client.is_silent_for(moment, since, client)
+            || !is_held_up(back, there) && self.server.is_silent_for(moment, since, server)
     }
 
     /// How many bytes came in and went out: those that were read of the client, and those that were written to it. None where
@@ -265,4 +282,28 @@ impl Link {
         let counted = (self.there.direction.read(), self.back.direction.written());
         if self.has_passed() { counted } else { (0, 0) }
     }
+    /// Closes both sockets: in order where nothing has failed, and where a socket has, the other by a reset, so that what was
+    /// carried doesn't look whole. Of a server that never accepted the client reads an end.
+    pub fn close(self, rt: &impl Net) {
+        let closing = self.closing();
+        let Link { client, server, .. } = self;
+        client.close(rt, closing.resets_client);
+        server.close(rt, closing.resets_server);
+    }
+
+    /// Which of both sockets is reset where it closes now.
+    fn closing(&self) -> Closing
+        ensures { result ≡ closing self.now.there.step self.now.back.step (must_be_accepted self.now) }
+    {
+        let is_accepted = self.is_accepted || self.has_passed();
+        Closing::of(self.there.step, self.back.step, is_accepted)
+    }
+}
+
+/// Whether a side's bytes wait to be read as the other side has no room, while this one takes what it is sent, by the direction
+/// from it and the one to it.
+fn is_held_up(from: Step, to: Step) -> bool
+    ensures { result ≡ is_held_up from to }
+{
+    from == Step::WaitsToWrite && to != Step::WaitsToWrite
 }

@@ -4,12 +4,11 @@ use crate::buffer::ROOM;
 use crate::end::End;
 use crate::incoming::Incoming;
 use crate::{Ahead, Buffer};
-use relay::{Direction, ReadyStream, Step};
+use relay::{Cause, Direction, ReadyStream, Step};
 use std::alloc::Global;
-use std::net::Shutdown;
 
 /// How many reads a direction makes in one turn at most, before other connections have theirs.
-const READS: u32 = 16;
+const READS: u32 = 2;
 
 /// A direction, and how far it is.
 #[derive(Drop)]
@@ -23,7 +22,7 @@ pub(crate) struct Way {
 impl Way {
     ghost use Rattle.std.specs.Prelude.{◌≡◌, true};
     ghost use Rattle.socket_link.specs.Silence.{heard_last};
-    ghost use Rattle.socket_link.specs.Ways.{Advances, IsWay, has_read, has_written, has_written_more, has_written_more_than, unbegun_way};
+    ghost use Rattle.socket_link.specs.Ways.{Advances, IsWay, has_read, has_written, has_written_more, has_written_more_than, told_also, unbegun_way};
 
     pub(crate) fn new(alloc: Global) -> Way
         ensures { result ≡ unbegun_way }
@@ -60,7 +59,7 @@ impl Way {
         ensures { result ≡ has_written_more_than written read self.now }
     {
         let now = self.direction.written();
-        now > written && (read > 0 || now >= ROOM as u64 || self.ahead.is_uneven())
+        now > written && (read > 0 || now >= ROOM as u64 || self.ahead.is_until_empty())
     }
 
     /// Moves what can be moved now.
@@ -81,9 +80,16 @@ impl Way {
             .turn(&mut reader, &mut writer, bytes, READS, until_end);
     }
 
-    /// Hands its end on: the receiver sees it too, and may still send.
-    pub(crate) fn hand_on(&self, to: &End) {
-        // A socket that is gone already can't be shut, and needs no shutting.
-        let _ = to.socket.shutdown(Shutdown::Write);
+    /// Takes in what is told of its sender: what is ahead, and whether its socket has failed. What had ended in order has then
+    /// failed. What hasn't finds the failure by its next read.
+    pub(crate) fn hear_of(&mut self, ahead: Ahead, has_failed: bool)
+        requires way { IsWay self.old }
+        ensures way { IsWay self.new }
+        ensures told { self.new ≡ told_also self.old ahead has_failed }
+    {
+        self.ahead = self.ahead.with(ahead);
+        if has_failed && self.step == Step::Ended {
+            self.step = Step::Failed(Cause::Read);
+        }
     }
 }

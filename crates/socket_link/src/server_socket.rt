@@ -1,0 +1,58 @@
+//! A socket that isn't connected to its server yet.
+
+ghost use Rattle.std.specs.Prelude.{◌≡◌, IfOk};
+
+use crate::Keepalive;
+use crate::address::{encode, family};
+use crate::calls::checked;
+use libc::EINPROGRESS;
+use libc::net::{SOCK_CLOEXEC, SOCK_NONBLOCK, SOCK_STREAM, connect, socket};
+use mio::net::TcpStream;
+use os::FromRawFd;
+use std::io;
+use std::net::{Net, SocketAddr};
+use std::os::fd::AsRawFd;
+
+/// A socket for a connection to a server, which isn't begun. It is had before a client is accepted, so that no client is taken
+/// for which there is no socket.
+#[derive(Drop)]
+pub struct ServerSocket {
+    socket: TcpStream,
+    server: SocketAddr,
+}
+
+impl ServerSocket {
+    /// A socket that will be connected to this server, and asks it so whether it is still there. It fails where the system has
+    /// none, or refuses to ask so.
+    pub fn open(
+        rt: &impl Net,
+        server: SocketAddr,
+        keepalive: Option<Keepalive>,
+    ) -> io::Result<ServerSocket>
+        ensures server { IfOk result (λ opened. opened.server ≡ server) }
+    {
+        let socket = new_socket(server)?;
+        if let Some(keepalive) = keepalive {
+            keepalive.apply(rt, &socket)?;
+        }
+        Ok(ServerSocket { socket, server })
+    }
+
+    /// Begins to connect it. It fails where the system says at once that it can't.
+    pub(crate) fn connect(self) -> io::Result<TcpStream> {
+        let ServerSocket { socket, server } = self;
+        let (address, size) = encode(server);
+        match checked(unsafe { connect(socket.as_raw_fd(), &address, size) }) {
+            Err(error) if error.raw_os_error() != Some(EINPROGRESS) => Err(error),
+            _ => Ok(socket),
+        }
+    }
+}
+
+/// A socket of a server's family that doesn't wait, and that a program doesn't keep which takes this one's place.
+fn new_socket(server: SocketAddr) -> io::Result<TcpStream> {
+    let kind = SOCK_STREAM | SOCK_NONBLOCK | SOCK_CLOEXEC;
+    let descriptor = unsafe { socket(family(server), kind, 0) };
+    checked(descriptor)?;
+    Ok(unsafe { TcpStream::from_raw_fd(descriptor) })
+}
