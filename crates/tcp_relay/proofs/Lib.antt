@@ -2,3 +2,5 @@ mod LeavingLemmas
 pub mod VisitorLemmas
 pub mod SeatingLemmas
 pub mod ServingLemmas
+mod LookLemmas
+mod ShareLemmas

@@ -1,7 +1,9 @@
+pub mod Accepting
 pub mod Addresses
 pub mod Counts
 pub mod Lookouts
 pub mod Numbers
 pub mod Seating
 pub mod Serving
+pub mod Sweeps
 pub mod Visitors

@@ -1,6 +1,7 @@
 //! Seats go to workers, and come back with what those have done.
 
-ghost use Rattle.std.specs.Prelude.{◌≡◌, ◌≤◌, ◌*◌, length, vec_capacity, vec_len};
+ghost use Rattle.std.specs.Prelude.{◌≡◌, ◌≤◌, ◌*◌, ◌^◌, length, vec_capacity, vec_len};
+ghost use Rattle.tcp_relay.specs.Accepting.{most_of};
 ghost use Rattle.tcp_relay.specs.Seating.{HaveEach};
 ghost use Rattle.tcp_relay.specs.Serving.{AreLeft, AreSeats};
 
@@ -8,12 +9,14 @@ use crate::Served;
 use crate::gear::Gear;
 use crate::places::Places;
 use crate::seating::take_row;
+use crate::shares::share_of;
 use crate::visitor::Visitor;
 use crate::width::Width;
 use crate::worker::{Tally, Worker};
 use shard_seats::{Seat, TrackRef};
 
-/// As many workers as there are rows for their seats, each with a seat of each table and so many places for connections.
+/// As many workers as there are rows for their seats, each with a seat of each table and its share of the places for so many
+/// connections.
 pub(crate) fn seat_workers<'a, W: Width>(
     seats: &mut Vec<Vec<Seat>>,
     workers: &mut Vec<Worker<'a, W>>,
@@ -23,7 +26,8 @@ pub(crate) fn seat_workers<'a, W: Width>(
     mut gears: Vec<Gear>,
     connections: usize,
 )
-    requires most { connections ≡ W.most }
+    requires most { most_of connections (length rows.items) ≡ W.most }
+    requires connections { connections ≤ 2 ^ 32 }
     requires seats { AreSeats (length W.tables) (length rows.items) seats.old }
     requires rows { HaveEach 0 (length W.tables) rows.items }
     requires visitors { (length visitors.items ≡ length rows.items) × HaveEach 0 W.most visitors.items }
@@ -34,6 +38,7 @@ pub(crate) fn seat_workers<'a, W: Width>(
     ensures tables { length seats.new.items ≡ length W.tables }
     ensures seats { HaveEach 0 (length rows.items) seats.new.items }
 {
+    let count = rows.as_slice().len();
     while let Some(places) = visitors.pop() {
         let Some(row) = rows.pop() else {
             unreachable!();
@@ -45,7 +50,8 @@ pub(crate) fn seat_workers<'a, W: Width>(
             unreachable!();
         };
         let row = take_row(seats, row);
-        let places = Places::new(places, spare, connections);
+        let most = share_of(connections, count, rows.as_slice().len());
+        let places = Places::new(places, spare, most);
         workers.push_reserved(Worker::new(row, places, gear));
     }
     visitors.destroy_empty();

@@ -7,7 +7,7 @@ use crate::door::Door;
 use crate::width::Width;
 use rule_model::Setup;
 use shard_locks::Shards;
-use socket_link::Timeouts;
+use socket_link::{Keepalive, Timeouts};
 use std::alloc::Global;
 use std::marker::PhantomData;
 use std::net::{SocketAddr, TcpListener};
@@ -26,6 +26,7 @@ pub(crate) struct House<'a, T: Table, R, G, W: Width> {
     /// Where the server is.
     pub(crate) server: SocketAddr,
     pub(crate) timeouts: Timeouts,
+    pub(crate) keepalive: Option<Keepalive>,
     pub(crate) gate: &'a G,
     /// The moment 0.
     pub(crate) start: Instant,

@@ -5,13 +5,15 @@
 //! counted is done below it.
 #![tactic(auto)]
 
+mod accept_errors;
+mod acceptor;
 mod addresses;
-mod desk;
 mod door;
 mod gate;
 mod gathering;
 mod gear;
 mod house;
+pub mod laws;
 mod leaving;
 mod limits;
 mod lookout;
@@ -21,6 +23,8 @@ mod runtime;
 mod seating;
 mod served;
 mod serving;
+mod shares;
+mod sweep;
 mod turning;
 mod visiting;
 mod visitor;

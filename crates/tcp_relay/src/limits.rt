@@ -1,11 +1,14 @@
 //! How much is served at once, and how long.
 
-use socket_link::Timeouts;
+use socket_link::{Keepalive, Timeouts};
 
-/// How many connections are open at once, and how long each may be silent.
+/// How many connections are open at once, how long each may be silent, and how peers are asked whether they are still there.
 #[derive(Clone, Copy, Debug, PartialEq, Eq)]
 pub struct Limits {
-    /// How many connections each thread holds at most, 1 or more. While it holds so many it accepts none.
+    /// How many connections are open at once at most, on all threads together. They are shared out evenly; the first threads hold
+    /// one more where that leaves a rest. A thread that holds as many as it may accepts none.
     pub connections: u32,
     pub timeouts: Timeouts,
+    /// How the system asks a silent server. A client is asked as the listener says, of which its socket inherits that.
+    pub keepalive: Option<Keepalive>,
 }

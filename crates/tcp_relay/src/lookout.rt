@@ -140,8 +140,6 @@ pub(crate) struct Post<'a> {
     worker: u32,
     /// Whether it waits, as far as the others know.
     is_waiting: bool,
-    /// Whether there may be connections of which it was told and that it hasn't accepted.
-    has_left_some: bool,
 }
 
 impl<'a> Post<'a> {
@@ -151,27 +149,16 @@ impl<'a> Post<'a> {
             lookout,
             worker,
             is_waiting: false,
-            has_left_some: false,
         }
-    }
-
-    /// There may be connections left of which it was told.
-    pub(crate) fn leave_some(&mut self) {
-        self.has_left_some = true;
     }
 
     /// It begins to wait. One that can't accept is told of no connection any more.
     pub(crate) fn begin(&mut self, rt: &impl Wait, can_accept: bool) {
         let (lookout, worker) = (self.lookout, self.worker);
         let mut line = lookout.line.lock(rt);
-        let is_told = line.told == Some(worker);
         if can_accept {
             self.is_waiting = line.join(worker);
-            if is_told && self.has_left_some {
-                lookout.tell(worker, CONNECTIONS);
-            }
-            self.has_left_some = false;
-        } else if is_told {
+        } else if line.told == Some(worker) {
             lookout.tell_instead(&mut line, None);
         }
         lookout.appoint(&mut line);

@@ -1,6 +1,6 @@
 //! The connections that a worker holds.
 
-ghost use Rattle.std.specs.Prelude.{◌≡◌, ◌≤◌, IfSome, None, Some, slice_get, vec_capacity, vec_len};
+ghost use Rattle.std.specs.Prelude.{◌≡◌, ◌≤◌, ◌==◌, ◌||◌, not, nat_lt, length, IfSome, None, Some, slice_get, vec_capacity, vec_len};
 ghost use Rattle.admit_core.specs.Conn.{needed};
 ghost use Rattle.admit_core.specs.declared.need.Need.TheVariants.{Rest};
 ghost use Rattle.tcp_relay.specs.Visitors.{IsVisitor};
@@ -23,8 +23,8 @@ pub(crate) struct Places<'a, W: Width> {
     most: usize,
     /// How many connections are open.
     open: usize,
-    ghost limit: { most ≡ W.most },
-    ghost few: { vec_len visitors ≤ W.most },
+    ghost limit: { most ≤ W.most },
+    ghost few: { vec_len visitors ≤ most },
     ghost room: { W.most ≤ vec_capacity visitors },
 }
 
@@ -35,9 +35,10 @@ impl<'a, W: Width> Places<'a, W> {
         free: Vec<usize>,
         most: usize,
     ) -> Places<'a, W>
-        requires most { most ≡ W.most }
+        requires most { most ≤ W.most }
         requires empty { vec_len visitors ≡ 0 }
-        requires room { most ≤ vec_capacity visitors }
+        requires room { W.most ≤ vec_capacity visitors }
+        ensures most { result.most ≡ most }
     {
         Places {
             visitors,
@@ -60,6 +61,13 @@ impl<'a, W: Width> Places<'a, W> {
     /// How many places have been in use.
     pub(crate) fn count(&self) -> usize {
         self.visitors.as_slice().len()
+    }
+
+    /// Whether there is a place for one more connection.
+    pub(crate) fn has_room(&self) -> bool
+        ensures { result ≡ (not (length self.now.free.items == 0) || nat_lt (vec_len self.now.visitors) self.now.most) }
+    {
+        !self.free.is_empty() || self.visitors.as_slice().len() < self.most
     }
 
     /// A place for one more connection. None where all are taken.
@@ -147,8 +155,15 @@ impl<'a, W: Width> Places<'a, W> {
     }
 
     /// Whether the connection in a place is open, and a peer of it has been silent for longer than it may, at a moment in ms.
-    pub(crate) fn is_late(&mut self, place: usize, moment: u64, timeouts: &Timeouts) -> bool {
-        is_late_at(self.visitors.as_mut_slice(), place, moment, timeouts)
+    /// Silence counts from `since` on at the earliest.
+    pub(crate) fn is_late(
+        &mut self,
+        place: usize,
+        moment: u64,
+        since: u64,
+        timeouts: &Timeouts,
+    ) -> bool {
+        is_late_at(self.visitors.as_mut_slice(), place, moment, since, timeouts)
     }
 
     /// Takes the connection in a place, if it is open. The place stays claimed.
@@ -205,10 +220,11 @@ fn is_late_at<W: Width>(
     visitors: &mut [Option<Visitor<'_, W>>],
     place: usize,
     moment: u64,
+    since: u64,
     timeouts: &Timeouts,
 ) -> bool {
     match visitors.get_mut(place) {
-        Some(Some(visitor)) => visitor.is_late(moment, timeouts),
+        Some(Some(visitor)) => visitor.is_late(moment, since, timeouts),
         _ => false,
     }
 }

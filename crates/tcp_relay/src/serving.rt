@@ -1,21 +1,25 @@
 //! A listener's workers, each on a thread of its own.
 
 ghost use Rattle.std.specs.Prelude.{◌≡◌, ◌≤◌, IfErr, IfOk, is_some, length, true, false, vec_len};
+ghost use Rattle.tcp_relay.specs.Accepting.{most_of};
 ghost use Rattle.tcp_relay.specs.Serving.{AreSeats, AreTablesOf, IsCause, IsFault, IsServed, IsUnserved};
 ghost use Rattle.tcp_relay.specs.declared.served.FaultKind.TheVariants.{NoMemory as MemoryFault};
 
+use crate::acceptor::Acceptor;
 use crate::addresses::socket_address;
-use crate::desk::Desk;
 use crate::door::Door;
 use crate::gathering::{gather, seat_workers};
 use crate::house::House;
 use crate::lookout::{Crew, Lookout, Post};
 use crate::room::{Room, reserve};
+use crate::shares::share_of;
+use crate::sweep::Sweep;
 use crate::turning::{Shift, turn_all};
 use crate::watch::Watch;
 use crate::width::Width;
 use crate::worker::Worker;
 use crate::{FaultKind, Gate, Limits, ServeFault, ServeRuntime, Served};
+use moments::Clock;
 use rule_model::Setup;
 use running_clock::RunningClock;
 use shard_locks::Shards;
@@ -37,16 +41,18 @@ fn serve_each<'a, T: Table, R: ServeRuntime, G: Gate, W: Width>(
         worker.tally.has_failed = true;
         return;
     };
+    let mut clock = RunningClock::new(house.rt, house.start);
+    let sweep = Sweep::new(clock.now());
     let mut shift = Shift {
         post: Post::new(&house.door.lookout, watch.worker()),
         watch,
-        desk: Desk::new(),
-        clock: RunningClock::new(house.rt, house.start),
-        looked: 0,
+        acceptor: Acceptor::new(),
+        clock,
+        sweep,
     };
     for _turn in house.rt.forever() {
-        shift.desk.draw(house.door, house.rt, worker.keeps);
-        if shift.desk.number().is_none() && worker.places.is_idle() {
+        shift.acceptor.draw(house.door, house.rt, worker.keeps);
+        if shift.acceptor.number().is_none() && worker.places.is_idle() {
             return;
         }
         if !turn_all(house, worker, &mut shift, &mut gear) {
@@ -176,18 +182,19 @@ fn serve_wide<W: Width + Send + Sync, T: Table + Send, R: ServeRuntime, G: Gate 
     start: Instant,
 ) -> Result<Served, ServeFault>
     requires width { W.tables ≡ tables.now }
-    requires most { W.most ≡ limits.connections }
+    requires most { W.most ≡ most_of limits.connections threads }
     requires server { is_some setup.now.server ≡ true }
     requires tables { AreTablesOf setup.now tables.now }
     requires seats { AreSeats (length tables.now) threads seats }
-    requires threads { threads ≤ 64 }
-    ensures ok { IfOk result (λ served. IsServed (length tables.now) threads limits.connections served) }
-    ensures err { IfErr result (λ fault. IsFault (length tables.now) threads limits.connections seats fault) }
+    requires threads { (1 ≤ threads) × (threads ≤ 64) }
+    ensures ok { IfOk result (λ served. IsServed (length tables.now) threads (most_of limits.connections threads) served) }
+    ensures err { IfErr result (λ fault. IsFault (length tables.now) threads (most_of limits.connections threads) seats fault) }
 {
     let Some(server) = setup.server else {
         unreachable!();
     };
-    let most = limits.connections as usize;
+    let connections = limits.connections as usize;
+    let most = share_of(connections, threads as usize, 0);
     let Ok(room) = reserve::<W>(alloc, threads as usize, tables.len(), most) else {
         return Err(without_memory(alloc, seats));
     };
@@ -200,7 +207,15 @@ fn serve_wide<W: Width + Send + Sync, T: Table + Send, R: ServeRuntime, G: Gate 
         free,
         refs,
     } = room;
-    seat_workers(&mut seats, &mut seated, rows, visitors, free, gears, most);
+    seat_workers(
+        &mut seats,
+        &mut seated,
+        rows,
+        visitors,
+        free,
+        gears,
+        connections,
+    );
     watch_all(rt, listener, &mut seated, &mut crew);
     let lookout = Lookout::new(listener, crew);
     let door = Door::new(stop_after, lookout);
@@ -214,6 +229,7 @@ fn serve_wide<W: Width + Send + Sync, T: Table + Send, R: ServeRuntime, G: Gate 
         tables,
         server: socket_address(server),
         timeouts: limits.timeouts,
+        keepalive: limits.keepalive,
         gate,
         start,
         of: PhantomData,
@@ -269,8 +285,8 @@ pub fn serve<T: Table + Send, R: ServeRuntime, G: Gate + Sync>(
     requires seats { AreSeats (length tables.now) threads seats }
     requires threads { (1 ≤ threads) × (threads ≤ 64) }
     // All seats come back, of each table as many as there are threads.
-    ensures ok { IfOk result (λ served. IsServed (length tables.now) threads limits.connections served) }
-    ensures err { IfErr result (λ fault. IsFault (length tables.now) threads limits.connections seats fault) }
+    ensures ok { IfOk result (λ served. IsServed (length tables.now) threads (most_of limits.connections threads) served) }
+    ensures err { IfErr result (λ fault. IsFault (length tables.now) threads (most_of limits.connections threads) seats fault) }
 {
     serve_wide::<Brand, T, R, G>(
         alloc, rt, listener, tables, seats, setup, gate, threads, limits, stop_after, start,

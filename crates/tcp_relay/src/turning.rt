@@ -2,12 +2,14 @@
 
 ghost use Rattle.std.specs.Prelude.{◌≡◌, Some, None, slice_get};
 
-use crate::desk::Desk;
+use crate::accept_errors::{AcceptFault, fault_of};
+use crate::acceptor::Acceptor;
 use crate::gear::Gear;
 use crate::house::House;
 use crate::lookout::Post;
+use crate::sweep::Sweep;
 use crate::visiting::{closed, end_at, judge_one};
-use crate::watch::{LISTENER, TICK, Watch};
+use crate::watch::{LISTENER, Watch};
 use crate::width::Width;
 use crate::worker::Worker;
 use crate::{Gate, ServeRuntime};
@@ -15,10 +17,9 @@ use mio::{Events, net};
 use moments::Clock;
 use running_clock::RunningClock;
 use socket_link::{Buffer, Link, Ready, reset};
-use std::io::ErrorKind;
 use std::net::{SocketAddr, TcpStream};
-use std::thread;
 use std::time::Duration;
+use std::{io, thread};
 use stick_table::Table;
 
 /// How many connections are accepted before others get their turn.
@@ -33,10 +34,9 @@ const REST: u64 = 100;
 pub(crate) struct Shift<'r, R> {
     pub(crate) watch: Watch,
     pub(crate) post: Post<'r>,
-    pub(crate) desk: Desk,
+    pub(crate) acceptor: Acceptor,
     pub(crate) clock: RunningClock<'r, R>,
-    /// When it last looked for connections that are silent, in ms.
-    pub(crate) looked: u64,
+    pub(crate) sweep: Sweep,
 }
 
 /// Takes a client in: it is judged, and carried to the server if it is admitted.
@@ -74,7 +74,7 @@ fn take_in<'a, T: Table, R: ServeRuntime, G: Gate, W: Width>(
 /// bytes came in and went out.
 fn begin<T: Table, R: ServeRuntime, G, W: Width>(
     house: &House<'_, T, R, G, W>,
-    shift: &Shift<'_, R>,
+    shift: &mut Shift<'_, R>,
     buffer: &mut Buffer,
     place: usize,
     client: TcpStream,
@@ -85,14 +85,18 @@ fn begin<T: Table, R: ServeRuntime, G, W: Width>(
         return Err((0, 0));
     }
     let client = net::TcpStream::from_std(client);
-    let Some(mut link) = Link::open(house.rt, house.alloc, client, house.server, moment) else {
+    let Some(server) = shift.acceptor.take_server() else {
+        return Err((0, 0));
+    };
+    let Some(mut link) = Link::open(house.rt, house.alloc, client, server, moment) else {
         return Err((0, 0));
     };
     if link.start(shift.watch.registry(), place, moment, buffer) {
-        Ok(link)
-    } else {
-        Err(link.bytes())
+        return Ok(link);
     }
+    let bytes = link.bytes();
+    link.close(house.rt);
+    Err(bytes)
 }
 
 /// Ends the connection in a place, if it is open there.
@@ -106,82 +110,89 @@ fn close<'a, T: Table, R: ServeRuntime, G, W: Width>(
         return;
     };
     let (bytes_in, bytes_out) = link.bytes();
-    drop(link);
     let conn = closed::<W>(conn, bytes_in, bytes_out);
+    // First its references: a client that hears of the end may come again at once.
     end_at(house, worker, clock, place, conn, true);
+    link.close(house.rt);
 }
 
-/// What accepting a connection came to.
-enum Accepted {
-    /// It was taken in.
-    TakenIn,
-    /// There is none now, or no number for one.
-    NoMore,
-    /// It waits, for a place or until the system has what it takes.
-    Waits,
+/// What becomes of a client that couldn't be accepted, as this error says.
+fn note_fault<W: Width>(worker: &mut Worker<'_, W>, acceptor: &mut Acceptor, error: &io::Error) {
+    let fault = fault_of(error.raw_os_error().map(i32::unsigned_abs));
+    acceptor.hear_of_fault(fault);
+    match fault {
+        AcceptFault::NoneWaits | AcceptFault::Gone => {}
+        AcceptFault::Unreadable => worker.tally.count(false),
+        AcceptFault::Short => worker.tally.count_unaccepted(),
+    }
 }
 
-/// Accepts the next connection, if there is one and it has a number and a place.
+/// Accepts a client, if there is one, for the number that is drawn and a place that is free.
 fn accept_one<'a, T: Table, R: ServeRuntime, G: Gate, W: Width>(
     house: &House<'a, T, R, G, W>,
     worker: &mut Worker<'a, W>,
     shift: &mut Shift<'_, R>,
     buffer: &mut Buffer,
-) -> Accepted {
-    shift.desk.draw(house.door, house.rt, worker.keeps);
-    let Some(number) = shift.desk.number() else {
-        return Accepted::NoMore;
-    };
-    let Some(place) = worker.places.claim() else {
-        return Accepted::Waits;
-    };
+    number: u64,
+    place: usize,
+)
+    requires free { slice_get worker.old.places.visitors.items place ≡ Some None }
+{
     let accepted = house.listener.accept();
     // From here on another is told, as the gate may block this one.
     shift.post.end(house.rt);
-    let (client, peer) = match accepted {
-        Ok(accepted) => accepted,
+    match accepted {
+        Ok((client, peer)) => {
+            shift.acceptor.pass();
+            take_in(house, worker, shift, buffer, number, place, client, peer);
+        }
         Err(error) => {
             worker.places.free(place);
-            return unaccepted(worker, error.kind());
-        }
-    };
-    shift.desk.pass();
-    take_in(house, worker, shift, buffer, number, place, client, peer);
-    Accepted::TakenIn
-}
-
-/// What an error of accepting comes to. A connection that its client gave up meanwhile is no fault of anybody's.
-fn unaccepted<W: Width>(worker: &mut Worker<'_, W>, kind: ErrorKind) -> Accepted {
-    match kind {
-        ErrorKind::WouldBlock => Accepted::NoMore,
-        ErrorKind::ConnectionAborted | ErrorKind::Interrupted => Accepted::TakenIn,
-        _ => {
-            worker.tally.count_unaccepted();
-            Accepted::Waits
+            note_fault(worker, &mut shift.acceptor, &error);
         }
     }
 }
 
-/// Accepts what connections there are, and notes where there may be more. Whether there are none now.
+/// Tries to accept a client. First a socket for its server is had: one that is accepted can be carried.
+fn try_to_accept<'a, T: Table, R: ServeRuntime, G: Gate, W: Width>(
+    house: &House<'a, T, R, G, W>,
+    worker: &mut Worker<'a, W>,
+    shift: &mut Shift<'_, R>,
+    buffer: &mut Buffer,
+    number: u64,
+) {
+    if !shift
+        .acceptor
+        .ready_server(house.rt, house.server, house.keepalive)
+    {
+        worker.tally.count_unaccepted();
+        shift.acceptor.run_short();
+        return;
+    }
+    match worker.places.claim() {
+        Some(place) => accept_one(house, worker, shift, buffer, number, place),
+        None => shift.acceptor.run_short(),
+    }
+}
+
+/// Accepts the clients that wait, as far as this worker can. Whether none waits now.
 fn accept_some<'a, T: Table, R: ServeRuntime, G: Gate, W: Width>(
     house: &House<'a, T, R, G, W>,
     worker: &mut Worker<'a, W>,
     shift: &mut Shift<'_, R>,
     buffer: &mut Buffer,
 ) -> bool {
-    shift.desk.has_waiting = false;
-    for _connection in 0..ACCEPTS {
-        match accept_one(house, worker, shift, buffer) {
-            Accepted::TakenIn => {}
-            Accepted::NoMore => return true,
-            Accepted::Waits => {
-                shift.desk.has_waiting = true;
-                return false;
-            }
+    for _client in 0..ACCEPTS {
+        shift.acceptor.draw(house.door, house.rt, worker.keeps);
+        if !shift.acceptor.must_try(worker.places.has_room()) {
+            break;
         }
+        let Some(number) = shift.acceptor.number() else {
+            break;
+        };
+        try_to_accept(house, worker, shift, buffer, number);
     }
-    shift.post.leave_some();
-    false
+    !shift.acceptor.may_have()
 }
 
 /// Gives a connection its turn, of which a socket is ready.
@@ -197,22 +208,36 @@ fn turn<'a, T: Table, R: ServeRuntime, G, W: Width>(
     if worker.places.turn(registry, ready, moment, buffer) {
         close(house, worker, &mut shift.clock, ready.number);
         // It has left its place and its descriptors.
-        shift.desk.has_waiting = false;
+        shift.acceptor.try_again();
     }
 }
 
-/// Closes the connections of which a peer has been silent for too long, at a moment in ms.
+/// Closes the connections of which a peer had been silent for too long at a moment in ms. What the system was short of is tried
+/// again too.
 fn close_silent<'a, T: Table, R: ServeRuntime, G, W: Width>(
     house: &House<'a, T, R, G, W>,
     worker: &mut Worker<'a, W>,
-    clock: &mut RunningClock<'_, R>,
-    moment: u64,
+    shift: &mut Shift<'_, R>,
+    as_of: u64,
 ) {
+    let since = shift.sweep.since();
     for place in 0..worker.places.count() {
-        if worker.places.is_late(place, moment, &house.timeouts) {
-            close(house, worker, clock, place);
+        if worker.places.is_late(place, as_of, since, &house.timeouts) {
+            close(house, worker, &mut shift.clock, place);
         }
     }
+    shift.acceptor.try_again();
+}
+
+/// Whether a poll gave as many events as it may, so that there may be more.
+fn is_full(events: &Events) -> bool {
+    events.iter().count() >= events.capacity()
+}
+
+/// How many full polls it takes until each socket of so many places, and the listener, has been told of.
+fn polls_for(places: usize, capacity: usize) -> usize {
+    let sockets = places.saturating_mul(2).saturating_add(1);
+    (sockets / capacity.max(1)).saturating_add(1)
 }
 
 /// Whether the listener is among what is ready.
@@ -225,7 +250,7 @@ fn tells_of_connections(events: &Events) -> bool {
     false
 }
 
-/// Gives each that is ready its turn, the listener first. Whether that was the listener alone, where no connection waits now.
+/// Gives each that is ready its turn, the listener first. Whether that was the listener alone, where no client waits now.
 fn turn_each<'a, T: Table, R: ServeRuntime, G: Gate, W: Width>(
     house: &House<'a, T, R, G, W>,
     worker: &mut Worker<'a, W>,
@@ -234,8 +259,10 @@ fn turn_each<'a, T: Table, R: ServeRuntime, G: Gate, W: Width>(
     buffer: &mut Buffer,
     moment: u64,
 ) -> bool {
-    let mut only_accepts = tells_of_connections(events)
-        && accept_some(house, worker, shift, buffer);
+    if tells_of_connections(events) {
+        shift.acceptor.hear_of_clients();
+    }
+    let mut only_accepts = shift.acceptor.may_have() && accept_some(house, worker, shift, buffer);
     shift.post.end(house.rt);
     for event in events.iter() {
         if event.token() != LISTENER {
@@ -246,42 +273,48 @@ fn turn_each<'a, T: Table, R: ServeRuntime, G: Gate, W: Width>(
     only_accepts
 }
 
-/// Waits until something is ready, and gives each its turn. Where each client that came was rejected, and that was all, it rests
-/// a moment before the next. False where waiting failed.
+/// Waits until something is ready, for no longer than it may. False where that failed.
+fn wait<'a, T: Table, R: ServeRuntime, G: Gate, W: Width>(
+    house: &House<'a, T, R, G, W>,
+    worker: &Worker<'a, W>,
+    shift: &mut Shift<'_, R>,
+    events: &mut Events,
+) -> bool {
+    let has_room = worker.places.has_room();
+    let holds = !worker.places.is_idle();
+    let pause = shift.acceptor.pause(has_room, shift.sweep.is_due(), holds);
+    shift
+        .post
+        .begin(house.rt, shift.acceptor.can_accept(has_room));
+    let is_well = shift.watch.wait(events, pause).is_ok();
+    if !is_well {
+        shift.post.end(house.rt);
+    }
+    is_well
+}
+
+/// Waits until something is ready, and gives each its turn; then silent peers are looked for, where that is due. Where each client
+/// that came was rejected, and that was all, it rests a moment before the next. False where waiting failed.
 pub(crate) fn turn_all<'a, T: Table, R: ServeRuntime, G: Gate, W: Width>(
     house: &House<'a, T, R, G, W>,
     worker: &mut Worker<'a, W>,
     shift: &mut Shift<'_, R>,
     gear: &mut Gear,
 ) -> bool {
-    let has_to_look = !worker.places.is_idle() || shift.desk.has_waiting;
     let Gear { events, buffer } = gear;
-    shift.post.begin(house.rt, shift.desk.can_accept());
-    if shift.watch.wait(events, has_to_look).is_err() {
-        shift.post.end(house.rt);
+    if !wait(house, worker, shift, events) {
         return false;
     }
     let moment = shift.clock.now();
+    let polls = polls_for(worker.places.count(), events.capacity());
+    let as_of = shift.sweep.after_poll(moment, is_full(events), polls);
     let (open, tally) = (worker.places.open(), worker.tally);
     let only_accepts = turn_each(house, worker, shift, events, buffer, moment);
-    look_after(house, worker, shift, moment);
+    if let Some(as_of) = as_of {
+        close_silent(house, worker, shift, as_of);
+    }
     if only_accepts && worker.places.open() == open && worker.tally.has_only_rejected(tally) {
         thread::sleep(house.rt, Duration::from_micros(REST));
     }
     true
-}
-
-/// Looks after connections that are silent, once a tick has passed; those that wait to be accepted are tried again then.
-fn look_after<'a, T: Table, R: ServeRuntime, G, W: Width>(
-    house: &House<'a, T, R, G, W>,
-    worker: &mut Worker<'a, W>,
-    shift: &mut Shift<'_, R>,
-    moment: u64,
-) {
-    if moment.saturating_sub(shift.looked) < TICK {
-        return;
-    }
-    shift.looked = moment;
-    close_silent(house, worker, &mut shift.clock, moment);
-    shift.desk.has_waiting = false;
 }

@@ -72,10 +72,11 @@ impl<'a, W: Width> Visitor<'a, W> {
         }
     }
 
-    /// Whether it is open, and a peer of it has been silent for longer than it may, at a moment in ms.
-    pub(crate) fn is_late(&mut self, moment: u64, timeouts: &Timeouts) -> bool {
+    /// Whether it is open, and a peer of it has been silent for longer than it may, at a moment in ms. Silence counts from `since` on
+    /// at the earliest.
+    pub(crate) fn is_late(&mut self, moment: u64, since: u64, timeouts: &Timeouts) -> bool {
         match &mut self.link {
-            Some(link) => link.is_late(moment, timeouts),
+            Some(link) => link.is_late(moment, since, timeouts),
             None => false,
         }
     }

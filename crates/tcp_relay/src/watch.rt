@@ -1,5 +1,7 @@
 //! What a worker waits for.
 
+use crate::acceptor::Pause;
+use crate::sweep::TICK;
 use mio::unix::SourceFd;
 use mio::{Events, Interest, Poll, Registry, Token};
 use std::net::{Net, TcpListener};
@@ -15,9 +17,6 @@ pub(crate) const CONNECTIONS: Interest = Interest::READABLE;
 
 /// What others are told of it, as a listener is never writable.
 pub(crate) const NOTHING: Interest = Interest::WRITABLE;
-
-/// How long a worker waits at most while it has to look after something, in ms.
-pub(crate) const TICK: u64 = 100;
 
 /// What the system tells a worker of its connections, and of new ones while it is the lookout.
 #[derive(Drop)]
@@ -48,14 +47,14 @@ impl Watch {
         self.poll.registry()
     }
 
-    /// Waits until something is ready; for a tick at most, where the worker has to look after something. Then it first lets other
-    /// threads run, which may be those that its connections wait for: so it is seldom asleep when they send, and has to be woken.
-    pub(crate) fn wait(&mut self, events: &mut Events, has_to_look: bool) -> io::Result<()> {
-        if !has_to_look {
+    /// Waits until something is ready, for no longer than the pause. Before it waits for a tick it lets other threads run, which may
+    /// be those that its connections wait for: so it is seldom asleep when they send.
+    pub(crate) fn wait(&mut self, events: &mut Events, pause: Pause) -> io::Result<()> {
+        if pause == Pause::UntilReady {
             return self.poll.poll(events, None);
         }
         self.poll.poll(events, Some(Duration::ZERO))?;
-        if !events.is_empty() {
+        if pause == Pause::NotAtAll || !events.is_empty() {
             return Ok(());
         }
         thread::yield_now();

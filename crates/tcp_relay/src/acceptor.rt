@@ -1,0 +1,198 @@
+//! When a worker accepts clients, and how long it may wait.
+
+ghost use Rattle.std.specs.Prelude.{◌≡◌, ◌≢◌, ◌&&◌, true, false, is_some};
+ghost use Rattle.tcp_relay.specs.Accepting.{can_accept, pause_of};
+
+use crate::accept_errors::AcceptFault;
+use crate::door::Door;
+use socket_link::{Keepalive, ServerSocket};
+use std::net::{Net, SocketAddr};
+use std::sync::Wait;
+
+/// How long a worker waits until something is ready.
+#[derive(Clone, Copy, Debug, PartialEq, Eq)]
+pub(crate) enum Pause {
+    NotAtAll,
+    /// A tick at most.
+    Tick,
+    UntilReady,
+}
+
+/// What a worker accepts clients by. A client is accepted only with a socket for its server at hand, so that no client is accepted
+/// that can't be carried for want of descriptors.
+#[derive(Drop)]
+pub(crate) struct Acceptor {
+    /// The number of the next connection, if it is drawn.
+    number: Option<u64>,
+    /// Whether no number more is drawn.
+    is_closed: bool,
+    /// Whether clients may wait: that was told, and not since that there is none.
+    may_have: bool,
+    /// Whether the system was short of what a client takes; until a tick has passed, or a connection has ended.
+    is_short: bool,
+    /// The socket for the next client's server.
+    server: Option<ServerSocket>,
+}
+
+impl Acceptor {
+    /// Nothing is drawn yet, and nothing told.
+    pub(crate) fn new() -> Acceptor {
+        Acceptor {
+            number: None,
+            is_closed: false,
+            may_have: false,
+            is_short: false,
+            server: None,
+        }
+    }
+
+    /// Draws the number of the next connection, if that isn't done and there is one more. Where references are left that can't be
+    /// given back, none is drawn any more.
+    pub(crate) fn draw(&mut self, door: &Door, rt: &impl Wait, has_left: bool) {
+        if self.number.is_some() || self.is_closed {
+            return;
+        }
+        if !has_left {
+            self.number = door.draw(rt);
+        }
+        self.is_closed = self.number.is_none();
+    }
+
+    /// The number of the next connection, if it is drawn.
+    pub(crate) fn number(&self) -> Option<u64>
+        ensures { result ≡ self.now.number }
+    {
+        self.number
+    }
+
+    /// The connection with that number has come.
+    pub(crate) fn pass(&mut self)
+        ensures number { is_some self.new.number ≡ false }
+        ensures told { (self.new.may_have ≡ self.old.may_have) × (self.new.is_short ≡ self.old.is_short) }
+    {
+        self.number = None;
+    }
+
+    /// Clients may wait.
+    pub(crate) fn hear_of_clients(&mut self)
+        ensures told { self.new.may_have ≡ true }
+        ensures same { (self.new.number ≡ self.old.number) × (self.new.is_short ≡ self.old.is_short) }
+    {
+        self.may_have = true;
+    }
+
+    /// Connections have ended, or a tick has passed: the system may have what a client takes again.
+    pub(crate) fn try_again(&mut self)
+        ensures short { self.new.is_short ≡ false }
+        ensures same { (self.new.number ≡ self.old.number) × (self.new.may_have ≡ self.old.may_have) }
+    {
+        self.is_short = false;
+    }
+
+    /// The system is short of what a client takes.
+    pub(crate) fn run_short(&mut self)
+        ensures short { self.new.is_short ≡ true }
+        ensures same { (self.new.number ≡ self.old.number) × (self.new.may_have ≡ self.old.may_have) }
+    {
+        self.is_short = true;
+    }
+
+    /// What an error of accepting tells of further clients. None waits any more only where that is what it says. Where the system is
+    /// short, the socket for a server is given back.
+    pub(crate) fn hear_of_fault(&mut self, fault: AcceptFault)
+        ensures none { fault ≡ AcceptFault.NoneWaits → self.new.may_have ≡ false }
+        ensures some { fault ≢ AcceptFault.NoneWaits → self.new.may_have ≡ self.old.may_have }
+        ensures short { fault ≡ AcceptFault.Short → self.new.is_short ≡ true }
+        ensures given_back { fault ≡ AcceptFault.Short → is_some self.new.server ≡ false }
+        ensures going { fault ≢ AcceptFault.Short → self.new.is_short ≡ self.old.is_short }
+        ensures unreadable { fault ≡ AcceptFault.Unreadable → is_some self.new.number ≡ false }
+        ensures number { fault ≢ AcceptFault.Unreadable → self.new.number ≡ self.old.number }
+    {
+        match fault {
+            AcceptFault::NoneWaits => self.may_have = false,
+            AcceptFault::Gone => {}
+            AcceptFault::Unreadable => self.number = None,
+            AcceptFault::Short => {
+                self.is_short = true;
+                // Another worker may have what is missing here, and miss this one.
+                self.server = None;
+            }
+        }
+    }
+
+    /// Whether a client may wait that wasn't accepted.
+    pub(crate) fn may_have(&self) -> bool
+        ensures { result ≡ self.now.may_have }
+    {
+        self.may_have
+    }
+
+    /// Whether a client that comes can be accepted, with a place for it or without, as far as is known.
+    pub(crate) fn can_accept(&self, has_place: bool) -> bool
+        ensures { result ≡ can_accept (is_some self.now.number) has_place self.now.is_short }
+    {
+        self.number.is_some() && has_place && !self.is_short
+    }
+
+    /// Whether accepting has to be tried: a client may wait, and can be accepted.
+    pub(crate) fn must_try(&self, has_place: bool) -> bool
+        ensures { result ≡ (can_accept (is_some self.now.number) has_place self.now.is_short && self.now.may_have) }
+    {
+        self.can_accept(has_place) && self.may_have
+    }
+
+    /// How long a worker waits now: one that has a place or not, is to look for silent peers or not, and holds connections or
+    /// not. It never waits while a client may wait that it can accept.
+    pub(crate) fn pause(&self, has_place: bool, is_due: bool, holds: bool) -> Pause
+        ensures pause { result ≡ pause_of (can_accept (is_some self.now.number) has_place self.now.is_short) self.now.may_have is_due holds self.now.is_short }
+        ensures tried { result ≢ Pause.NotAtAll → can_accept (is_some self.now.number) has_place self.now.is_short ≡ true → self.now.may_have ≡ false }
+    {
+        pause_of(
+            self.can_accept(has_place),
+            self.may_have,
+            is_due,
+            holds,
+            self.is_short,
+        )
+    }
+
+    /// Has a socket at hand for the server there. False where the system is short of what that takes.
+    pub(crate) fn ready_server(
+        &mut self,
+        rt: &impl Net,
+        server: SocketAddr,
+        keepalive: Option<Keepalive>,
+    ) -> bool
+        ensures ready { result ≡ true → is_some self.new.server ≡ true }
+        ensures same { (self.new.number ≡ self.old.number) × (self.new.may_have ≡ self.old.may_have) }
+        ensures short { result ≡ true → self.new.is_short ≡ self.old.is_short }
+    {
+        if self.server.is_some() {
+            return true;
+        }
+        self.server = ServerSocket::open(rt, server, keepalive).ok();
+        self.server.is_some()
+    }
+
+    /// The socket for a client's server, which is its own now.
+    pub(crate) fn take_server(&mut self) -> Option<ServerSocket> {
+        self.server.take()
+    }
+}
+
+/// How long a worker waits that can accept a client or not, of whom one may wait or not, that is to look for silent peers or not,
+/// and that holds connections or not, where the system is short or not.
+fn pause_of(can: bool, may_have: bool, is_due: bool, holds: bool, is_short: bool) -> Pause
+    ensures { result ≡ pause_of can may_have is_due holds is_short }
+{
+    if can && may_have {
+        return Pause::NotAtAll;
+    }
+    if !holds && !is_short {
+        return Pause::UntilReady;
+    }
+    if is_due {
+        return Pause::NotAtAll;
+    }
+    Pause::Tick
+}

@@ -1,0 +1,14 @@
+//! Laws of the definitions.
+
+ghost use Rattle.tcp_relay.specs.Accepting.{SharesLaw};
+ghost use Rattle.tcp_relay.specs.Sweeps.{LookLaw};
+
+/// The workers' shares come to all connections.
+pub fn shares()
+    ensures { SharesLaw }
+{}
+
+/// Silent peers are looked for as of a moment only once all that was ready then has been told.
+pub fn looks()
+    ensures { LookLaw }
+{}
