@@ -15,6 +15,15 @@ pub const CLIENT: &str = "timeout-client";
 /// The option that says how long a server may be silent.
 pub const SERVER: &str = "timeout-server";
 
+/// The option that says how long a client of the command socket may be silent.
+pub const SOCKET: &str = "timeout-socket";
+
+/// The option that says how long a connection may be silent once one side has ended.
+pub const FIN: &str = "timeout-fin";
+
+/// The option that says after how long a silent peer is asked whether it is still there.
+pub const KEEPALIVE: &str = "keepalive";
+
 /// What `stickd check --help` says last.
 const CHECK_HELP: &str = "\
 Prints 'valid: T tables, R rules'; or the first fault with the number of its line, as
@@ -235,6 +244,81 @@ fn socket_option<'a>(alloc: Global) -> Arg<'a> {
     .required(true)
 }
 
+/// The permissions of the socket's file.
+fn mode_option<'a>(alloc: Global) -> Arg<'a> {
+    value_option(
+        alloc,
+        "socket-mode",
+        "MODE",
+        "The permissions of the socket's file, in octal, up to 0777",
+    )
+    .default_value("600")
+}
+
+/// The group of the socket's file.
+fn group_option<'a>(alloc: Global) -> Arg<'a> {
+    value_option(
+        alloc,
+        "socket-group",
+        "GROUP",
+        "The group of the socket's file, a name or a number [default: the program's]",
+    )
+}
+
+/// How many clients of the socket are answered at once.
+fn clients_option<'a>(alloc: Global) -> Arg<'a> {
+    count_option(
+        alloc,
+        "socket-clients",
+        "N",
+        64,
+        "How many clients of the socket are answered at once, 1 to 64",
+    )
+    .default_value("4")
+}
+
+/// How long a client of the socket may be silent.
+fn socket_time_option<'a>(alloc: Global) -> Arg<'a> {
+    value_option(
+        alloc,
+        SOCKET,
+        "TIME",
+        "How long a client of the socket may send nothing, or take nothing",
+    )
+    .default_value("10s")
+}
+
+/// How many connections may wait to be accepted.
+fn backlog_option<'a>(alloc: Global) -> Arg<'a> {
+    count_option(
+        alloc,
+        "backlog",
+        "N",
+        0x7fff_ffff,
+        "How many connections may wait to be accepted [default: as --connections]",
+    )
+}
+
+/// After how long a silent peer is asked whether it is still there.
+fn keepalive_option<'a>(alloc: Global) -> Arg<'a> {
+    value_option(
+        alloc,
+        KEEPALIVE,
+        "TIME",
+        "Ask silent peers whether they are still there after TIME (TCP keepalive) [default: never]",
+    )
+}
+
+/// How long a connection may be silent once one side has ended.
+fn fin_option<'a>(alloc: Global) -> Arg<'a> {
+    value_option(
+        alloc,
+        FIN,
+        "TIME",
+        "How long a connection may be silent once one side has ended [default: as the other timeouts]",
+    )
+}
+
 /// How many threads serve connections.
 fn threads_option<'a>(alloc: Global) -> Arg<'a> {
     count_option(
@@ -272,9 +356,16 @@ fn run_command<'a>(alloc: Global) -> Result<Command<'a>, AllocError> {
     let command = add_argument(command, shards_option(alloc));
     let command = add_argument(command, purge_option(alloc));
     let command = add_argument(command, connections_option(alloc));
+    let command = add_argument(command, backlog_option(alloc));
     let command = add_argument(command, connect_option(alloc));
     let command = add_argument(command, client_option(alloc));
     let command = add_argument(command, server_option(alloc));
+    let command = add_argument(command, fin_option(alloc));
+    let command = add_argument(command, keepalive_option(alloc));
+    let command = add_argument(command, mode_option(alloc));
+    let command = add_argument(command, group_option(alloc));
+    let command = add_argument(command, clients_option(alloc));
+    let command = add_argument(command, socket_time_option(alloc));
     let command = add_argument(command, stop_option(alloc));
     add_argument(command, roll_option(alloc))
 }

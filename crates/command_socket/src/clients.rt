@@ -3,13 +3,15 @@
 ghost use Rattle.command_socket.specs.Clients.{ServesClients, Visit, state_of};
 
 use crate::Served;
+use crate::patience::patiences_of;
+use crate::patient_stream::{PatientStream, accept_client};
 use byte_ports::{Sink, Source, StreamSink, StreamSource};
 use gathered_writes::{FlushingSource, GatheringSink, SharedSink, flush_shared};
 use moments::Clock;
 use shard_book::Keeper;
 use std::cell::RefCell;
 use std::io::ErrorKind;
-use std::os::unix::net::{UnixListener, UnixStream};
+use std::os::unix::net::UnixListener;
 use std::sync::Wait;
 use std::sync::atomic::{AtomicBool, Ordering};
 use std::time::Duration;
@@ -33,7 +35,10 @@ fn serve_client<K: Keeper, C: Clock, R: Source, W: Sink>(
 
 /// Answers the lines of a client on a stream. The answers to what came with one read are written together, before the
 /// next read could wait; a client that has gone needs the last ones no more.
-fn serve_stream<K: Keeper, C: Clock>(service: &mut CommandService<K, C>, stream: &UnixStream) -> u64
+fn serve_stream<K: Keeper, C: Clock>(
+    service: &mut CommandService<K, C>,
+    stream: PatientStream<'_>,
+) -> u64
     ensures { Visit K.answers K.refuses C.shows (state_of K.table K.parts K.state C.state service.old.tables.items service.old.clock) result
         (state_of K.table K.parts K.state C.state service.new.tables.items service.new.clock) }
 {
@@ -45,32 +50,34 @@ fn serve_stream<K: Keeper, C: Clock>(service: &mut CommandService<K, C>, stream:
     commands
 }
 
-/// Serves the clients of a socket, one after the other, until `stop` is set; it is looked at when a client has connected,
-/// who then isn't served, behind each client, and where none came for as long as accepting waits: set it, and then `wake` the
-/// socket, so that it is seen at once. Of each client all lines are answered until it ends, where HAProxy closes behind the first.
-/// One that fails ends its own turn alone. Where no client can be accepted, as for want of file descriptors, that is counted, and
-/// the next try comes 10 ms later.
+/// Serves the clients of a socket, one after the other, until `stop` is set; several threads may serve one socket, each by a
+/// service of its own. The flag is looked at each 100 ms, and before a client is asked for more. Of each client all lines are
+/// answered until it ends, where HAProxy closes behind the first. One that fails ends its own turn alone; so does one that has
+/// sent or taken nothing for `silence`, in ms. Where no client can be accepted, as for want of file descriptors, that is counted,
+/// and the next try comes 10 ms later.
 pub fn serve_clients<K: Keeper, C: Clock, R: Wait + time::Clock>(
     rt: &R,
     listener: &UnixListener,
     service: &mut CommandService<K, C>,
     stop: &AtomicBool,
+    silence: u64,
 ) -> Served
     ensures { ServesClients K.answers K.refuses C.shows (state_of K.table K.parts K.state C.state service.old.tables.items service.old.clock) result
         (state_of K.table K.parts K.state C.state service.new.tables.items service.new.clock) }
 {
+    let most = patiences_of(silence);
     let mut served = Served {
         clients: 0,
         commands: 0,
         unaccepted: 0,
     };
     for _ in rt.forever() {
-        let accepted = listener.accept();
+        let accepted = accept_client(listener);
         if stop.load(Ordering::SeqCst) {
             return served;
         }
         let stream = match accepted {
-            Ok((stream, _address)) => stream,
+            Ok(stream) => stream,
             Err(reason) if reason.kind() == ErrorKind::WouldBlock => continue,
             Err(_reason) => {
                 served.note_unaccepted();
@@ -78,7 +85,12 @@ pub fn serve_clients<K: Keeper, C: Clock, R: Wait + time::Clock>(
                 continue;
             }
         };
-        served.note_client(serve_stream(service, &stream));
+        let stream = PatientStream {
+            stream: &stream,
+            stop,
+            most,
+        };
+        served.note_client(serve_stream(service, stream));
         if stop.load(Ordering::SeqCst) {
             return served;
         }

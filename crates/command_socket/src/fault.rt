@@ -15,6 +15,9 @@ pub enum SocketFault {
     /// Replacing the file there would lose it.
     #[error("exists and is no socket")]
     NoSocket,
+    /// The group can't be set: the program is neither in it nor root.
+    #[error("its group can't be set: {0}")]
+    Group(io::Error),
     /// What the system says.
     #[error("{0}")]
     System(io::Error),

@@ -4,9 +4,18 @@
 mod binding;
 mod clients;
 mod fault;
+mod file_id;
+mod group;
+mod mode;
+mod patience;
+mod patient_stream;
 mod served;
 
-pub use binding::{MAX_PATH, bind_socket, wake};
+pub use binding::{Access, BoundSocket, MAX_PATH, bind_socket, remove_own};
 pub use clients::serve_clients;
 pub use fault::SocketFault;
+pub use file_id::{FileId, is_own};
+pub use group::group_number;
+pub use mode::{is_narrowed, read_mode};
+pub use patience::{AfterPatience, PATIENCE, after_patience, patiences_of};
 pub use served::Served;

@@ -27,4 +27,15 @@ impl Served {
     {
         self.unaccepted = self.unaccepted.saturating_add(1);
     }
+
+    /// What two threads have counted.
+    pub fn with(self, other: Served) -> Served
+        ensures { result ≡ record { clients = more self.clients other.clients; commands = more self.commands other.commands; unaccepted = more self.unaccepted other.unaccepted } }
+    {
+        Served {
+            clients: self.clients.saturating_add(other.clients),
+            commands: self.commands.saturating_add(other.commands),
+            unaccepted: self.unaccepted.saturating_add(other.unaccepted),
+        }
+    }
 }

@@ -1,7 +1,7 @@
 //! What is done beside the listener, each by a thread of its own: commands are answered, and house is kept.
 
 use crate::floor::{Floor, ProxyRuntime};
-use command_socket::serve_clients;
+use command_socket::{Served, serve_clients};
 use housekeeping::{Kept, Pace, housekeep};
 use log::{Log, info};
 use rule_model::Name;
@@ -9,6 +9,7 @@ use running_clock::RunningClock;
 use shard_book::Named;
 use shard_locks::Seated;
 use shard_seats::Seat;
+use std::alloc::Global;
 use std::sync::atomic::{AtomicBool, Ordering};
 use std::time::{Clock, Duration};
 use std::{mem, thread};
@@ -20,6 +21,13 @@ const NAPS: u32 = 20;
 
 const NAP: u64 = 50;
 
+/// No client yet.
+pub(crate) const NOBODY: Served = Served {
+    clients: 0,
+    commands: 0,
+    unaccepted: 0,
+};
+
 /// What a thread beside the listener does.
 #[derive(Clone, Copy, Debug, PartialEq, Eq)]
 pub(crate) enum Duty {
@@ -27,21 +35,43 @@ pub(crate) enum Duty {
     Housekeeping,
 }
 
-/// A thread beside the listener: its seat of each table, and the tables' names where it answers commands.
+/// A thread beside the listener: its seat of each table; and where it answers commands the tables' names, and what it has
+/// counted once it ends.
 #[derive(Drop)]
 pub(crate) struct Attendant {
     pub duty: Duty,
     pub names: Vec<Name>,
     pub seats: Vec<Seat>,
+    pub served: Served,
 }
 
 impl Attendant {
+    /// A thread that answers commands.
+    pub fn for_commands(names: Vec<Name>, seats: Vec<Seat>) -> Attendant {
+        Attendant {
+            duty: Duty::Commands,
+            names,
+            seats,
+            served: NOBODY,
+        }
+    }
+
+    /// The thread that keeps house.
+    pub fn for_house(alloc: Global, seats: Vec<Seat>) -> Attendant {
+        Attendant {
+            duty: Duty::Housekeeping,
+            names: Vec::new(alloc),
+            seats,
+            served: NOBODY,
+        }
+    }
+
     /// Does its duty until the proxy stops. Its seats come back with their calls.
     pub fn attend<T: Table, R: ProxyRuntime>(&mut self, floor: &Floor<'_, T, R>) {
         let seats = mem::replace(&mut self.seats, Vec::new(floor.alloc));
         let names = mem::replace(&mut self.names, Vec::new(floor.alloc));
         self.seats = match self.duty {
-            Duty::Commands => answer_commands(floor, names, seats),
+            Duty::Commands => answer_commands(floor, names, seats, &mut self.served),
             Duty::Housekeeping => keep_house(floor, seats),
         };
     }
@@ -69,11 +99,12 @@ fn await_room<'a, T: Table, R: ProxyRuntime>(
     None
 }
 
-/// Answers the commands of the socket's clients.
+/// Answers the commands of the socket's clients, and counts them.
 fn answer_commands<T: Table, R: ProxyRuntime>(
     floor: &Floor<'_, T, R>,
     names: Vec<Name>,
     seats: Vec<Seat>,
+    served: &mut Served,
 ) -> Vec<Seat> {
     let count = seats.as_slice().len();
     let Some((mut tables, mut back)) = await_room(floor, count) else {
@@ -89,9 +120,13 @@ fn answer_commands<T: Table, R: ProxyRuntime>(
     }
     let clock = RunningClock::new(floor.rt, floor.start);
     let mut service = CommandService::new(floor.alloc, tables, clock);
-    let served = serve_clients(floor.rt, floor.socket, &mut service, floor.stop);
-    let (clients, commands) = (served.clients, served.commands);
-    info!(floor.rt; "commands: {clients} clients, {commands} commands");
+    *served = serve_clients(
+        floor.rt,
+        floor.socket,
+        &mut service,
+        floor.stop,
+        floor.silence,
+    );
     for named in service.tables {
         let _ = back.push(named.keeper.into_seat());
     }

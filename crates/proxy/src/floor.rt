@@ -37,8 +37,8 @@ pub(crate) struct Floor<'a, T: Table, R> {
     pub tables: &'a [Shards<T>],
     pub listener: &'a TcpListener,
     pub socket: &'a UnixListener,
-    /// The path of the socket.
-    pub path: &'a str,
+    /// How long a client of the socket may send or take nothing, in ms.
+    pub silence: u64,
     /// How many threads serve connections.
     pub threads: u32,
     pub limits: Limits,

@@ -2,6 +2,7 @@
 #![tactic(auto)]
 
 mod attending;
+mod doors;
 mod ending;
 mod floor;
 mod opening;
@@ -10,5 +11,5 @@ mod running;
 mod serving;
 
 pub use floor::ProxyRuntime;
-pub use plan::Plan;
+pub use plan::{Plan, SocketPlan};
 pub use running::{run_pooled, run_proxy};

@@ -35,17 +35,17 @@ impl From<NoMemory> for OpenFault {
 struct OpenTable<T: Table> {
     table: Shards<T>,
     workers: Vec<Seat>,
-    commands: Seat,
+    commands: Vec<Seat>,
     keeper: Seat,
 }
 
-/// The tables of a setup, and of each the seats by which it is asked: one for each worker, one for commands, and one for
-/// housekeeping.
+/// The tables of a setup, and of each the seats by which it is asked: one for each worker, one for each thread that answers
+/// commands, and one for housekeeping.
 #[derive(Drop)]
 pub(crate) struct OpenTables<T: Table> {
     pub tables: Vec<Shards<T>>,
     pub workers: Vec<Vec<Seat>>,
-    pub commands: Vec<Seat>,
+    pub commands: Vec<Vec<Seat>>,
     pub keepers: Vec<Seat>,
 }
 
@@ -87,20 +87,23 @@ fn open_table<T: Table>(
     seed: u64,
     shards: u32,
     workers: u32,
+    clients: u32,
     keep: bool,
 ) -> Result<OpenTable<T>, NoMemory>
     requires spec { IsTableSpec named.now.spec }
     requires shards { (1 ≤ shards) × (shards ≤ 64) }
     requires places { shards ≤ named.now.spec.size }
     requires workers { (1 ≤ workers) × (workers ≤ 64) }
+    requires clients { (1 ≤ clients) × (clients ≤ 64) }
     ensures table { IfOk result (λ opened. but_for_seed opened.table ≡ declared_table shards keep named.now) }
     ensures workers { IfOk result (λ opened. vec_len opened.workers ≡ workers) }
+    ensures commands { IfOk result (λ opened. vec_len opened.commands ≡ clients) }
 {
     let mut spec = named.spec.copy()?;
     spec.seed = seed;
-    let (table, mut seats) = Shards::new(alloc, spec, shards, workers + 2, keep)?;
+    let (table, mut seats) = Shards::new(alloc, spec, shards, workers + clients + 1, keep)?;
     let keeper = take_last(&mut seats);
-    let commands = take_last(&mut seats);
+    let commands = seats.split_off(workers as usize)?;
     Ok(OpenTable {
         table,
         workers: seats,
@@ -110,20 +113,23 @@ fn open_table<T: Table>(
 }
 
 /// Opens the tables of a setup, in order of declaration, each in the setup's number of shards and by a seed of its own.
-/// With `keep` their seats keep receipts. There are so many workers, 1 to 64.
+/// With `keep` their seats keep receipts. There are so many workers, and so many threads that answer clients' commands, each 1
+/// to 64.
 pub(crate) fn open_tables<T: Table>(
     alloc: Global,
     rt: &impl RandomSource,
     setup: &Setup,
     workers: u32,
+    clients: u32,
     keep: bool,
 ) -> Result<OpenTables<T>, OpenFault>
     requires can_open { CanOpen setup.now }
     requires workers { (1 ≤ workers) × (workers ≤ 64) }
+    requires clients { (1 ≤ clients) × (clients ≤ 64) }
     ensures tables { IfOk result (λ opened. AreDeclared setup.now.shards keep setup.now.tables opened.tables.items) }
     ensures served { IfOk result (λ opened. AreTablesOf setup.now opened.tables.items) }
     ensures workers { IfOk result (λ opened. AreSeats (length opened.tables.items) workers opened.workers) }
-    ensures commands { IfOk result (λ opened. length opened.commands.items ≡ length setup.now.tables) }
+    ensures commands { IfOk result (λ opened. AreSeats (length opened.tables.items) clients opened.commands) }
     ensures keepers { IfOk result (λ opened. length opened.keepers.items ≡ length setup.now.tables) }
 {
     let mut opened = OpenTables {
@@ -137,7 +143,7 @@ pub(crate) fn open_tables<T: Table>(
             Ok(seed) => seed,
             Err(reason) => return Err(OpenFault::NoSeed(reason)),
         };
-        let one = open_table(alloc, named, seed, setup.shards, workers, keep)?;
+        let one = open_table(alloc, named, seed, setup.shards, workers, clients, keep)?;
         opened.add(one)?;
     }
     Ok(opened)

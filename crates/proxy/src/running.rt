@@ -4,69 +4,28 @@ ghost use Rattle.std.specs.Prelude.{◌≡◌, ◌≤◌, length, is_some, true}
 ghost use Rattle.connection_drive.specs.Tables.{CanOpen};
 ghost use Rattle.tcp_relay.specs.Serving.{AreSeats, AreTablesOf};
 
-use crate::attending::{Attendant, Duty};
+use crate::attending::{Attendant, NOBODY};
+use crate::doors::{Doors, bind_doors};
 use crate::ending::{Left, give_up_all, settle_all};
 use crate::floor::{Floor, ProxyRuntime};
 use crate::opening::{OpenTables, open_tables};
 use crate::plan::Plan;
 use crate::serving::serve_all;
-use address_text::Endpoint;
-use command_socket::bind_socket;
+use command_socket::remove_own;
 use log::{Log, info};
 use pooled_table::StickTable;
 use rule_model::{Name, Setup};
 use sequence::NoMemory;
 use shard_locks::Shards;
 use shard_seats::Seat;
+use start_warnings::{StartPlan, Warning, allowed_descriptors, warnings_of};
 use std::alloc::Global;
-use std::net::TcpListener;
-use std::os::unix::net::UnixListener;
+use std::io;
 use std::random::RandomSource;
 use std::rt::Files;
 use std::sync::atomic::AtomicBool;
-use std::time::Instant;
-use std::{fs, io};
 use stick_table::Table;
-use tcp_relay::{FaultKind, ServeFault, Served, socket_address};
-
-/// Where connections and commands come in.
-#[derive(Drop)]
-struct Doors {
-    listener: TcpListener,
-    socket: UnixListener,
-    /// The moment 0.
-    start: Instant,
-}
-
-/// Binds the listener and the command socket. None where one can't be bound, which is said on standard error.
-fn bind_doors<R: ProxyRuntime + Files + Eprint>(
-    rt: &R,
-    bind: Endpoint,
-    path: &str,
-) -> io::Result<Option<Doors>> {
-    let address = socket_address(bind);
-    let listener = match TcpListener::bind(rt, address) {
-        Ok(listener) => listener,
-        Err(reason) => {
-            eprintln!(rt; "stickd: {address} can't be bound: {reason}")?;
-            return Ok(None);
-        }
-    };
-    let socket = match bind_socket(rt, path) {
-        Ok(socket) => socket,
-        Err(reason) => {
-            eprintln!(rt; "stickd: {path} can't be bound: {reason}")?;
-            return Ok(None);
-        }
-    };
-    let start = Instant::now(rt)?;
-    info!(rt; "listening on {address}, for commands on {path}");
-    Ok(Some(Doors {
-        listener,
-        socket,
-        start,
-    }))
-}
+use tcp_relay::{FaultKind, ServeFault, Served};
 
 /// The names of a setup's tables.
 fn names_of(alloc: Global, setup: &Setup) -> Result<Vec<Name>, NoMemory> {
@@ -87,13 +46,26 @@ fn with_more(mut seats: Vec<Vec<Seat>>, more: Vec<Seat>) -> Result<Vec<Vec<Seat>
     Ok(seats)
 }
 
-/// All seats of each table.
+/// All seats of each table, with those of the threads beside the listener.
 fn all_seats(
-    seats: Vec<Vec<Seat>>,
-    commands: Vec<Seat>,
-    keepers: Vec<Seat>,
+    mut seats: Vec<Vec<Seat>>,
+    attendants: Vec<Attendant>,
 ) -> Result<Vec<Vec<Seat>>, NoMemory> {
-    with_more(with_more(seats, commands)?, keepers)
+    for attendant in attendants {
+        seats = with_more(seats, attendant.seats)?;
+    }
+    Ok(seats)
+}
+
+/// The last seat of each table, which is taken out of its list.
+fn take_one_of_each(alloc: Global, seats: &mut Vec<Vec<Seat>>) -> Result<Vec<Seat>, NoMemory> {
+    let mut taken = Vec::new(alloc);
+    for of_table in seats.iter_mut() {
+        if let Some(seat) = of_table.pop() {
+            taken.push(seat)?;
+        }
+    }
+    Ok(taken)
 }
 
 /// Says why serving ended with a fault.
@@ -109,14 +81,13 @@ fn report<R: Eprint>(rt: &R, kind: FaultKind) -> io::Result<()> {
 /// the connections of the plan have ended, and then settles the tables and prints what they come to; without such a number
 /// it stops only where a thread can't wait for connections. Answers whether all went well; what didn't is said on standard
 /// error. An error is one of printing.
-pub fn run_proxy<T: Table + Send, R: ProxyRuntime + Files + RandomSource + Print + Eprint>(
-    alloc: Global,
-    rt: &R,
-    setup: &Setup,
-    plan: Plan<'_>,
-) -> io::Result<bool>
+pub fn run_proxy<
+    T: Table + Send,
+    R: ProxyRuntime + Files + RandomSource + Print + Eprint + AllocGlobal,
+>(alloc: Global, rt: &R, setup: &Setup, plan: Plan<'_>) -> io::Result<bool>
     requires can_open { CanOpen setup.now }
     requires threads { (1 ≤ plan.threads) × (plan.threads ≤ 64) }
+    requires clients { (1 ≤ plan.socket.clients) × (plan.socket.clients ≤ 64) }
 {
     let Some(bind) = setup.bind else {
         eprintln!(rt; "stickd: the configuration has no bind")?;
@@ -127,17 +98,57 @@ pub fn run_proxy<T: Table + Send, R: ProxyRuntime + Files + RandomSource + Print
         return Ok(false);
     }
     let keep = plan.stop_after.is_some();
-    let opened = match open_tables::<T>(alloc, rt, setup, plan.threads, keep) {
+    let clients = plan.socket.clients;
+    let opened = match open_tables::<T>(alloc, rt, setup, plan.threads, clients, keep) {
         Ok(opened) => opened,
         Err(fault) => {
             eprintln!(rt; "stickd: {fault}")?;
             return Ok(false);
         }
     };
-    let Some(doors) = bind_doors(rt, bind, plan.socket)? else {
+    let OpenTables {
+        tables,
+        workers,
+        commands,
+        keepers,
+    } = opened;
+    let Ok(attendants) = make_attendants(alloc, setup, clients, commands, keepers) else {
+        report(rt, FaultKind::NoMemory)?;
         return Ok(false);
     };
-    serve_and_settle(alloc, rt, setup, plan, &doors, opened)
+    let Ok(warnings) = warnings_of(alloc, setup, start_plan(plan, allowed_descriptors())) else {
+        report(rt, FaultKind::NoMemory)?;
+        return Ok(false);
+    };
+    let Some(doors) = bind_doors(rt, bind, plan)? else {
+        return Ok(false);
+    };
+    say_warnings(rt, warnings.as_slice());
+    serve_and_settle(alloc, rt, setup, plan, &doors, tables, workers, attendants)
+}
+
+/// Says on standard error what may surprise whoever starts it so, a warning a line. Whether that can be said changes nothing.
+fn say_warnings<R: Eprint>(rt: &R, warnings: &[Warning]) {
+    for warning in warnings {
+        let _ = eprintln!(rt; "stickd: warning: {warning}");
+    }
+}
+
+/// What a run is warned of by, where the process may have so many descriptors.
+fn start_plan(plan: Plan<'_>, descriptors: Option<u64>) -> StartPlan
+    ensures numbers { (result.connections ≡ plan.entry.limits.connections) × (result.threads ≡ plan.entry.threads) × (result.socket_clients ≡ plan.entry.socket.clients) }
+    ensures descriptors { result.descriptors ≡ descriptors }
+    ensures client { result.has_client_timeout ≡ is_some plan.entry.limits.timeouts.client }
+    ensures server { result.has_server_timeout ≡ is_some plan.entry.limits.timeouts.server }
+{
+    StartPlan {
+        connections: plan.limits.connections,
+        threads: plan.threads,
+        socket_clients: plan.socket.clients,
+        descriptors,
+        has_client_timeout: plan.limits.timeouts.client.is_some(),
+        has_server_timeout: plan.limits.timeouts.server.is_some(),
+    }
 }
 
 /// How serving ended: the fault, if any; how many connections were admitted, rejected, and not accepted; and what the threads
@@ -172,29 +183,26 @@ fn end_of(served: Result<Served, ServeFault>) -> Ended {
     }
 }
 
-/// The threads beside the listener.
+/// The threads beside the listener: so many that answer commands, and the one that keeps house. All have their memory.
 fn make_attendants(
     alloc: Global,
-    names: Vec<Name>,
-    commands: Vec<Seat>,
+    setup: &Setup,
+    clients: u32,
+    mut commands: Vec<Vec<Seat>>,
     keepers: Vec<Seat>,
-) -> [Attendant; 2] {
-    [
-        Attendant {
-            duty: Duty::Commands,
-            names,
-            seats: commands,
-        },
-        Attendant {
-            duty: Duty::Housekeeping,
-            names: Vec::new(alloc),
-            seats: keepers,
-        },
-    ]
+) -> Result<Vec<Attendant>, NoMemory> {
+    let mut attendants = Vec::new(alloc);
+    for _ in 0..clients {
+        let names = names_of(alloc, setup)?;
+        let seats = take_one_of_each(alloc, &mut commands)?;
+        attendants.push(Attendant::for_commands(names, seats))?;
+    }
+    attendants.push(Attendant::for_house(alloc, keepers))?;
+    Ok(attendants)
 }
 
 /// The same on pooled tables, of which an event costs the same whatever their size.
-pub fn run_pooled<R: ProxyRuntime + Files + RandomSource + Print + Eprint>(
+pub fn run_pooled<R: ProxyRuntime + Files + RandomSource + Print + Eprint + AllocGlobal>(
     alloc: Global,
     rt: &R,
     setup: &Setup,
@@ -202,44 +210,36 @@ pub fn run_pooled<R: ProxyRuntime + Files + RandomSource + Print + Eprint>(
 ) -> io::Result<bool>
     requires can_open { CanOpen setup.now }
     requires threads { (1 ≤ plan.threads) × (plan.threads ≤ 64) }
+    requires clients { (1 ≤ plan.socket.clients) × (plan.socket.clients ≤ 64) }
 {
     run_proxy::<StickTable, R>(alloc, rt, setup, plan)
 }
 
-/// Serves, and then settles the tables where receipts were kept.
+/// Serves, removes the socket's file, and then settles the tables where receipts were kept.
 fn serve_and_settle<T: Table + Send, R: ProxyRuntime + Files + Print + Eprint>(
     alloc: Global,
     rt: &R,
     setup: &Setup,
     plan: Plan<'_>,
     doors: &Doors,
-    opened: OpenTables<T>,
+    tables: Vec<Shards<T>>,
+    workers: Vec<Vec<Seat>>,
+    mut attendants: Vec<Attendant>,
 ) -> io::Result<bool>
     requires server { is_some setup.now.server ≡ true }
-    requires tables { AreTablesOf setup.now opened.tables.items }
-    requires seats { AreSeats (length opened.tables.items) plan.threads opened.workers }
+    requires tables { AreTablesOf setup.now tables.items }
+    requires seats { AreSeats (length tables.items) plan.threads workers }
     requires threads { (1 ≤ plan.threads) × (plan.threads ≤ 64) }
 {
-    let Ok(names) = names_of(alloc, setup) else {
-        report(rt, FaultKind::NoMemory)?;
-        return Ok(false);
-    };
-    let OpenTables {
-        tables,
-        workers,
-        commands,
-        keepers,
-    } = opened;
     let stop = AtomicBool::new(false);
-    let mut attendants = make_attendants(alloc, names, commands, keepers);
     let floor = Floor {
         alloc,
         rt,
         setup,
         tables: tables.as_slice(),
         listener: &doors.listener,
-        socket: &doors.socket,
-        path: plan.socket,
+        socket: &doors.socket.listener,
+        silence: plan.socket.timeout,
         threads: plan.threads,
         limits: plan.limits,
         stop_after: plan.stop_after,
@@ -247,10 +247,19 @@ fn serve_and_settle<T: Table + Send, R: ProxyRuntime + Files + Print + Eprint>(
         start: doors.start,
         stop: &stop,
     };
-    let ended = end_of(serve_all(&floor, workers, &mut attendants));
-    // The file is done with; where it is gone already, that is as well.
-    let _ = fs::remove_file(rt, plan.socket);
+    let ended = end_of(serve_all(&floor, workers, attendants.as_mut_slice()));
+    remove_own(rt, plan.socket.path, doors.socket.file);
     settle_where(alloc, rt, setup, plan, tables, ended, attendants)
+}
+
+/// Says what the clients of the command socket came to, on all threads together.
+fn log_clients<R: Log>(rt: &R, attendants: &[Attendant]) {
+    let mut all = NOBODY;
+    for attendant in attendants {
+        all = all.with(attendant.served);
+    }
+    let (clients, commands) = (all.clients, all.commands);
+    info!(rt; "commands: {clients} clients, {commands} commands");
 }
 
 /// Says how serving ended, and settles the tables where it ended well and receipts were kept.
@@ -261,7 +270,7 @@ fn settle_where<T: Table, R: ProxyRuntime + Print + Eprint>(
     plan: Plan<'_>,
     tables: Vec<Shards<T>>,
     ended: Ended,
-    attendants: [Attendant; 2],
+    attendants: Vec<Attendant>,
 ) -> io::Result<bool> {
     let Ended {
         fault,
@@ -270,6 +279,7 @@ fn settle_where<T: Table, R: ProxyRuntime + Print + Eprint>(
         unaccepted,
         left: Left { seats, refs },
     } = ended;
+    log_clients(rt, attendants.as_slice());
     info!(rt; "connections: {admitted} admitted, {rejected} rejected, {unaccepted} failed to be accepted");
     if let Some(kind) = fault {
         give_up_all(refs);
@@ -280,8 +290,7 @@ fn settle_where<T: Table, R: ProxyRuntime + Print + Eprint>(
         give_up_all(refs);
         return Ok(true);
     }
-    let [commands, keepers] = attendants;
-    let Ok(seats) = all_seats(seats, commands.seats, keepers.seats) else {
+    let Ok(seats) = all_seats(seats, attendants) else {
         give_up_all(refs);
         report(rt, FaultKind::NoMemory)?;
         return Ok(false);

@@ -5,8 +5,6 @@ ghost use Rattle.tcp_relay.specs.Serving.{AreSeats};
 
 use crate::attending::Attendant;
 use crate::floor::{Floor, ProxyRuntime};
-use command_socket::wake;
-use log::{Log, warn};
 use shard_seats::Seat;
 use std::alloc::Global;
 use std::sync::atomic::Ordering;
@@ -50,15 +48,6 @@ fn start_all<'s, E, T: Table + Send, R: ProxyRuntime>(
     true
 }
 
-/// Ends the threads beside the listener: the one that answers commands waits for a client, which this is.
-fn stop_all<T: Table, R: ProxyRuntime>(floor: &Floor<'_, T, R>) {
-    floor.stop.store(true, Ordering::SeqCst);
-    if let Err(reason) = wake(floor.rt, floor.path) {
-        let path = floor.path;
-        warn!(floor.rt; "{path} can't be reached: {reason}");
-    }
-}
-
 /// Serves connections until serving stops, with commands and housekeeping beside it. All seats come back, those of the threads
 /// beside it in the attendants.
 pub(crate) fn serve_all<T: Table + Send, R: ProxyRuntime>(
@@ -76,7 +65,8 @@ pub(crate) fn serve_all<T: Table + Send, R: ProxyRuntime>(
         {
             let all_started = start_all(scope, floor, attendants);
             let served = serve_where(floor, seats, all_started);
-            stop_all(floor);
+            // Each of the threads looks at it within 100 ms, whatever its client does.
+            floor.stop.store(true, Ordering::SeqCst);
             served
         },
     )

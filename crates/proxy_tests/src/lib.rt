@@ -17,6 +17,8 @@ mod peers;
 #[cfg(test)]
 mod setups;
 #[cfg(test)]
+mod silence;
+#[cfg(test)]
 mod sites;
 #[cfg(test)]
 mod tables;

@@ -19,14 +19,16 @@ use std::time::{Clock, Instant};
 use stick_table::PlainTable;
 use tcp_relay::{FaultKind, Gate, Limits, ServeFault, Served, serve};
 
-/// A thread holds two connections, and a server has five seconds to accept one.
+/// Each of two threads holds two connections, and a server has five seconds to accept one.
 const LIMITS: Limits = Limits {
-    connections: 2,
+    connections: 4,
     timeouts: Timeouts {
         connect: 5_000,
         client: None,
         server: None,
+        fin: None,
     },
+    keepalive: None,
 };
 
 /// A listener, and the setup by which its connections are served.

@@ -2,7 +2,7 @@
 
 use crate::setups::spec;
 use crate::tables::named;
-use command_socket::{Served, bind_socket, serve_clients, wake};
+use command_socket::{Access, Served, bind_socket, serve_clients};
 use moments::StoppedClock;
 use shard_book::Books;
 use std::alloc::Global;
@@ -18,11 +18,20 @@ use std::time::{Clock, Duration};
 use stick_table::PlainTable;
 use table_cli::CommandService;
 
+/// How long a client may send or take nothing, in ms: longer than each of these does.
+const SILENCE: u64 = 60_000;
+
+/// The owner's alone.
+pub const OWN: Access = Access {
+    mode: 0o600,
+    group: None,
+};
+
 /// A service of the table `t`.
-type Service = CommandService<Books<PlainTable>, StoppedClock>;
+pub type Service = CommandService<Books<PlainTable>, StoppedClock>;
 
 /// A service of the empty table `t`, at the moment 5,000.
-fn service(alloc: Global) -> Option<Service> {
+pub fn service(alloc: Global) -> Option<Service> {
     let Ok(spec) = spec(alloc) else {
         return None;
     };
@@ -129,18 +138,14 @@ fn serve_visits<'s, E, R: Net + Threads + Wait + Clock + Sync>(
         &place.listener,
         service,
         &place.stop,
+        SILENCE,
     )) else {
         return None;
     };
     let have_come = all_come(place.rt, place.alloc, place.path, visits);
     place.stop.store(true, Ordering::SeqCst);
-    let is_woken = wake(place.rt, place.path).is_ok();
     let served = serving.join(place.rt);
-    if have_come && is_woken {
-        Some(served)
-    } else {
-        None
-    }
+    if have_come { Some(served) } else { None }
 }
 
 /// What a service on a socket at a path says of these clients, where all got what they were to get. The file is gone
@@ -151,14 +156,14 @@ pub fn served<R: Net + Files + Threads + Wait + Clock + Sync>(
     path: &str,
     visits: &[Visit<'_>],
 ) -> Option<Served> {
-    let Ok(listener) = bind_socket(rt, path) else {
+    let Ok(bound) = bind_socket(rt, path, OWN) else {
         return None;
     };
     let place = Place {
         rt,
         alloc,
         path,
-        listener,
+        listener: bound.listener,
         stop: AtomicBool::new(false),
     };
     let mut service = service(alloc)?;

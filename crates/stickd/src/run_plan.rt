@@ -3,50 +3,99 @@
 ghost use Rattle.std.specs.Prelude.{◌≤◌, IfOk};
 
 use clap::ArgMatches;
-use command_line::{CLIENT, CONNECT, SERVER};
+use command_line::{CLIENT, CONNECT, FIN, KEEPALIVE, SERVER, SOCKET};
+use command_socket::read_mode;
 use config_words::read_time;
-use proxy::Plan;
-use socket_link::Timeouts;
+use proxy::{Plan, SocketPlan};
+use socket_link::{Keepalive, Timeouts};
 use tcp_relay::Limits;
 
 /// How long a server may take to accept a connection where that isn't said, in ms.
 const CONNECT_TIME: u64 = 5_000;
 
-/// A word that is no time, behind an option that wants one.
+/// How long a client of the command socket may be silent where that isn't said, in ms.
+const SOCKET_TIME: u64 = 10_000;
+
+/// The permissions of the command socket's file where they aren't said: its owner's alone.
+const SOCKET_MODE: u32 = 0o600;
+
+/// How many connections may wait to be accepted at most: what listen(2) can be asked.
+const MOST_BACKLOG: u32 = 0x7fff_ffff;
+
+/// A word behind an option that wants another.
 #[derive(Clone, Copy, Debug, thiserror::Error)]
-#[error("'{word}' is no time for --{option}: it is 1 ms to 2147483647 ms, as 1500ms, 5s or 10m")]
-pub struct BadTime<'a> {
-    option: &'static str,
-    word: &'a str,
+pub enum BadWord<'a> {
+    #[error("'{word}' is no time for --{option}: it is 1 ms to 2147483647 ms, as 1500ms, 5s or 10m")]
+    Time { option: &'static str, word: &'a str },
+    #[error("'{0}' is no mode for --socket-mode: it is one to four octal digits up to 0777, as 600 or 0660")]
+    Mode(&'a str),
 }
 
 /// The time that an option names, in ms. None where it isn't given.
 fn read_timeout<'a>(
     arguments: &ArgMatches<'a>,
     option: &'static str,
-) -> Result<Option<u64>, BadTime<'a>> {
+) -> Result<Option<u64>, BadWord<'a>> {
     let Some(word) = arguments.get_str(option) else {
         return Ok(None);
     };
     match read_time(word.as_bytes()) {
         Ok(time) => Ok(Some(u64::from(time))),
-        Err(_) => Err(BadTime { option, word }),
+        Err(_) => Err(BadWord::Time { option, word }),
     }
 }
 
 /// How long a connection may be silent.
-fn read_timeouts<'a>(arguments: &ArgMatches<'a>) -> Result<Timeouts, BadTime<'a>> {
+fn read_timeouts<'a>(arguments: &ArgMatches<'a>) -> Result<Timeouts, BadWord<'a>> {
     Ok(Timeouts {
         connect: read_timeout(arguments, CONNECT)?.unwrap_or(CONNECT_TIME),
         client: read_timeout(arguments, CLIENT)?,
         server: read_timeout(arguments, SERVER)?,
+        fin: read_timeout(arguments, FIN)?,
+    })
+}
+
+/// The permissions of the command socket's file.
+fn read_socket_mode<'a>(arguments: &ArgMatches<'a>) -> Result<u32, BadWord<'a>> {
+    let Some(word) = arguments.get_str("socket-mode") else {
+        return Ok(SOCKET_MODE);
+    };
+    match read_mode(word) {
+        Some(mode) => Ok(mode),
+        None => Err(BadWord::Mode(word)),
+    }
+}
+
+/// The command socket.
+fn read_socket<'a>(arguments: &ArgMatches<'a>) -> Result<SocketPlan<'a>, BadWord<'a>>
+    ensures { IfOk result (λ socket. (1 ≤ socket.clients) × (socket.clients ≤ 64)) }
+{
+    let mode = match read_socket_mode(arguments) {
+        Ok(mode) => mode,
+        Err(bad) => return Err(bad),
+    };
+    let timeout = match read_timeout(arguments, SOCKET) {
+        Ok(timeout) => timeout.unwrap_or(SOCKET_TIME),
+        Err(bad) => return Err(bad),
+    };
+    Ok(SocketPlan {
+        path: arguments.get_str("socket").unwrap_or(""),
+        mode,
+        group: arguments.get_str("socket-group"),
+        clients: arguments
+            .get_one::<u32>("socket-clients")
+            .unwrap_or(4)
+            .clamp(1, 64),
+        timeout,
     })
 }
 
 /// What `stickd run` is asked. That its numbers are in their ranges was seen as the command line was read. The connections are
 /// shared out among the threads, of which there are no more than connections.
-pub fn read_plan<'a>(arguments: &ArgMatches<'a>) -> Result<Plan<'a>, BadTime<'a>>
-    ensures { IfOk result (λ plan. (1 ≤ plan.threads) × (plan.threads ≤ 64)) }
+pub fn read_plan<'a>(arguments: &ArgMatches<'a>) -> Result<Plan<'a>, BadWord<'a>>
+    ensures threads { IfOk result (λ plan. (1 ≤ plan.threads) × (plan.threads ≤ 64)) }
+    ensures backlog { IfOk result (λ plan. (1 ≤ plan.backlog) × (plan.backlog ≤ 2147483647)) }
+    ensures clients { IfOk result (λ plan. (1 ≤ plan.socket.clients) × (plan.socket.clients ≤ 64)) }
 {
     let connections = arguments
         .get_one::<u32>("connections")
@@ -57,12 +106,20 @@ pub fn read_plan<'a>(arguments: &ArgMatches<'a>) -> Result<Plan<'a>, BadTime<'a>
         .unwrap_or(1)
         .min(connections)
         .clamp(1, 64);
+    let socket = match read_socket(arguments) {
+        Ok(socket) => socket,
+        Err(bad) => return Err(bad),
+    };
+    let backlog = arguments.get_one::<u32>("backlog");
     Ok(Plan {
-        socket: arguments.get_str("socket").unwrap_or(""),
+        socket,
+        backlog: backlog.unwrap_or(connections).clamp(1, MOST_BACKLOG),
+        is_backlog_asked: backlog.is_some(),
         threads,
         limits: Limits {
-            connections: connections / threads,
+            connections,
             timeouts: read_timeouts(arguments)?,
+            keepalive: read_timeout(arguments, KEEPALIVE)?.map(Keepalive::of),
         },
         stop_after: arguments.get_one::<u64>("stop-after"),
         roll_at: u64::from(arguments.get_one::<u32>("roll-at").unwrap_or(65_536)),

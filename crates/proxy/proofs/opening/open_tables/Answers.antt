@@ -13,7 +13,8 @@ loop-named-preserved g c =
       one_more c.loop-named.opened.workers.items c.add.new.self.workers.items c.in_ok-one.one.workers c.loop-named.named-index were.1 c.in_ok-add.ensures.workers,
       seats_more c.loop-named.opened.workers.items c.add.new.self.workers.items c.in_ok-one.one.workers c.args.workers were.2 c.in_ok-one.ensures.workers c.in_ok-add.ensures.workers,
       one_more c.loop-named.opened.commands.items c.add.new.self.commands.items c.in_ok-one.one.commands c.loop-named.named-index were.3 c.in_ok-add.ensures.commands,
-      one_more c.loop-named.opened.keepers.items c.add.new.self.keepers.items c.in_ok-one.one.keeper c.loop-named.named-index were.4 c.in_ok-add.ensures.keepers,
+      seats_more c.loop-named.opened.commands.items c.add.new.self.commands.items c.in_ok-one.one.commands c.args.clients were.4 c.in_ok-one.ensures.commands c.in_ok-add.ensures.commands,
+      one_more c.loop-named.opened.keepers.items c.add.new.self.keepers.items c.in_ok-one.one.keeper c.loop-named.named-index were.5 c.in_ok-add.ensures.keepers,
     )
 
 pub returns-clause-served : goal.returns-clause-served

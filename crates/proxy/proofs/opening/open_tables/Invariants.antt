@@ -1,4 +1,4 @@
-use Rattle.std.proofs.Common.{◌≡◌, ◌≤◌, All, length, take, vec_len}
+use Rattle.std.proofs.Common.{◌≡◌, All, length, take, vec_len}
 use Rattle.proxy.specs.Opened.{AreDeclared}
 use Rattle.proxy.proofs.opening.open_tables.Given as goal
 
@@ -8,4 +8,5 @@ invariant-loop-named g l =
     × (length l.opened.workers.items ≡ l.named-index)
     × All (λ seats. vec_len seats ≡ l.workers) l.opened.workers.items
     × (length l.opened.commands.items ≡ l.named-index)
+    × All (λ seats. vec_len seats ≡ l.clients) l.opened.commands.items
     × (length l.opened.keepers.items ≡ l.named-index)
