@@ -2,7 +2,8 @@
 #![tactic(auto)]
 
 ghost use Rattle.std.specs.Prelude.{◌≡◌, ◌≤◌, IfOk, IfSome};
-ghost use Rattle.rule_model.specs.Served.{AreTables, AreTableSpecs};
+ghost use Rattle.rule_model.specs.Served.{AreTables, AreTableSpecs, setup_of as served_by};
+ghost use Rattle.start_warnings.specs.Warnings.{table_warnings as warnings_for};
 ghost use Rattle.connection_drive.specs.Tables.{CanOpen};
 
 mod explanation;
@@ -12,17 +13,24 @@ use explanation::{explain_fault, explain_warnings};
 use rule_config::{ConfigFault, read_config};
 use rule_model::{Config, NamedSpec, Setup};
 use script::built_in_setup;
-use sequence::NoMemory;
+use sequence::{NoMemory, Sequence};
+use start_warnings::{Warning, table_warnings};
 use std::alloc::Global;
 use std::rt::Files;
 use std::{fs, io, str};
+
+/// How many connections `stickd run` has at once, and in how many shards it keeps each table, where it isn't told.
+const CONNECTIONS: u32 = 10_000;
+
+const SHARDS: u32 = 1;
 
 /// How much is said of what is wrong with a configuration.
 #[derive(Clone, Copy, Debug, PartialEq, Eq)]
 pub enum Detail {
     /// Its line, and what it is.
     Short,
-    /// The text of the line too, and what commonly causes that, or what is lost.
+    /// The text of the line too, and what commonly causes that, or what is lost; and behind all lines what `stickd run` would
+    /// warn of the tables.
     Explained,
 }
 
@@ -51,6 +59,40 @@ fn warn<R: Eprint>(rt: &R, text: &[u8], lines: &[u64], detail: Detail) -> io::Re
     Ok(())
 }
 
+/// Prints warnings on standard error, each on a line of its own.
+pub fn print_warnings<R: Eprint>(rt: &R, warnings: &[Warning]) -> io::Result<()> {
+    for warning in warnings {
+        eprintln!(rt; "stickd: warning: {warning}")?;
+    }
+    Ok(())
+}
+
+/// What `stickd run` would warn of the tables of a configuration, where it isn't told of connections or shards.
+fn warnings_unless_told(alloc: Global, config: &Config) -> Result<Sequence<Warning>, NoMemory>
+    requires { AreTables config.now.sections }
+    ensures { IfOk result (λ warnings. warnings ≡ warnings_for 10000 (served_by config.now 1)) }
+{
+    let setup = setup_of(alloc, config, SHARDS)?;
+    table_warnings(alloc, &setup, CONNECTIONS)
+}
+
+/// Prints what `stickd run` would warn of the tables of a configuration. Answers whether there was memory for that; where there
+/// wasn't, it is said.
+fn warn_of_tables<R: Eprint + AllocGlobal>(rt: &R, config: &Config) -> io::Result<bool>
+    requires { AreTables config.now.sections }
+{
+    match warnings_unless_told(rt.alloc(), config) {
+        Ok(warnings) => {
+            print_warnings(rt, warnings.as_slice())?;
+            Ok(true)
+        }
+        Err(_) => {
+            eprintln!(rt; "stickd: out of memory")?;
+            Ok(false)
+        }
+    }
+}
+
 /// Reads a configuration, and prints a warning for each line that it reads past. None where it can't be read, which is
 /// said on standard error.
 pub fn read_file<R: Files + Eprint + AllocGlobal>(
@@ -75,6 +117,9 @@ pub fn read_file<R: Files + Eprint + AllocGlobal>(
         }
     };
     warn(rt, text.as_slice(), config.warnings.as_slice(), detail)?;
+    if detail == Detail::Explained && !warn_of_tables(rt, &config)? {
+        return Ok(None);
+    }
     Ok(Some(config))
 }
 
@@ -86,6 +131,7 @@ fn setup_of(alloc: Global, config: &Config, shards: u32) -> Result<Setup, NoMemo
     requires few { shards ≤ 64 }
     ensures limits { IfOk result (λ setup. AreTableSpecs setup.tables) }
     ensures shards { IfOk result (λ setup. setup.shards ≡ shards) }
+    ensures setup { IfOk result (λ setup. setup ≡ served_by config.now shards) }
 {
     config.proxy(alloc, shards)
 }

@@ -1,0 +1,4 @@
+pub mod Untracked
+pub mod Limits
+pub mod Warnings
+pub mod Laws
