@@ -20,7 +20,7 @@ from refused_runs import build_shim
 TABLE = 'stick-table type ip size 1k store conn_cur,conn_cnt'
 TRACK = 'tcp-request connection track-sc0 src'
 SETTLED = re.compile(rb'settled www: \d+ calls, 0 references\n')
-LOGGED = re.compile(rb'(?m)^\[(?:INFO|WARN) .*\n')
+LOGGED = re.compile(rb"(?m)^(?:\[(?:INFO|WARN) |stickd: warning: ).*\n")
 THREADS = 4
 NOBODY = 65534
 # The seconds that a start may take that is to stop at once.
@@ -156,14 +156,14 @@ def threads(given):
     report = Report()
     with tempfile.TemporaryDirectory() as workplace:
         shim = build_shim(workplace, 'refuse_thread')
-        for number in range(1, THREADS + 4):
+        for number in range(1, THREADS + 7):
             with tempfile.TemporaryDirectory(prefix='stickd-') as room:
                 ran = run([given.program, *Site(room, 1).words], patience=AT_MOST, env={'LD_PRELOAD': shim, 'REFUSED_THREAD': str(number)})
-            is_refused = number <= THREADS + 2
+            is_refused = number <= THREADS + 5
             is_right = sole_line(said_alone(ran), "stickd: a thread can't be started") if is_refused else settles_or_says(ran)
             report.check(is_right, f'thread {number} is refused: {ran}')
     if os.geteuid() == 0:
-        limits = [(f'{most} processes', limited(resource.RLIMIT_NPROC, most)) for most in range(1, THREADS + 8)]
+        limits = [(f'{most} processes', limited(resource.RLIMIT_NPROC, most)) for most in range(1, THREADS + 11)]
         with tempfile.TemporaryDirectory() as place:
             os.chmod(place, 0o755)
             copy = shutil.copy(given.program, place)

@@ -5,6 +5,8 @@ import os
 import random
 import re
 import resource
+import select
+import signal
 import socket
 import struct
 import subprocess
@@ -44,13 +46,24 @@ def read_all(stream):
     return b''.join(parts)
 
 
-def wait_for(what, holds):
-    """Waits until something holds."""
-    end = time.monotonic() + PATIENCE
+def wait_for(what, holds, within=PATIENCE, pause=0.02):
+    """Waits until something holds, and answers how many seconds that took."""
+    began = time.monotonic()
     while not holds():
-        if time.monotonic() > end:
-            raise AssertionError(f'not within {PATIENCE} s: {what}')
-        time.sleep(0.02)
+        if time.monotonic() > began + within:
+            raise AssertionError(f'not within {within} s: {what}')
+        time.sleep(pause)
+    return time.monotonic() - began
+
+
+def raise_descriptors(wanted):
+    """Takes as many descriptors as are wanted, or as the system allows, and answers how many. A program that is started then has
+    as many."""
+    soft, hard = resource.getrlimit(resource.RLIMIT_NOFILE)
+    most = wanted if hard == resource.RLIM_INFINITY else min(wanted, hard)
+    if soft != resource.RLIM_INFINITY and soft < most:
+        resource.setrlimit(resource.RLIMIT_NOFILE, (most, hard))
+    return most
 
 
 class Server:
@@ -79,22 +92,93 @@ class Server:
         self.listener.close()
 
 
+class EchoServer:
+    """A server in one thread that sends back what comes, for thousands of clients."""
+
+    def __init__(self):
+        self.listener = socket.create_server(('127.0.0.1', 0), backlog=4096)
+        self.listener.setblocking(False)
+        self.port, self.poll, self.clients = self.listener.getsockname()[1], select.epoll(), {}
+        self.poll.register(self.listener, select.EPOLLIN)
+        self.ends = False
+        self.thread = threading.Thread(target=self.serve)
+        self.thread.start()
+
+    def serve(self):
+        while not self.ends:
+            for number, _ in self.poll.poll(0.1):
+                if number == self.listener.fileno():
+                    self.accept()
+                else:
+                    self.echo(self.clients[number])
+
+    def accept(self):
+        with contextlib.suppress(BlockingIOError):
+            while True:
+                client, _ = self.listener.accept()
+                self.clients[client.fileno()] = client
+                self.poll.register(client, select.EPOLLIN)
+
+    def echo(self, client):
+        with contextlib.suppress(OSError):
+            if some := client.recv(65536):
+                client.sendall(some)
+                return
+        del self.clients[client.fileno()]
+        client.close()
+
+    def __enter__(self):
+        return self
+
+    def __exit__(self, *_):
+        self.ends = True
+        self.thread.join()
+        for client in self.clients.values():
+            client.close()
+        self.listener.close()
+
+
+class FarServer:
+    """A server that hands each of its connections to the trial, which leaves it open as long as it likes."""
+
+    def __init__(self):
+        self.listener = socket.create_server(('127.0.0.1', 0), backlog=512)
+        self.listener.settimeout(PATIENCE)
+        self.port = self.listener.getsockname()[1]
+
+    def joined(self, proxy):
+        """A client that has come through to the server, and the server's end of its connection: a byte has passed each way."""
+        client = proxy.connect()
+        far, _ = self.listener.accept()
+        far.settimeout(PATIENCE)
+        for speaker, hearer in ((client, far), (far, client)):
+            speaker.sendall(b'.')
+            assert hearer.recv(1) == b'.', 'a byte passes'
+        return client, far
+
+    def __enter__(self):
+        return self
+
+    def __exit__(self, *_):
+        self.listener.close()
+
+
 class Proxy:
     """The program at work on a configuration, in a folder of its own."""
 
-    def __init__(self, server, lines, *words, threads=8, descriptors=None, others='', environment=None):
+    def __init__(self, server, lines, *words, threads=8, descriptors=None, others='', environment=None, umask=-1):
         self.room = tempfile.TemporaryDirectory(prefix='stickd-')
         self.port, self.path = free_port(), os.path.join(self.room.name, 'commands')
         conf = os.path.join(self.room.name, 'proxy.cfg')
         with open(conf, 'w', encoding='utf-8') as file:
             file.write('\n    '.join(['listen www', f'bind 127.0.0.1:{self.port}', *lines, f'server one 127.0.0.1:{server}']) + '\n' + others)
-        self.descriptors, self.environment = descriptors, environment
+        self.descriptors, self.environment, self.umask = descriptors, environment, umask
         self.words = ['run', conf, '--socket', self.path, '--threads', str(threads), *words]
         self.start()
 
     def start(self):
         self.program = subprocess.Popen([*PROGRAM, *self.words], stdin=subprocess.DEVNULL, stdout=subprocess.PIPE,
-                                        stderr=subprocess.PIPE, text=True, preexec_fn=self.limit, env=self.environment)
+                                        stderr=subprocess.PIPE, text=True, preexec_fn=self.limit, env=self.environment, umask=self.umask)
         wait_for('the program answers', lambda: self.program.poll() is not None or self.is_up())
         assert self.program.poll() is None, f'it ended at once: {self.program.stderr.read()}'
 
@@ -115,14 +199,40 @@ class Proxy:
         client.settimeout(PATIENCE)
         return client
 
-    def command(self, text):
+    def newcomer(self, source='127.0.0.1'):
+        """A client that is about to connect, and doesn't wait for that."""
+        client = socket.socket()
+        client.setblocking(False)
+        client.bind((source, 0))
+        client.connect_ex(('127.0.0.1', self.port))
+        return client
+
+    def command_client(self, patience=PATIENCE):
+        """A client of the command socket that has said nothing yet."""
+        stream = socket.socket(socket.AF_UNIX)
+        stream.settimeout(patience)
+        stream.connect(self.path)
+        return stream
+
+    def command(self, text, patience=PATIENCE):
         """What commands are answered."""
-        with socket.socket(socket.AF_UNIX) as stream:
-            stream.settimeout(PATIENCE)
-            stream.connect(self.path)
+        with self.command_client(patience) as stream:
             stream.sendall(text if isinstance(text, bytes) else text.encode())
             stream.shutdown(socket.SHUT_WR)
             return read_all(stream).decode('utf-8', 'replace')
+
+    def fill(self, count):
+        """Puts so many keys into the table, over one client that reads its answers meanwhile."""
+        lines = ''.join(f'set table www key 10.{n >> 16}.{n >> 8 & 255}.{n & 255} data.gpc0 1\n' for n in range(count))
+        with self.command_client(3 * PATIENCE) as stream:
+            def say():
+                stream.sendall(lines.encode())
+                stream.shutdown(socket.SHUT_WR)
+            saying = threading.Thread(target=say)
+            saying.start()
+            answered = sum(map(len, iter(lambda: stream.recv(1 << 18), b'')))
+            saying.join()
+            assert answered == count, f'{answered} bytes for {count} keys'
 
     def rows(self):
         """The entries of the table by their keys, each datum by its name."""
@@ -142,6 +252,23 @@ class Proxy:
                 counts[task] = next(int(line.split()[1]) for line in lines if line.startswith('voluntary'))
         return counts
 
+    @contextlib.contextmanager
+    def stopped(self):
+        """Meanwhile each of the program's threads stands still: whatever is done then it finds at once afterwards."""
+        self.program.send_signal(signal.SIGSTOP)
+        wait_for('it has stopped', self.has_stopped, pause=0.001)
+        try:
+            yield
+            # What was sent last has arrived by then.
+            time.sleep(0.05)
+        finally:
+            self.program.send_signal(signal.SIGCONT)
+
+    def stall(self, seconds):
+        """Has each of its threads stand still for so long."""
+        with self.stopped():
+            time.sleep(seconds)
+
     def has_stopped(self):
         """Whether each thread of the program has stopped, as by a signal."""
         tasks, states = f'/proc/{self.program.pid}/task', []
@@ -152,6 +279,11 @@ class Proxy:
 
     def is_unused(self):
         return all(row['use'] == 0 and row['conn_cur'] == 0 for row in self.rows().values())
+
+    def killed(self):
+        """Kills the program, and answers the lines that it has written on standard error."""
+        self.program.kill()
+        return self.program.communicate()[1].splitlines()
 
     def ended(self):
         """Waits until the program has ended: its status, and what it wrote."""
@@ -190,6 +322,42 @@ def is_greeted(client):
     with contextlib.suppress(OSError):
         return client is not None and client.recv(1) == b'+'
     return False
+
+
+def closed_after(client):
+    """The seconds until a client that says nothing is closed."""
+    began = time.monotonic()
+    with contextlib.suppress(ConnectionResetError):
+        read_all(client)
+    return time.monotonic() - began
+
+
+def is_closed(client):
+    """Whether a client is closed by now, whatever came before."""
+    client.setblocking(False)
+    with contextlib.suppress(BlockingIOError):
+        while True:
+            try:
+                if not client.recv(65536):
+                    return True
+            except ConnectionResetError:
+                return True
+    return False
+
+
+def hears_end(stream, within):
+    """Whether a socket is told that its connection is over, also where an orderly end was read before."""
+    poll = select.poll()
+    poll.register(stream, 0)
+    return any(what & (select.POLLHUP | select.POLLERR) for _, what in poll.poll(within * 1000))
+
+
+def end_of(stream):
+    """How a connection ends for who reads it: in order, or by a reset."""
+    try:
+        return 'orderly' if stream.recv(1) == b'' else 'bytes'
+    except ConnectionResetError:
+        return 'reset'
 
 
 def reset(client):
