@@ -99,7 +99,7 @@ def passing_errors_hold_nobody_up():
 
 
 # How many bytes of one connection are carried at most before the others that are ready have their turn.
-SHARE = 131_072
+SHARE = 262_144
 
 
 def one_that_sends_much_leaves_turns_to_others():
