@@ -1,13 +1,16 @@
-// A library with one function.
+//! An HAProxy configuration carried over: the configuration that stickd runs in its place, the command line, and a
+//! report of what became of each line.
 #![tactic(auto)]
 
-ghost use Rattle.std.specs.Prelude.{◌≡◌};
-ghost use Rattle.adopt.specs.Echo.{echo_of};
+mod adoption;
+mod checked;
+mod command;
+mod file;
+mod report;
+mod status;
+mod written;
 
-// The `ensures` clause is the contract: what `echo` returns is `echo_of` of its argument, a definition
-// in `specs/Echo.antt`, which a caller's clause can cite too.
-pub fn echo(x: usize) -> usize
-    ensures { result ≡ echo_of x }
-{
-    x
-}
+pub use adoption::{Adoption, adopt, wanted_files};
+pub use file::{Asked, adopt_file};
+pub use report::report_of;
+pub use status::{LOST, SAME, status_of};

@@ -1,13 +1,29 @@
-// A library with one function.
+//! What becomes of each line of an HAProxy configuration: it is kept, rewritten, or left out with a reason.
+//!
+//! A file is read into a `Plan`: its sections, the one frontend that is served and its backend, and what their rules
+//! track. Then each line has a `Fate`, and options of the command line stand for lines of limits and times.
 #![tactic(auto)]
 
-ghost use Rattle.std.specs.Prelude.{◌≡◌};
-ghost use Rattle.adopt_plan.specs.Echo.{echo_of};
+mod actions;
+mod addresses;
+mod choices;
+mod conditions;
+mod criteria;
+mod fates;
+mod fetches;
+mod keywords;
+mod listeners;
+mod options;
+mod plan;
+mod reasons;
+mod rules;
+mod sections;
+mod servers;
+mod tables;
+mod values;
 
-// The `ensures` clause is the contract: what `echo` returns is `echo_of` of its argument, a definition
-// in `specs/Echo.antt`, which a caller's clause can cite too.
-pub fn echo(x: usize) -> usize
-    ensures { result ≡ echo_of x }
-{
-    x
-}
+pub use choices::make_plan;
+pub use fates::{Fate, FateKind, fates_of};
+pub use options::{CommandOption, command_options};
+pub use plan::{PatternFile, Plan, Wishes, pattern_files};
+pub use reasons::{Refusal, Why};
