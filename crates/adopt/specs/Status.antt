@@ -1,7 +1,7 @@
 -- What a report comes to.
 use Rattle.std.specs.Prelude.{ℕ, Bool, true, false, List, if◌then◌else◌}
 use Rattle.std.specs.List.{list_any}
-use Rattle.adopt_plan.specs.declared.fates.Fate.{Fate}
+use Rattle.adopt.specs.declared.written.Adopted.{Adopted}
 use Rattle.adopt_plan.specs.declared.fates.FateKind.{FateKind}
 use Rattle.adopt_plan.specs.declared.fates.FateKind.TheVariants.{Kept, Rewritten, Moved, Harmless, Altered, Lost}
 
@@ -14,9 +14,9 @@ changes Harmless = false
 changes Altered = true
 changes Lost = true
 
-abbrev pub matters : Fate → Bool
-matters fate = changes fate.kind
+abbrev pub matters : Adopted → Bool
+matters line = changes line.fate.kind
 
 -- 3 where a line's loss changes what is served, else 0
-abbrev pub status_of : List Fate → ℕ
-status_of fates = if list_any matters fates then 3 else 0
+abbrev pub status_of : List Adopted → ℕ
+status_of lines = if list_any matters lines then 3 else 0

@@ -1,9 +1,10 @@
 -- What is written of each line.
-use Rattle.std.specs.Prelude.{ℕ, ◌++◌, ◌<◌, nat_lt, List, [], ◌∷◌, map, codes, if◌then◌else◌}
+use Rattle.std.specs.Prelude.{ℕ, ◌++◌, nat_lt, List, [], ◌∷◌, map, codes, if◌then◌else◌}
+use Rattle.std.specs.List.{flat_map}
 use Rattle.std.specs.Str.{is_utf8}
 use Rattle.std.specs.declared.vec.Vec.{Vec}
-use Rattle.adopt_words.specs.declared.lexer.SourceLine.{SourceLine}
-use Rattle.adopt_plan.specs.declared.fates.Fate.{Fate}
+use Rattle.std.specs.declared.alloc.Global.{Global}
+use Rattle.adopt.specs.declared.written.Adopted.{Adopted}
 use Rattle.adopt_plan.specs.declared.fates.FateKind.{FateKind}
 use Rattle.adopt_plan.specs.declared.fates.FateKind.TheVariants.{Kept, Rewritten, Moved, Harmless, Altered, Lost}
 
@@ -32,17 +33,18 @@ in_place Harmless raw note text = comment_of raw note
 in_place Altered raw note text = line_of text
 in_place Lost raw note text = comment_of raw note
 
--- lines, one behind the other
-abbrev pub added_lines : List (Vec ℕ) → List ℕ
-added_lines [] = []
-added_lines (line ∷ lines) = line_of line.items ++ added_lines lines
+-- the lines that are added behind a line
+abbrev pub added_lines : List (Vec ℕ Global) → List ℕ
+added_lines lines = flat_map (λ line. line_of line.items) lines
 
 -- what stands in a line's place, and the lines that are added behind it
-abbrev pub piece_of : List ℕ → Fate → List ℕ
-piece_of raw fate = in_place fate.kind raw fate.note.items fate.text.items ++ added_lines fate.after.items
+abbrev pub piece_of : Adopted → List ℕ
+piece_of line = in_place line.fate.kind line.raw.items line.fate.note.items line.fate.text.items ++ added_lines line.fate.after.items
 
 -- line by line, in the order of the file
-abbrev pub composed : List SourceLine → List Fate → List ℕ
-composed (line ∷ lines) (fate ∷ fates) = piece_of line.raw.items fate ++ composed lines fates
-composed [] fates = []
-composed lines [] = []
+abbrev pub composed : List Adopted → List ℕ
+composed lines = flat_map piece_of lines
+
+-- the lines of the file, as they stood
+abbrev pub raws_of : List Adopted → List (List ℕ)
+raws_of lines = map (λ line. line.raw.items) lines

@@ -1,20 +1,26 @@
 //! A whole file, adopted.
 
+ghost use Rattle.std.specs.Prelude.{◌≡◌, ◌++◌, ℕ, List, IfOk, IfSome};
+ghost use Rattle.adopt_words.specs.Lines.{own_lines, own_raws};
+ghost use Rattle.adopt.specs.Checked.{IsTaken};
+ghost use Rattle.adopt.specs.Status.{status_of};
+ghost use Rattle.adopt.specs.Written.{composed, raws_of};
+
 use crate::checked::first_fault;
 use crate::command::{HEAD, command_of};
-use crate::status::status_of;
-use crate::written::{push_line, push_pieces};
-use adopt_plan::{Fate, FateKind, PatternFile, Plan, Why, Wishes, command_options, fates_of, make_plan, pattern_files};
-use adopt_words::{SourceLine, Variable, append_str, copy_text, read_lines, text_of};
+use crate::written::{Adopted, push_line, push_pieces};
+use adopt_plan::{
+    Fate, FateKind, PatternFile, Why, Wishes, command_options, fates_of, make_plan, pattern_files,
+};
+use adopt_words::{SourceLine, Variable, copy_text, copy_words, read_lines, text_of};
 use sequence::NoMemory;
 use std::alloc::Global;
 
 /// What became of a file.
 #[derive(Drop)]
 pub struct Adoption {
-    pub lines: Vec<SourceLine>,
-    /// What became of each line.
-    pub fates: Vec<Fate>,
+    /// Its lines, and what became of each.
+    pub lines: Vec<Adopted>,
     /// The configuration that stickd runs.
     pub text: Vec<u8>,
     /// The command line.
@@ -24,7 +30,11 @@ pub struct Adoption {
 }
 
 /// The names of the files of patterns that have to be read before a file is adopted.
-pub fn wanted_files(alloc: Global, text: &[u8], environment: &[Variable]) -> Result<Vec<Vec<u8>>, NoMemory> {
+pub fn wanted_files(
+    alloc: Global,
+    text: &[u8],
+    environment: &[Variable],
+) -> Result<Vec<Vec<u8>>, NoMemory> {
     let lines = read_lines(alloc, text, environment)?;
     pattern_files(alloc, lines.as_slice())
 }
@@ -49,10 +59,52 @@ fn heading(alloc: Global, lines: &[SourceLine], command: &[u8]) -> Result<Vec<u8
     Ok(text)
 }
 
+/// A copy of what becomes of a line.
+fn copy_fate(alloc: Global, fate: &Fate) -> Result<Fate, NoMemory> {
+    Ok(Fate {
+        kind: fate.kind,
+        note: copy_text(alloc, fate.note.as_slice())?,
+        text: copy_text(alloc, fate.text.as_slice())?,
+        after: copy_words(alloc, fate.after.as_slice())?,
+    })
+}
+
+/// What becomes of the line at a place.
+fn fate_at(alloc: Global, fates: &[Fate], place: usize) -> Result<Fate, NoMemory> {
+    match fates.get(place) {
+        Some(fate) => copy_fate(alloc, fate),
+        None => Ok(Fate {
+            kind: FateKind::Kept,
+            note: Vec::new(alloc),
+            text: Vec::new(alloc),
+            after: Vec::new(alloc),
+        }),
+    }
+}
+
+/// The lines of a file with what becomes of each.
+fn adopted_lines(
+    alloc: Global,
+    lines: &[SourceLine],
+    fates: &[Fate],
+) -> Result<Vec<Adopted>, NoMemory>
+    ensures { IfOk result (λ adopted. raws_of adopted.items ≡ own_raws lines.now) }
+{
+    let mut adopted = Vec::new(alloc);
+    for (place, line) in lines.iter().enumerate() {
+        let fate = fate_at(alloc, fates, place)?;
+        let raw = copy_text(alloc, line.raw.as_slice())?;
+        adopted.push(Adopted { raw, fate })?;
+    }
+    Ok(adopted)
+}
+
 /// All that is written, behind these lines.
-fn compose(alloc: Global, head: &[u8], lines: &[SourceLine], fates: &[Fate]) -> Result<Vec<u8>, NoMemory> {
+fn compose(alloc: Global, head: &[u8], lines: &[Adopted]) -> Result<Vec<u8>, NoMemory>
+    ensures { IfOk result (λ text. text.items ≡ head.now ++ composed lines.now) }
+{
     let mut text = copy_text(alloc, head)?;
-    push_pieces(&mut text, lines, fates)?;
+    push_pieces(&mut text, lines)?;
     Ok(text)
 }
 
@@ -64,9 +116,9 @@ struct Owner {
     added: Option<usize>,
 }
 
-/// The line of the file for which a line is written.
-fn owner_of(head: &[u8], fates: &[Fate], number: u64) -> Option<Owner> {
-    let mut next: u64 = if head.is_empty() { 1 } else { 2 };
+/// The line of the file for which the line of this number is written, of which the first has the number `start`.
+fn owner_of(start: u64, fates: &[Fate], number: u64) -> Option<Owner> {
+    let mut next = start;
     for (place, fate) in fates.iter().enumerate() {
         if number == next {
             return Some(Owner { place, added: None });
@@ -74,7 +126,10 @@ fn owner_of(head: &[u8], fates: &[Fate], number: u64) -> Option<Owner> {
         next = next.saturating_add(1);
         for added in 0..fate.after.len() {
             if number == next {
-                return Some(Owner { place, added: Some(added) });
+                return Some(Owner {
+                    place,
+                    added: Some(added),
+                });
             }
             next = next.saturating_add(1);
         }
@@ -82,13 +137,15 @@ fn owner_of(head: &[u8], fates: &[Fate], number: u64) -> Option<Owner> {
     None
 }
 
-/// Leaves out a line that stickd doesn't read.
-fn lose(alloc: Global, lines: &[SourceLine], fates: &mut Vec<Fate>, owner: Owner) -> Result<(), NoMemory> {
-    let (Some(fate), Some(line)) = (fates.get_mut(owner.place), lines.get(owner.place)) else {
-        return Ok(());
-    };
+/// What becomes of a line that stickd doesn't read: it, or one of those behind it, is left out.
+fn lose(
+    alloc: Global,
+    line: &SourceLine,
+    fate: &mut Fate,
+    added: Option<usize>,
+) -> Result<(), NoMemory> {
     fate.note = text_of(alloc, Why::NotRead.text())?;
-    let Some(added) = owner.added else {
+    let Some(added) = added else {
         fate.kind = FateKind::Lost;
         return Ok(());
     };
@@ -115,16 +172,29 @@ fn most_lines(fates: &[Fate]) -> usize {
     count
 }
 
-/// Leaves out line by line what stickd doesn't read, and answers what is written then.
-fn settle(alloc: Global, head: &[u8], lines: &[SourceLine], fates: &mut Vec<Fate>) -> Result<Option<Vec<u8>>, NoMemory> {
+/// Leaves out line by line what stickd doesn't read. Answers the lines, and what is written of them behind `head`. None
+/// where that isn't read all the same.
+fn settle(
+    alloc: Global,
+    head: &[u8],
+    lines: &[SourceLine],
+    mut fates: Vec<Fate>,
+) -> Result<Option<(Vec<Adopted>, Vec<u8>)>, NoMemory>
+    ensures { IfOk result (λ found. IfSome found (λ settled. (raws_of settled.0.items ≡ own_raws lines.now)
+        × (settled.1.items ≡ head.now ++ composed settled.0.items) × IsTaken settled.1.items)) }
+{
     for _ in 0..most_lines(fates.as_slice()) {
-        let text = compose(alloc, head, lines, fates.as_slice())?;
+        let adopted = adopted_lines(alloc, lines, fates.as_slice())?;
+        let text = compose(alloc, head, adopted.as_slice())?;
         let Some(number) = first_fault(alloc, text.as_slice())? else {
-            return Ok(Some(text));
+            return Ok(Some((adopted, text)));
         };
-        match owner_of(head, fates.as_slice(), number) {
-            Some(owner) => lose(alloc, lines, fates, owner)?,
-            None => return Ok(None),
+        let start = if head.is_empty() { 1 } else { 2 };
+        let Some(owner) = owner_of(start, fates.as_slice(), number) else {
+            return Ok(None);
+        };
+        if let (Some(fate), Some(line)) = (fates.get_mut(owner.place), lines.get(owner.place)) {
+            lose(alloc, line, fate, owner.added)?;
         }
     }
     Ok(None)
@@ -138,17 +208,29 @@ pub fn adopt(
     environment: &[Variable],
     files: Vec<PatternFile>,
     wishes: &Wishes,
-) -> Result<Option<Adoption>, NoMemory> {
+) -> Result<Option<Adoption>, NoMemory>
+    // Each line of the file stands there, in order.
+    ensures lines { IfOk result (λ found. IfSome found (λ adoption. raws_of adoption.lines.items ≡ own_lines text.now)) }
+    // What is written is what stands for each of them, behind the command line unless that is there.
+    ensures written { IfOk result (λ found. IfSome found (λ adoption. (head : List ℕ) × (adoption.text.items ≡ head ++ composed adoption.lines.items))) }
+    // It is read without a fault and without a warning.
+    ensures taken { IfOk result (λ found. IfSome found (λ adoption. IsTaken adoption.text.items)) }
+    ensures status { IfOk result (λ found. IfSome found (λ adoption. adoption.status ≡ status_of adoption.lines.items)) }
+{
     let lines = read_lines(alloc, text, environment)?;
     let plan = make_plan(alloc, lines, files, wishes)?;
     let options = command_options(alloc, &plan)?;
-    let mut fates = fates_of(alloc, &plan, options.as_slice())?;
+    let fates = fates_of(alloc, &plan, options.as_slice())?;
     let command = command_of(alloc, first_raw(plan.lines.as_slice()), options.as_slice())?;
-    let Plan { lines, .. } = plan;
-    let head = heading(alloc, lines.as_slice(), command.as_slice())?;
-    let Some(text) = settle(alloc, head.as_slice(), lines.as_slice(), &mut fates)? else {
+    let head = heading(alloc, plan.lines.as_slice(), command.as_slice())?;
+    let Some((lines, text)) = settle(alloc, head.as_slice(), plan.lines.as_slice(), fates)? else {
         return Ok(None);
     };
-    let status = status_of(fates.as_slice());
-    Ok(Some(Adoption { lines, fates, text, command, status }))
+    let status = crate::status::status_of(lines.as_slice());
+    Ok(Some(Adoption {
+        lines,
+        text,
+        command,
+        status,
+    }))
 }

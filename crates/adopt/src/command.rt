@@ -17,7 +17,10 @@ pub(crate) const HEAD: &str = "# stickd run ";
 /// Whether a value is read by a shell as it stands.
 fn is_bare(value: &[u8]) -> bool {
     for byte in value {
-        let is_known = matches!(*byte, b'-' | b'_' | b'.' | b':' | b'/' | b'@' | b',' | b'+' | b'%');
+        let is_known = matches!(
+            *byte,
+            b'-' | b'_' | b'.' | b':' | b'/' | b'@' | b',' | b'+' | b'%'
+        );
         if !byte.is_ascii_alphanumeric() && !is_known {
             return false;
         }
@@ -60,7 +63,11 @@ fn from_options(alloc: Global, options: &[CommandOption]) -> Result<Vec<u8>, NoM
 }
 
 /// The command line: that of the first line where the file was adopted already, else one of these options.
-pub(crate) fn command_of(alloc: Global, first: Option<&[u8]>, options: &[CommandOption]) -> Result<Vec<u8>, NoMemory> {
+pub(crate) fn command_of(
+    alloc: Global,
+    first: Option<&[u8]>,
+    options: &[CommandOption],
+) -> Result<Vec<u8>, NoMemory> {
     if let Some(raw) = first
         && raw.starts_with(HEAD.as_bytes())
         && let Some(command) = raw.strip_prefix(b"# ".as_slice())

@@ -61,7 +61,11 @@ fn read_named<R: Files + AllocGlobal>(rt: &R, name: &[u8]) -> Option<Vec<u8>> {
 }
 
 /// The files of patterns of these names: where they are from here, or beside the configuration.
-fn read_patterns<R: Files + AllocGlobal>(rt: &R, path: &str, names: &[Vec<u8>]) -> Result<Vec<PatternFile>, NoMemory> {
+fn read_patterns<R: Files + AllocGlobal>(
+    rt: &R,
+    path: &str,
+    names: &[Vec<u8>],
+) -> Result<Vec<PatternFile>, NoMemory> {
     let mut files = Vec::new(rt.alloc());
     for name in names {
         let name = name.as_slice();
@@ -110,7 +114,11 @@ fn tell<R: Eprint>(rt: &R, text: &[u8]) -> io::Result<()> {
 }
 
 /// Writes what became of a file, and answers the status.
-fn show_adoption<R: Print + Eprint + AllocGlobal>(rt: &R, adoption: &Adoption, asked: &Asked) -> io::Result<u8> {
+fn show_adoption<R: Print + Eprint + AllocGlobal>(
+    rt: &R,
+    adoption: &Adoption,
+    asked: &Asked,
+) -> io::Result<u8> {
     let report = report_of(rt.alloc(), adoption)?;
     tell(rt, report.as_slice())?;
     if adoption.status != SAME && !asked.anyway {
@@ -128,7 +136,11 @@ fn show_adoption<R: Print + Eprint + AllocGlobal>(rt: &R, adoption: &Adoption, a
 /// Adopts the file of this name: writes the configuration, or the command line, to standard output, and the report to
 /// standard error. Answers the status: 0 where what is served is the same, 3 where something that matters was lost, and
 /// 1 where the file can't be read.
-pub fn adopt_file<R: Files + Env + Print + Eprint + AllocGlobal>(rt: &R, path: &str, asked: &Asked) -> io::Result<u8> {
+pub fn adopt_file<R: Files + Env + Print + Eprint + AllocGlobal>(
+    rt: &R,
+    path: &str,
+    asked: &Asked,
+) -> io::Result<u8> {
     let text = match fs::read(rt, path) {
         Ok(text) => text,
         Err(reason) => {

@@ -14,3 +14,4 @@ pub use adoption::{Adoption, adopt, wanted_files};
 pub use file::{Asked, adopt_file};
 pub use report::report_of;
 pub use status::{LOST, SAME, status_of};
+pub use written::Adopted;

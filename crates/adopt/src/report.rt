@@ -31,14 +31,25 @@ fn add_fate(text: &mut Vec<u8>, number: usize, fate: &Fate) -> Result<(), NoMemo
     append_str(text, "\n")
 }
 
+/// Whether a line is more than blanks and a comment.
+fn has_words(raw: &[u8]) -> bool {
+    for byte in raw {
+        if *byte == b'#' {
+            return false;
+        }
+        if *byte != b' ' && *byte != b'\t' {
+            return true;
+        }
+    }
+    false
+}
+
 /// The report: a line for each line of the file that has words.
 pub fn report_of(alloc: Global, adoption: &Adoption) -> Result<Vec<u8>, NoMemory> {
     let mut text = Vec::new(alloc);
     for (place, line) in adoption.lines.iter().enumerate() {
-        if let Some(fate) = adoption.fates.get(place)
-            && (!line.words.is_empty() || fate.kind != FateKind::Kept)
-        {
-            add_fate(&mut text, place.saturating_add(1), fate)?;
+        if line.fate.kind != FateKind::Kept || has_words(line.raw.as_slice()) {
+            add_fate(&mut text, place.saturating_add(1), &line.fate)?;
         }
     }
     Ok(text)

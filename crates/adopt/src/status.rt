@@ -4,7 +4,8 @@ ghost use Rattle.std.specs.Prelude.{◌≡◌};
 ghost use Rattle.std.specs.List.{list_any};
 ghost use Rattle.adopt.specs.Status as spec;
 
-use adopt_plan::{Fate, FateKind};
+use crate::written::Adopted;
+use adopt_plan::FateKind;
 
 /// The status where what is served is the same.
 pub const SAME: u8 = 0;
@@ -13,20 +14,20 @@ pub const SAME: u8 = 0;
 pub const LOST: u8 = 3;
 
 /// Whether a line's loss changes what is served.
-fn matters(fate: &Fate) -> bool
-    ensures { result ≡ spec.matters fate.now }
+fn matters(line: &Adopted) -> bool
+    ensures { result ≡ spec.matters line.now }
 {
-    match fate.kind {
+    match line.fate.kind {
         FateKind::Altered | FateKind::Lost => true,
         FateKind::Kept | FateKind::Rewritten | FateKind::Moved | FateKind::Harmless => false,
     }
 }
 
 /// The status of what became of all lines: 3 where the loss of one of them changes what is served, else 0.
-pub fn status_of(fates: &[Fate]) -> u8
-    ensures { result ≡ spec.status_of fates.now }
+pub fn status_of(lines: &[Adopted]) -> u8
+    ensures { result ≡ spec.status_of lines.now }
 {
-    if fates.iter().any(|fate| matters(fate)) {
+    if lines.iter().any(|line| matters(line)) {
         LOST
     } else {
         SAME

@@ -6,9 +6,16 @@ ghost use Rattle.adopt.specs.Written as spec;
 ghost use Rattle.adopt.specs.Written.{line_of, comment_of, piece_of, added_lines, composed};
 
 use adopt_plan::{Fate, FateKind};
-use adopt_words::SourceLine;
 use config_words::is_text;
 use sequence::NoMemory;
+
+/// A line of the file, and what becomes of it.
+#[derive(Drop)]
+pub struct Adopted {
+    /// The line without its end.
+    pub raw: Vec<u8>,
+    pub fate: Fate,
+}
 
 /// Puts a question mark in place of a byte that is no ASCII.
 fn to_ascii(byte: u8) -> u8
@@ -83,22 +90,19 @@ fn push_lines(text: &mut Vec<u8>, lines: &[Vec<u8>]) -> Result<(), NoMemory>
 }
 
 /// Adds what is written of a line: what stands in its place, and the lines behind it.
-fn push_piece(text: &mut Vec<u8>, raw: &[u8], fate: &Fate) -> Result<(), NoMemory>
-    ensures { OnOk result (text.new.items ≡ text.old.items ++ piece_of raw.now fate.now) }
+fn push_piece(text: &mut Vec<u8>, line: &Adopted) -> Result<(), NoMemory>
+    ensures { OnOk result (text.new.items ≡ text.old.items ++ piece_of line.now) }
 {
-    push_in_place(text, raw, fate)?;
-    push_lines(text, fate.after.as_slice())
+    push_in_place(text, line.raw.as_slice(), &line.fate)?;
+    push_lines(text, line.fate.after.as_slice())
 }
 
-/// Adds what is written of all lines, in order. There are as many fates as lines.
-pub(crate) fn push_pieces(text: &mut Vec<u8>, lines: &[SourceLine], fates: &[Fate]) -> Result<(), NoMemory>
-    ensures { OnOk result (text.new.items ≡ text.old.items ++ composed lines.now fates.now) }
+/// Adds what is written of all lines, in order.
+pub(crate) fn push_pieces(text: &mut Vec<u8>, lines: &[Adopted]) -> Result<(), NoMemory>
+    ensures { OnOk result (text.new.items ≡ text.old.items ++ composed lines.now) }
 {
-    for (place, line) in lines.iter().enumerate() {
-        let Some(fate) = fates.get(place) else {
-            return Ok(());
-        };
-        push_piece(text, line.raw.as_slice(), fate)?;
+    for line in lines {
+        push_piece(text, line)?;
     }
     Ok(())
 }

@@ -21,7 +21,15 @@ pub(crate) struct Action {
 
 /// What rules can do that decides and counts nothing.
 const IDLE: [&str; 9] = [
-    "set-log-level", "set-nice", "capture", "do-log", "unset-var", "set-var", "set-var-fmt", "set-fc-mark", "set-fc-tos",
+    "set-log-level",
+    "set-nice",
+    "capture",
+    "do-log",
+    "unset-var",
+    "set-var",
+    "set-var-fmt",
+    "set-fc-mark",
+    "set-fc-tos",
 ];
 
 /// Whether a rule that does this decides and counts nothing.
@@ -67,8 +75,16 @@ fn mask_of(alloc: Global, rest: &[u8]) -> Result<Option<(u64, u64)>, NoMemory> {
     };
     let parts = split_at_byte(alloc, inner, b',')?;
     let first = word_at(parts.as_slice(), 0);
-    let v4 = if is_word(first, "255.255.255.255") { Some(32) } else { read_number(first) };
-    let v6 = if parts.len() > 1 { read_number(word_at(parts.as_slice(), 1)) } else { Some(128) };
+    let v4 = if is_word(first, "255.255.255.255") {
+        Some(32)
+    } else {
+        read_number(first)
+    };
+    let v6 = if parts.len() > 1 {
+        read_number(word_at(parts.as_slice(), 1))
+    } else {
+        Some(128)
+    };
     let (Some(v4), Some(v6)) = (v4, v6) else {
         return Ok(None);
     };
@@ -107,7 +123,8 @@ fn source_key(alloc: Global, rest: &[u8], kind: &[u8]) -> Result<(Vec<u8>, Optio
 fn constant_text(alloc: Global, text: &[u8]) -> Result<Vec<u8>, NoMemory> {
     let mut key = text_of(alloc, "str(")?;
     for byte in text {
-        let is_plain = byte.is_ascii_alphanumeric() || matches!(*byte, b'-' | b'_' | b'.' | b':' | b'/' | b'@');
+        let is_plain = byte.is_ascii_alphanumeric()
+            || matches!(*byte, b'-' | b'_' | b'.' | b':' | b'/' | b'@');
         key.push(if is_plain { *byte } else { b'_' })?;
     }
     if text.is_empty() {
@@ -138,18 +155,39 @@ fn convert_key(alloc: Global, word: &[u8], kind: &[u8]) -> Result<(Vec<u8>, Opti
         return Ok((constant_text(alloc, argument)?, None));
     }
     // Each of these is the same for all connections of a frontend.
-    if is_one_of(name, &["fe_id", "so_id", "be_id", "always_true", "always_false", "bool", "fe_name", "be_name"]) {
+    if is_one_of(
+        name,
+        &[
+            "fe_id",
+            "so_id",
+            "be_id",
+            "always_true",
+            "always_false",
+            "bool",
+            "fe_name",
+            "be_name",
+        ],
+    ) {
         return Ok((text_of(alloc, "int(1)")?, None));
     }
     Err(Refusal::Lost(Why::TrackedKey))
 }
 
 /// `track-sc0 KEY [table T]`.
-fn convert_track(alloc: Global, plan: &Plan, rule: &RuleAt, words: &[Vec<u8>]) -> Result<Action, Refusal> {
+fn convert_track(
+    alloc: Global,
+    plan: &Plan,
+    rule: &RuleAt,
+    words: &[Vec<u8>],
+) -> Result<Action, Refusal> {
     let first = word_at(words, 0);
     let _slot = slot_of(tracked_slot(first).unwrap_or(b""))?;
     let is_named = is_word(word_at(words, 2), "table");
-    let section = if is_named { plan.table_section(word_at(words, 3)) } else { Some(rule.origin) };
+    let section = if is_named {
+        plan.table_section(word_at(words, 3))
+    } else {
+        Some(rule.origin)
+    };
     let Some(section) = section else {
         return Err(Refusal::Lost(Why::OtherTable));
     };
@@ -161,7 +199,11 @@ fn convert_track(alloc: Global, plan: &Plan, rule: &RuleAt, words: &[Vec<u8>]) -
         written.push(text_of(alloc, "table")?)?;
         written.push(copy_text(alloc, plan.new_name(section))?)?;
     }
-    Ok(Action { words: written, used: if is_named { 4 } else { 2 }, altered })
+    Ok(Action {
+        words: written,
+        used: if is_named { 4 } else { 2 },
+        altered,
+    })
 }
 
 /// The number that `V` or `int(V)` writes.
@@ -171,7 +213,10 @@ fn number_word(alloc: Global, word: &[u8]) -> Result<Vec<u8>, Refusal> {
     }
     let call = read_call(alloc, word)?;
     let argument = word_at(call.arguments.as_slice(), 0);
-    if is_word(call.name.as_slice(), "int") && call.rest.is_empty() && read_number(argument).is_some() {
+    if is_word(call.name.as_slice(), "int")
+        && call.rest.is_empty()
+        && read_number(argument).is_some()
+    {
         return Ok(copy_text(alloc, argument)?);
     }
     Err(Refusal::Lost(Why::UnknownValue))
@@ -197,7 +242,11 @@ fn convert_count(alloc: Global, plan: &Plan, words: &[Vec<u8>]) -> Result<Action
     if is_word(name, "sc-inc-gpc0") || is_word(name, "sc-inc-gpc1") {
         let _slot = slot_of(word_at(arguments, 0))?;
         written.push(copy_text(alloc, first)?)?;
-        return Ok(Action { words: written, used: 1, altered: None });
+        return Ok(Action {
+            words: written,
+            used: 1,
+            altered: None,
+        });
     }
     if is_word(name, "sc-inc-gpc") {
         let _slot = slot_of(word_at(arguments, 1))?;
@@ -208,17 +257,29 @@ fn convert_count(alloc: Global, plan: &Plan, words: &[Vec<u8>]) -> Result<Action
             (_, _) => copy_text(alloc, first)?,
         };
         written.push(word)?;
-        return Ok(Action { words: written, used: 1, altered: None });
+        return Ok(Action {
+            words: written,
+            used: 1,
+            altered: None,
+        });
     }
     let is_set = is_word(name, "sc-set-gpt0") || is_word(name, "sc-set-gpt");
     if !is_set {
         return Err(Refusal::Lost(Why::UnknownAction));
     }
-    let slot = if is_word(name, "sc-set-gpt0") { word_at(arguments, 0) } else { word_at(arguments, 1) };
+    let slot = if is_word(name, "sc-set-gpt0") {
+        word_at(arguments, 0)
+    } else {
+        word_at(arguments, 1)
+    };
     let _slot = slot_of(slot)?;
     written.push(copy_text(alloc, first)?)?;
     written.push(number_word(alloc, word_at(words, 1))?)?;
-    Ok(Action { words: written, used: 2, altered: None })
+    Ok(Action {
+        words: written,
+        used: 2,
+        altered: None,
+    })
 }
 
 /// The place of `if` or `unless`, or behind all words.
@@ -232,16 +293,29 @@ pub(crate) fn condition_place(words: &[Vec<u8>]) -> usize {
 }
 
 /// What a rule does, from the words behind `tcp-request connection` and its kin.
-pub(crate) fn convert_action(alloc: Global, plan: &Plan, rule: &RuleAt, words: &[Vec<u8>]) -> Result<Action, Refusal> {
+pub(crate) fn convert_action(
+    alloc: Global,
+    plan: &Plan,
+    rule: &RuleAt,
+    words: &[Vec<u8>],
+) -> Result<Action, Refusal> {
     let first = word_at(words, 0);
     let mut written = Vec::new(alloc);
     if is_word(first, "accept") || is_word(first, "reject") {
         written.push(copy_text(alloc, first)?)?;
-        return Ok(Action { words: written, used: 1, altered: None });
+        return Ok(Action {
+            words: written,
+            used: 1,
+            altered: None,
+        });
     }
     if is_word(first, "silent-drop") {
         written.push(text_of(alloc, "reject")?)?;
-        return Ok(Action { words: written, used: condition_place(words), altered: Some(Why::SilentDrop) });
+        return Ok(Action {
+            words: written,
+            used: condition_place(words),
+            altered: Some(Why::SilentDrop),
+        });
     }
     if tracked_slot(first).is_some() {
         return convert_track(alloc, plan, rule, words);
@@ -253,7 +327,11 @@ pub(crate) fn convert_action(alloc: Global, plan: &Plan, rule: &RuleAt, words: &
 }
 
 /// Puts words behind others.
-pub(crate) fn add_words(alloc: Global, words: &mut Words, more: &[Vec<u8>]) -> Result<(), NoMemory> {
+pub(crate) fn add_words(
+    alloc: Global,
+    words: &mut Words,
+    more: &[Vec<u8>],
+) -> Result<(), NoMemory> {
     for word in more {
         let mut text = Vec::new(alloc);
         append(&mut text, word.as_slice())?;

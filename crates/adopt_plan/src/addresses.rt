@@ -197,7 +197,11 @@ fn server_port(text: Option<&[u8]>, listener: Option<u64>) -> Option<u64> {
 }
 
 /// A server's address and port.
-pub(crate) fn server_endpoint(alloc: Global, word: &[u8], listener: Option<u64>) -> Result<Vec<u8>, Refusal> {
+pub(crate) fn server_endpoint(
+    alloc: Global,
+    word: &[u8],
+    listener: Option<u64>,
+) -> Result<Vec<u8>, Refusal> {
     if read_server(word).is_some() {
         return Ok(copy_text(alloc, word)?);
     }

@@ -1,6 +1,6 @@
 //! Which frontend of a file is served, and by which server.
 
-use crate::plan::{PatternFile, Plan, Track, Wishes, begins};
+use crate::plan::{PatternFile, Plan, RuleAt, Track, Wishes, begins};
 use crate::rules::{rules_of, track_of};
 use crate::sections::{Kind, Section, read_sections};
 use adopt_words::{SourceLine, is_word, word_at};
@@ -15,7 +15,11 @@ fn rank(section: &Section) -> u8 {
     if !section.is_http {
         return 3;
     }
-    if section.kind == Kind::Listen && !section.has_server { 1 } else { 2 }
+    if section.kind == Kind::Listen && !section.has_server {
+        1
+    } else {
+        2
+    }
 }
 
 /// The frontend that is wanted, or else the first that speaks most for itself.
@@ -66,26 +70,29 @@ fn naming_line(plan: &Plan, frontend: usize) -> Option<usize> {
     }
 }
 
-/// Finds the section whose server the frontend has.
-fn choose_backend(plan: &mut Plan) {
-    let Some(frontend) = plan.frontend else {
-        return;
-    };
-    let has_server = match plan.section(frontend) {
+/// Whether a section has a server.
+fn has_server(plan: &Plan, place: usize) -> bool {
+    match plan.section(place) {
         Some(section) => section.has_server,
         None => false,
-    };
-    if has_server {
-        plan.backend = Some(frontend);
-        return;
     }
-    let Some(line) = naming_line(plan, frontend) else {
-        plan.backend = Some(frontend);
-        return;
-    };
-    let found = backend_named(plan.sections.as_slice(), word_at(plan.words(line), 1));
-    plan.names_backend = Some(line);
-    plan.backend = found;
+}
+
+/// The line that names the section whose server a frontend has, if it has none itself.
+fn names_backend(plan: &Plan, frontend: Option<usize>) -> Option<usize> {
+    let frontend = frontend?;
+    if has_server(plan, frontend) {
+        return None;
+    }
+    naming_line(plan, frontend)
+}
+
+/// The section whose server a frontend has, which this line names.
+fn choose_backend(plan: &Plan, frontend: Option<usize>, line: Option<usize>) -> Option<usize> {
+    match line {
+        Some(line) => backend_named(plan.sections.as_slice(), word_at(plan.words(line), 1)),
+        None => frontend,
+    }
 }
 
 /// Whether a table stores `gpc_rate`.
@@ -108,21 +115,71 @@ fn has_rate(word: &[u8]) -> bool {
     word.windows(9).any(|window| is_word(window, "gpc_rate("))
 }
 
-/// Finds the rules that run, and what they track.
-fn find_rules(alloc: Global, plan: &mut Plan) -> Result<(), NoMemory> {
-    let Some(frontend) = plan.frontend else {
-        return Ok(());
-    };
-    let rules = rules_of(alloc, plan.lines.as_slice(), plan.sections.as_slice(), frontend, plan.backend)?;
-    let mut tracks: Vec<Track> = Vec::new(alloc);
-    for rule in &rules {
-        if let Some(track) = track_of(plan.sections.as_slice(), plan.words(rule.line), rule.origin) {
+/// The rules that run for the frontend.
+fn find_rules(alloc: Global, plan: &Plan) -> Result<Vec<RuleAt>, NoMemory> {
+    match plan.frontend {
+        Some(frontend) => rules_of(
+            alloc,
+            plan.lines.as_slice(),
+            plan.sections.as_slice(),
+            frontend,
+            plan.backend,
+        ),
+        None => Ok(Vec::new(alloc)),
+    }
+}
+
+/// What rules track.
+fn find_tracks(alloc: Global, plan: &Plan, rules: &[RuleAt]) -> Result<Vec<Track>, NoMemory> {
+    let mut tracks = Vec::new(alloc);
+    for rule in rules {
+        if let Some(track) = track_of(
+            plan.sections.as_slice(),
+            plan.words(rule.line),
+            rule.origin,
+        ) {
             tracks.push(track)?;
         }
     }
-    plan.rules = rules;
-    plan.tracks = tracks;
-    Ok(())
+    Ok(tracks)
+}
+
+/// The slot by which all connections are counted together, where a rule asks for that.
+fn slot_for_all(plan: &Plan, tracks: &[Track]) -> Option<u8> {
+    if asks_all(plan, plan.frontend?) {
+        return free_slot(tracks);
+    }
+    None
+}
+
+/// Whether a word asks how many connections a frontend has.
+fn asks_of_frontend(word: &[u8]) -> bool {
+    word.starts_with(b"fe_conn".as_slice()) || word.starts_with(b"fe_sess_rate".as_slice())
+}
+
+/// Whether a rule or an ACL of the frontend asks how many connections it has.
+fn asks_all(plan: &Plan, frontend: usize) -> bool {
+    let Some(section) = plan.section(frontend) else {
+        return false;
+    };
+    for number in section.first..section.end {
+        let words = plan.words(number);
+        let is_asking = begins(words, "acl", "") || begins(words, "tcp-request", "");
+        if is_asking && words.iter().any(|word| asks_of_frontend(word.as_slice())) {
+            return true;
+        }
+    }
+    false
+}
+
+/// A slot that no rule tracks with, the last first.
+fn free_slot(tracks: &[Track]) -> Option<u8> {
+    for slot in [2u8, 1, 0] {
+        if !tracks.iter().any(|track| track.slot == slot) {
+            return Some(slot);
+        }
+    }
+    None
 }
 
 /// What is served of a file, as is wished.
@@ -148,10 +205,19 @@ pub fn make_plan(
         rules: Vec::new(alloc),
         tracks: Vec::new(alloc),
         stores_rates,
+        counts_all: None,
         first_server: wishes.first_server,
         files,
     };
-    choose_backend(&mut plan);
-    find_rules(alloc, &mut plan)?;
+    let line = names_backend(&plan, frontend);
+    let backend = choose_backend(&plan, frontend, line);
+    plan.names_backend = line;
+    plan.backend = backend;
+    let rules = find_rules(alloc, &plan)?;
+    let tracks = find_tracks(alloc, &plan, rules.as_slice())?;
+    let slot = slot_for_all(&plan, tracks.as_slice());
+    plan.rules = rules;
+    plan.tracks = tracks;
+    plan.counts_all = slot;
     Ok(plan)
 }

@@ -39,7 +39,12 @@ struct Reader {
 }
 
 /// The name of a section's ACL in the frontend that is served.
-pub(crate) fn acl_name(alloc: Global, plan: &Plan, origin: usize, name: &[u8]) -> Result<Vec<u8>, NoMemory> {
+pub(crate) fn acl_name(
+    alloc: Global,
+    plan: &Plan,
+    origin: usize,
+    name: &[u8],
+) -> Result<Vec<u8>, NoMemory> {
     if plan.is_frontend(origin) {
         return copy_text(alloc, name);
     }
@@ -97,7 +102,12 @@ impl Reader {
         }
     }
 
-    fn add_term(&mut self, alloc: Global, rule: &RuleAt, given: Result<Words, Refusal>) -> Result<(), NoMemory> {
+    fn add_term(
+        &mut self,
+        alloc: Global,
+        rule: &RuleAt,
+        given: Result<Words, Refusal>,
+    ) -> Result<(), NoMemory> {
         let negated = self.negated;
         self.negated = false;
         let words = match given {
@@ -148,7 +158,13 @@ impl Reader {
         self.add_term(alloc, rule, given)
     }
 
-    fn take(&mut self, alloc: Global, plan: &Plan, rule: &RuleAt, word: &[u8]) -> Result<(), NoMemory> {
+    fn take(
+        &mut self,
+        alloc: Global,
+        plan: &Plan,
+        rule: &RuleAt,
+        word: &[u8],
+    ) -> Result<(), NoMemory> {
         if let Some(words) = self.braced.take() {
             return self.take_braced(alloc, plan, rule, words, word);
         }
@@ -184,7 +200,14 @@ impl Reader {
             self.failed = Some(Why::BadCondition);
         }
         self.end_alternative(alloc)?;
-        let Reader { alternatives, terms: _, negated: _, braced: _, failed: _, lost } = self;
+        let Reader {
+            alternatives,
+            terms: _,
+            negated: _,
+            braced: _,
+            failed: _,
+            lost,
+        } = self;
         Ok(Condition { alternatives, lost })
     }
 }
@@ -219,7 +242,11 @@ fn add_term_words(alloc: Global, term: &Term, words: &mut Words) -> Result<(), N
 }
 
 /// Adds the words of a condition.
-pub(crate) fn add_condition(alloc: Global, condition: &Condition, words: &mut Words) -> Result<(), NoMemory> {
+pub(crate) fn add_condition(
+    alloc: Global,
+    condition: &Condition,
+    words: &mut Words,
+) -> Result<(), NoMemory> {
     let mut is_first = true;
     for terms in &condition.alternatives {
         if !is_first {

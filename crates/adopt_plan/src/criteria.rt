@@ -31,7 +31,12 @@ pub(crate) fn behind_two(words: &[Vec<u8>]) -> &[Vec<u8>] {
 }
 
 /// Whether a section declares an ACL of this name; an `Err` where one of its declarations is lost.
-pub(crate) fn declares(alloc: Global, plan: &Plan, origin: usize, name: &[u8]) -> Result<bool, Refusal> {
+pub(crate) fn declares(
+    alloc: Global,
+    plan: &Plan,
+    origin: usize,
+    name: &[u8],
+) -> Result<bool, Refusal> {
     let Some(section) = plan.section(origin) else {
         return Ok(false);
     };

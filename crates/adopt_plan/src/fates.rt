@@ -3,16 +3,22 @@
 use crate::actions::is_idle;
 use crate::conditions::acl_name;
 use crate::criteria::{behind_two, built_in, convert_criterion, declares};
-use crate::keywords::left_out;
+use crate::guards::is_spread;
+use crate::keywords::{is_one_of, left_out};
 use crate::listeners::{convert_bind, first_bind};
 use crate::options::{CommandOption, is_limit};
 use crate::plan::{Plan, begins};
 use crate::reasons::{Refusal, Why};
-use crate::rules::{AcceptRole, Converted, accept_role, accepts, convert_rule, is_waiting, phase_of, rule_place};
+use crate::rules::{
+    AcceptRole, Converted, accept_role, accepts, convert_rule, is_waiting, phase_of, rule_place,
+};
 use crate::sections::{Kind, Section};
 use crate::servers::{convert_server, kept_server, server_loss, servers_of};
 use crate::tables::convert_table;
-use adopt_words::{SourceLine, Words, append, append_str, copy_text, is_word, joined, same_words, text_of, word_at};
+use adopt_words::{
+    SourceLine, Words, append, append_str, copy_text, is_word, joined, same_words, text_of, word_at,
+};
+use line_text::push_decimal;
 use sequence::NoMemory;
 use std::alloc::Global;
 
@@ -58,7 +64,12 @@ enum Role {
 
 /// The fate of a line of which nothing more is said.
 fn plain(alloc: Global, kind: FateKind) -> Fate {
-    Fate { kind, note: Vec::new(alloc), text: Vec::new(alloc), after: Vec::new(alloc) }
+    Fate {
+        kind,
+        note: Vec::new(alloc),
+        text: Vec::new(alloc),
+        after: Vec::new(alloc),
+    }
 }
 
 /// The fate of a line that is left out.
@@ -77,7 +88,10 @@ fn is_writable(word: &[u8]) -> bool {
         return false;
     }
     for byte in word {
-        let is_odd = matches!(*byte, b'"' | b'\'' | b'\\' | b'$' | b'#' | b' ' | b'\t' | b'\n' | b'\r');
+        let is_odd = matches!(
+            *byte,
+            b'"' | b'\'' | b'\\' | b'$' | b'#' | b' ' | b'\t' | b'\n' | b'\r'
+        );
         if is_odd || !byte.is_ascii() {
             return false;
         }
@@ -118,7 +132,12 @@ fn in_place(alloc: Global, line: &SourceLine, words: &[Vec<u8>]) -> Result<Vec<u
 }
 
 /// The fate of a line for which these words stand.
-fn written(alloc: Global, line: &SourceLine, words: &[Vec<u8>], altered: Option<Why>) -> Result<Fate, NoMemory> {
+fn written(
+    alloc: Global,
+    line: &SourceLine,
+    words: &[Vec<u8>],
+    altered: Option<Why>,
+) -> Result<Fate, NoMemory> {
     if !are_writable(words) {
         return left(alloc, FateKind::Lost, Why::OddCharacters);
     }
@@ -142,7 +161,11 @@ fn written(alloc: Global, line: &SourceLine, words: &[Vec<u8>], altered: Option<
 }
 
 /// The fate of a line that was converted, or was refused.
-fn of_converted(alloc: Global, line: &SourceLine, given: Result<Converted, Refusal>) -> Result<Fate, NoMemory> {
+fn of_converted(
+    alloc: Global,
+    line: &SourceLine,
+    given: Result<Converted, Refusal>,
+) -> Result<Fate, NoMemory> {
     match given {
         Ok(converted) => written(alloc, line, converted.words.as_slice(), converted.altered),
         Err(Refusal::OutOfMemory) => Err(NoMemory),
@@ -203,8 +226,13 @@ fn role_of(plan: &Plan, place: usize) -> Role {
         (true, false) => Role::Frontend,
         (false, true) => Role::Backend,
         (false, false) => {
-            let is_used = section.kind == Kind::Backend || is_mentioned(plan, section.name.as_slice());
-            if section.has_table && is_used { Role::Table } else { Role::None }
+            let is_used = section.kind == Kind::Backend
+                || is_mentioned(plan, section.name.as_slice());
+            if section.has_table && is_used {
+                Role::Table
+            } else {
+                Role::None
+            }
         }
     }
 }
@@ -217,12 +245,8 @@ fn added(alloc: Global, words: &[Vec<u8>]) -> Result<Vec<u8>, NoMemory> {
     Ok(text)
 }
 
-/// The names of the ACLs that HAProxy knows by itself.
-const BUILT_IN: [&str; 18] = [
-    "LOCALHOST", "WAIT_END", "HTTP", "HTTP_1.0", "HTTP_1.1", "HTTP_2.0", "HTTP_CONTENT", "HTTP_URL_ABS", "HTTP_URL_SLASH",
-    "HTTP_URL_STAR", "METH_CONNECT", "METH_DELETE", "METH_GET", "METH_HEAD", "METH_OPTIONS", "METH_POST", "METH_PUT",
-    "RDP_COOKIE",
-];
+/// The names of the ACLs that HAProxy knows by itself, and that can be declared.
+const BUILT_IN: [&str; 2] = ["LOCALHOST", "WAIT_END"];
 
 /// Whether a rule's condition has this name, negated or not.
 fn uses_name(words: &[Vec<u8>], name: &str) -> bool {
@@ -236,18 +260,51 @@ fn uses_name(words: &[Vec<u8>], name: &str) -> bool {
     false
 }
 
+/// The rule at a place as it is written. None where it isn't.
+fn written_rule(alloc: Global, plan: &Plan, place: usize) -> Result<Option<Converted>, NoMemory> {
+    let Some(line) = plan
+        .rules
+        .get(place)
+        .and_then(|rule| plan.lines.get(rule.line))
+    else {
+        return Ok(None);
+    };
+    let fate = rule_fate(alloc, plan, place, line)?;
+    if !stands(fate.kind) {
+        return Ok(None);
+    }
+    match convert_rule(alloc, plan, place) {
+        Ok(converted) => Ok(Some(converted)),
+        Err(Refusal::OutOfMemory) => Err(NoMemory),
+        Err(Refusal::Lost(_)) => Ok(None),
+    }
+}
+
+/// Whether a rule that is written uses an ACL of this name.
+fn is_used(alloc: Global, plan: &Plan, name: &str) -> Result<bool, NoMemory> {
+    for place in 0..plan.rules.len() {
+        if let Some(converted) = written_rule(alloc, plan, place)?
+            && uses_name(converted.words.as_slice(), name)
+        {
+            return Ok(true);
+        }
+    }
+    Ok(false)
+}
+
 /// Adds declarations of the ACLs that HAProxy knows by itself, where rules use them.
-fn add_built_ins(alloc: Global, plan: &Plan, lines: &mut Words) -> Result<(), NoMemory> {
+fn add_built_ins(
+    alloc: Global,
+    plan: &Plan,
+    frontend: usize,
+    lines: &mut Words,
+) -> Result<(), NoMemory> {
     for name in BUILT_IN {
         let Ok(Some(criterion)) = built_in(name.as_bytes()) else {
             continue;
         };
-        let mut is_used = false;
-        for rule in &plan.rules {
-            let is_own = declares(alloc, plan, rule.origin, name.as_bytes()).unwrap_or(true);
-            is_used = is_used || (!is_own && uses_name(plan.words(rule.line), name));
-        }
-        if is_used {
+        let is_own = declares(alloc, plan, frontend, name.as_bytes()).unwrap_or(true);
+        if !is_own && is_used(alloc, plan, name)? {
             let mut words = two_words(alloc, "acl", name.as_bytes())?;
             words.push(text_of(alloc, criterion)?)?;
             lines.push(added(alloc, words.as_slice())?)?;
@@ -288,8 +345,40 @@ fn has_rules_of(plan: &Plan, origin: usize) -> bool {
     false
 }
 
+/// The rule by which all connections are counted together.
+fn tracks_all(alloc: Global, plan: &Plan, slot: u8) -> Result<Vec<u8>, NoMemory> {
+    let mut line = text_of(alloc, "    tcp-request connection track-sc")?;
+    push_decimal(&mut line, u64::from(slot))?;
+    append_str(&mut line, " int(0) table ")?;
+    append(&mut line, plan.frontend_name())?;
+    append_str(&mut line, ".all")?;
+    Ok(line)
+}
+
+/// Adds the table in which all connections are counted together.
+fn add_table_of_all(alloc: Global, plan: &Plan, lines: &mut Words) -> Result<(), NoMemory> {
+    if plan.counts_all.is_none() {
+        return Ok(());
+    }
+    let mut heading = text_of(alloc, "backend ")?;
+    append(&mut heading, plan.frontend_name())?;
+    append_str(&mut heading, ".all")?;
+    lines.push(Vec::new(alloc))?;
+    lines.push(heading)?;
+    lines.push(text_of(
+        alloc,
+        "    stick-table type integer size 1 store conn_cur,sess_rate(1s)",
+    )?)?;
+    Ok(())
+}
+
 /// What is added behind the frontend's first line.
-fn add_heading(alloc: Global, plan: &Plan, frontend: usize, lines: &mut Words) -> Result<(), NoMemory> {
+fn add_heading(
+    alloc: Global,
+    plan: &Plan,
+    frontend: usize,
+    lines: &mut Words,
+) -> Result<(), NoMemory> {
     let Some(section) = plan.section(frontend) else {
         return Ok(());
     };
@@ -299,7 +388,10 @@ fn add_heading(alloc: Global, plan: &Plan, frontend: usize, lines: &mut Words) -
         let words = two_words(alloc, "default_backend", plan.new_name(backend))?;
         lines.push(added(alloc, words.as_slice())?)?;
     }
-    add_built_ins(alloc, plan, lines)?;
+    add_built_ins(alloc, plan, frontend, lines)?;
+    if let Some(slot) = plan.counts_all {
+        lines.push(tracks_all(alloc, plan, slot)?)?;
+    }
     for place in [section.defaults, plan.backend] {
         if let Some(origin) = place
             && origin != frontend
@@ -312,24 +404,38 @@ fn add_heading(alloc: Global, plan: &Plan, frontend: usize, lines: &mut Words) -
 }
 
 /// What becomes of the rule at a place.
-fn rule_fate(alloc: Global, plan: &Plan, place: usize, line: &SourceLine) -> Result<Fate, NoMemory> {
+fn rule_fate(
+    alloc: Global,
+    plan: &Plan,
+    place: usize,
+    line: &SourceLine,
+) -> Result<Fate, NoMemory> {
     let Some(rule) = plan.rules.get(place) else {
         return left(alloc, FateKind::Harmless, Why::NotServed);
     };
     if is_idle(word_at(plan.words(rule.line), 2)) {
         return left(alloc, FateKind::Harmless, Why::NothingToSay);
     }
-    let given = convert_rule(alloc, plan, rule);
+    let given = convert_rule(alloc, plan, place);
     if !accepts(plan, rule) {
         return of_converted(alloc, line, given);
+    }
+    if is_spread(alloc, plan, place)? {
+        return left(alloc, FateKind::Moved, Why::SpreadAccept);
     }
     match accept_role(plan, place) {
         AcceptRole::Ends => of_converted(alloc, line, given),
         AcceptRole::Passes => left(alloc, FateKind::Harmless, Why::DecidesNothing),
         AcceptRole::Splits => match given {
-            Ok(converted) => written(alloc, line, converted.words.as_slice(), Some(Why::AcceptBefore)),
+            Ok(converted) => written(
+                alloc,
+                line,
+                converted.words.as_slice(),
+                Some(Why::AcceptBefore),
+            ),
             Err(refusal) => of_converted(alloc, line, Err(refusal)),
         },
+        AcceptRole::Idle if rule.phase > 1 => left(alloc, FateKind::Harmless, Why::DecidesNothing),
         AcceptRole::Idle => match given {
             Ok(converted) => written(alloc, line, converted.words.as_slice(), converted.altered),
             Err(Refusal::OutOfMemory) => Err(NoMemory),
@@ -340,7 +446,10 @@ fn rule_fate(alloc: Global, plan: &Plan, place: usize, line: &SourceLine) -> Res
 
 /// Whether what stands for a line is a line of its own.
 fn stands(kind: FateKind) -> bool {
-    matches!(kind, FateKind::Kept | FateKind::Rewritten | FateKind::Altered)
+    matches!(
+        kind,
+        FateKind::Kept | FateKind::Rewritten | FateKind::Altered
+    )
 }
 
 /// Adds the rules that have to stand behind a line.
@@ -349,14 +458,7 @@ fn add_rules(alloc: Global, plan: &Plan, number: usize, lines: &mut Words) -> Re
         if rule.place != number || rule.line == number {
             continue;
         }
-        let Some(line) = plan.lines.get(rule.line) else {
-            continue;
-        };
-        let fate = rule_fate(alloc, plan, place, line)?;
-        if !stands(fate.kind) {
-            continue;
-        }
-        if let Ok(converted) = convert_rule(alloc, plan, rule) {
+        if let Some(converted) = written_rule(alloc, plan, place)? {
             lines.push(added(alloc, converted.words.as_slice())?)?;
         }
     }
@@ -378,7 +480,12 @@ fn of_rule(alloc: Global, plan: &Plan, number: usize, line: &SourceLine) -> Resu
     }
     if fate.kind == FateKind::Altered {
         // What stands elsewhere means less, so the loss is said here.
-        return Ok(Fate { kind: FateKind::Lost, note: fate.note, text: Vec::new(alloc), after: Vec::new(alloc) });
+        return Ok(Fate {
+            kind: FateKind::Lost,
+            note: fate.note,
+            text: Vec::new(alloc),
+            after: Vec::new(alloc),
+        });
     }
     left(alloc, FateKind::Moved, Why::MovedBelow)
 }
@@ -405,11 +512,28 @@ fn of_bind(alloc: Global, plan: &Plan, number: usize, line: &SourceLine) -> Resu
 }
 
 /// What becomes of a line that names a backend.
-fn of_backend_name(alloc: Global, plan: &Plan, number: usize, line: &SourceLine) -> Result<Fate, NoMemory> {
+fn of_backend_name(
+    alloc: Global,
+    plan: &Plan,
+    number: usize,
+    line: &SourceLine,
+) -> Result<Fate, NoMemory> {
     if plan.names_backend != Some(number) {
         let is_default = begins(line.words.as_slice(), "default_backend", "");
-        let kind = if is_default { FateKind::Harmless } else { FateKind::Lost };
-        return left(alloc, kind, if is_default { Why::Overruled } else { Why::ServerChoice });
+        let kind = if is_default {
+            FateKind::Harmless
+        } else {
+            FateKind::Lost
+        };
+        return left(
+            alloc,
+            kind,
+            if is_default {
+                Why::Overruled
+            } else {
+                Why::ServerChoice
+            },
+        );
     }
     let Some(backend) = plan.backend else {
         return left(alloc, FateKind::Lost, Why::ServerChoice);
@@ -419,7 +543,13 @@ fn of_backend_name(alloc: Global, plan: &Plan, number: usize, line: &SourceLine)
 }
 
 /// What becomes of a line of the frontend that only a frontend has. None where it is another line.
-fn of_frontend(alloc: Global, plan: &Plan, place: usize, number: usize, line: &SourceLine) -> Result<Option<Fate>, NoMemory> {
+fn of_frontend(
+    alloc: Global,
+    plan: &Plan,
+    place: usize,
+    number: usize,
+    line: &SourceLine,
+) -> Result<Option<Fate>, NoMemory> {
     let words = line.words.as_slice();
     let keyword = word_at(words, 0);
     if is_word(keyword, "bind") {
@@ -441,7 +571,12 @@ fn of_frontend(alloc: Global, plan: &Plan, place: usize, number: usize, line: &S
 }
 
 /// What becomes of a server.
-fn of_server(alloc: Global, plan: &Plan, number: usize, line: &SourceLine) -> Result<Fate, NoMemory> {
+fn of_server(
+    alloc: Global,
+    plan: &Plan,
+    number: usize,
+    line: &SourceLine,
+) -> Result<Fate, NoMemory> {
     let words = line.words.as_slice();
     if kept_server(plan) == Some(number) {
         return of_converted(alloc, line, convert_server(alloc, plan, words));
@@ -454,7 +589,12 @@ fn of_server(alloc: Global, plan: &Plan, number: usize, line: &SourceLine) -> Re
 }
 
 /// What becomes of a line of the backend that only a backend has. None where it is another line.
-fn of_backend(alloc: Global, plan: &Plan, number: usize, line: &SourceLine) -> Result<Option<Fate>, NoMemory> {
+fn of_backend(
+    alloc: Global,
+    plan: &Plan,
+    number: usize,
+    line: &SourceLine,
+) -> Result<Option<Fate>, NoMemory> {
     let words = line.words.as_slice();
     let keyword = word_at(words, 0);
     if is_word(keyword, "server") {
@@ -481,6 +621,9 @@ fn of_backend(alloc: Global, plan: &Plan, number: usize, line: &SourceLine) -> R
     if is_word(keyword, "use_backend") || is_word(keyword, "default_backend") {
         return Ok(Some(left(alloc, FateKind::Harmless, Why::Overruled)?));
     }
+    if is_word(keyword, "bind") {
+        return Ok(Some(left(alloc, FateKind::Harmless, Why::NotServed)?));
+    }
     Ok(None)
 }
 
@@ -499,7 +642,26 @@ fn of_any(alloc: Global, section: &Section, line: &SourceLine) -> Result<Fate, N
         return of_converted(alloc, line, convert_table(alloc, words));
     }
     if is_word(keyword, "timeout") {
-        return left(alloc, FateKind::Harmless, Why::NoTimeout);
+        let is_known = is_one_of(
+            word_at(words, 1),
+            &[
+                "connect",
+                "client",
+                "server",
+                "tunnel",
+                "client-fin",
+                "server-fin",
+            ],
+        );
+        return left(
+            alloc,
+            FateKind::Harmless,
+            if is_known {
+                Why::Overruled
+            } else {
+                Why::NoTimeout
+            },
+        );
     }
     if is_limit(keyword) {
         return left(alloc, FateKind::Harmless, Why::LargerLimit);
@@ -509,12 +671,30 @@ fn of_any(alloc: Global, section: &Section, line: &SourceLine) -> Result<Fate, N
     }
     let why = left_out(keyword, word_at(words, 1));
     let matters = why.matters || (section.is_http && matches!(why.why, Why::NeedsHttp));
-    let reason = if matters && matches!(why.why, Why::NeedsHttp) { Why::HttpMode } else { why.why };
-    left(alloc, if matters { FateKind::Lost } else { FateKind::Harmless }, reason)
+    let reason = if matters && matches!(why.why, Why::NeedsHttp) {
+        Why::HttpMode
+    } else {
+        why.why
+    };
+    left(
+        alloc,
+        if matters {
+            FateKind::Lost
+        } else {
+            FateKind::Harmless
+        },
+        reason,
+    )
 }
 
 /// What becomes of a line of a proxy.
-fn of_proxy_line(alloc: Global, plan: &Plan, place: usize, number: usize, line: &SourceLine) -> Result<Fate, NoMemory> {
+fn of_proxy_line(
+    alloc: Global,
+    plan: &Plan,
+    place: usize,
+    number: usize,
+    line: &SourceLine,
+) -> Result<Fate, NoMemory> {
     let Some(section) = plan.section(place) else {
         return left(alloc, FateKind::Harmless, Why::NotServed);
     };
@@ -543,7 +723,7 @@ fn of_proxy_line(alloc: Global, plan: &Plan, place: usize, number: usize, line: 
 
 /// The keyword of a section that stays.
 fn section_keyword(kind: Kind, role: Role) -> &'static str {
-    if role == Role::Table {
+    if role == Role::Table || role == Role::Backend {
         return "backend";
     }
     match kind {
@@ -554,24 +734,45 @@ fn section_keyword(kind: Kind, role: Role) -> &'static str {
 }
 
 /// What becomes of the first line of a proxy.
-fn of_heading(alloc: Global, plan: &Plan, place: usize, line: &SourceLine) -> Result<Fate, NoMemory> {
+fn of_heading(
+    alloc: Global,
+    plan: &Plan,
+    place: usize,
+    line: &SourceLine,
+) -> Result<Fate, NoMemory> {
     let Some(section) = plan.section(place) else {
         return left(alloc, FateKind::Harmless, Why::NotServed);
     };
     let role = role_of(plan, place);
     if role == Role::None {
         let is_other = section.has_frontend() && section.has_bind && !section.is_off;
-        let kind = if is_other { FateKind::Lost } else { FateKind::Harmless };
-        return left(alloc, kind, if is_other { Why::OtherFrontend } else { Why::NotServed });
+        let kind = if is_other {
+            FateKind::Lost
+        } else {
+            FateKind::Harmless
+        };
+        return left(
+            alloc,
+            kind,
+            if is_other {
+                Why::OtherFrontend
+            } else {
+                Why::NotServed
+            },
+        );
     }
-    let words = two_words(alloc, section_keyword(section.kind, role), plan.new_name(place))?;
+    let words = two_words(
+        alloc,
+        section_keyword(section.kind, role),
+        plan.new_name(place),
+    )?;
     let own_mode = plan.effective(place, "mode", "http");
     let inherits = match own_mode {
         Some(number) => number < section.first,
         None => false,
     };
     let serves = role == Role::Frontend || role == Role::Both;
-    let other = role == Role::Table && section.has_frontend() && section.has_bind && !section.is_off;
+    let other = !serves && section.has_frontend() && section.has_bind && !section.is_off;
     let altered = if other {
         Some(Why::OtherFrontend)
     } else if serves && section.is_http && inherits {
@@ -587,7 +788,13 @@ fn of_heading(alloc: Global, plan: &Plan, place: usize, line: &SourceLine) -> Re
 }
 
 /// What becomes of a line of `defaults`.
-fn of_defaults_line(alloc: Global, plan: &Plan, place: usize, number: usize, line: &SourceLine) -> Result<Fate, NoMemory> {
+fn of_defaults_line(
+    alloc: Global,
+    plan: &Plan,
+    place: usize,
+    number: usize,
+    line: &SourceLine,
+) -> Result<Fate, NoMemory> {
     let words = line.words.as_slice();
     if rule_place(plan, number).is_some() {
         return of_rule(alloc, plan, number, line);
@@ -623,7 +830,13 @@ fn option_note(alloc: Global, option: &CommandOption) -> Result<Vec<u8>, NoMemor
 }
 
 /// What becomes of a line, before options are asked.
-fn of_line(alloc: Global, plan: &Plan, place: Option<usize>, number: usize, line: &SourceLine) -> Result<Fate, NoMemory> {
+fn of_line(
+    alloc: Global,
+    plan: &Plan,
+    place: Option<usize>,
+    number: usize,
+    line: &SourceLine,
+) -> Result<Fate, NoMemory> {
     if !line.is_whole {
         return left(alloc, FateKind::Lost, Why::UnreadableLine);
     }
@@ -632,9 +845,23 @@ fn of_line(alloc: Global, plan: &Plan, place: Option<usize>, number: usize, line
         return Ok(plain(alloc, FateKind::Kept));
     }
     if word_at(words, 0).first() == Some(&b'.') {
-        let is_block = !begins(words, ".notice", "") && !begins(words, ".warning", "") && !begins(words, ".diag", "");
-        let kind = if is_block { FateKind::Lost } else { FateKind::Harmless };
-        return left(alloc, kind, if is_block { Why::Conditional } else { Why::NothingToSay });
+        let is_block = !begins(words, ".notice", "")
+            && !begins(words, ".warning", "")
+            && !begins(words, ".diag", "");
+        let kind = if is_block {
+            FateKind::Lost
+        } else {
+            FateKind::Harmless
+        };
+        return left(
+            alloc,
+            kind,
+            if is_block {
+                Why::Conditional
+            } else {
+                Why::NothingToSay
+            },
+        );
     }
     let Some(place) = place else {
         return left(alloc, FateKind::Lost, Why::UnknownKeyword);
@@ -681,14 +908,21 @@ fn fate_of(
 }
 
 /// What becomes of each line of a file, in order.
-pub fn fates_of(alloc: Global, plan: &Plan, options: &[CommandOption]) -> Result<Vec<Fate>, NoMemory> {
-    let mut fates = Vec::new(alloc);
+pub fn fates_of(
+    alloc: Global,
+    plan: &Plan,
+    options: &[CommandOption],
+) -> Result<Vec<Fate>, NoMemory> {
+    let mut fates: Vec<Fate> = Vec::new(alloc);
     let mut place = None;
     for (number, line) in plan.lines.iter().enumerate() {
         if let Some(next) = section_at(plan, number) {
             place = Some(next);
         }
         fates.push(fate_of(alloc, plan, options, place, number, line)?)?;
+    }
+    if let Some(last) = fates.last_mut() {
+        add_table_of_all(alloc, plan, &mut last.after)?;
     }
     Ok(fates)
 }

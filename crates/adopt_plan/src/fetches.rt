@@ -38,8 +38,20 @@ pub(crate) struct Call {
 
 /// What can be read of a slot's entry and of a source's.
 const READ: [&str; 14] = [
-    "conn_cnt", "conn_cur", "conn_rate", "sess_cnt", "sess_rate", "bytes_in_rate", "bytes_out_rate", "gpc0_rate", "gpc1_rate",
-    "get_gpc0", "get_gpc1", "get_gpt0", "kbytes_in", "kbytes_out",
+    "conn_cnt",
+    "conn_cur",
+    "conn_rate",
+    "sess_cnt",
+    "sess_rate",
+    "bytes_in_rate",
+    "bytes_out_rate",
+    "gpc0_rate",
+    "gpc1_rate",
+    "get_gpc0",
+    "get_gpc1",
+    "get_gpt0",
+    "kbytes_in",
+    "kbytes_out",
 ];
 
 /// What can be asked of a slot's entry alone.
@@ -47,12 +59,20 @@ const SLOT_ONLY: [&str; 5] = ["inc_gpc0", "inc_gpc1", "clr_gpc0", "clr_gpc1", "t
 
 /// What only HTTP counts.
 const HTTP_ONLY: [&str; 8] = [
-    "http_req_cnt", "http_req_rate", "http_err_cnt", "http_err_rate", "http_fail_cnt", "http_fail_rate", "glitch_cnt",
+    "http_req_cnt",
+    "http_req_rate",
+    "http_err_cnt",
+    "http_err_rate",
+    "http_fail_cnt",
+    "http_fail_rate",
+    "glitch_cnt",
     "glitch_rate",
 ];
 
 /// What is asked of an element of an array.
-const ELEMENTS: [&str; 6] = ["get_gpc", "inc_gpc", "clr_gpc", "gpc_rate", "get_gpt", "inc_gpt"];
+const ELEMENTS: [&str; 6] = [
+    "get_gpc", "inc_gpc", "clr_gpc", "gpc_rate", "get_gpt", "inc_gpt",
+];
 
 /// The parts of a word such as `name(a,b),rest`.
 pub(crate) fn read_call(alloc: Global, word: &[u8]) -> Result<Call, NoMemory> {
@@ -79,7 +99,11 @@ pub(crate) fn read_call(alloc: Global, word: &[u8]) -> Result<Call, NoMemory> {
     } else {
         split_at_byte(alloc, inside.as_slice(), b',')?
     };
-    Ok(Call { name, arguments, rest })
+    Ok(Call {
+        name,
+        arguments,
+        rest,
+    })
 }
 
 fn slot_text(alloc: Global, slot: u8, name: &[u8]) -> Result<Vec<u8>, NoMemory> {
@@ -173,7 +197,11 @@ fn legacy_name(name: &[u8], index: &[u8]) -> Option<&'static str> {
         1 => names.1,
         _ => "",
     };
-    if chosen.is_empty() { None } else { Some(chosen) }
+    if chosen.is_empty() {
+        None
+    } else {
+        Some(chosen)
+    }
 }
 
 /// What is asked of a slot's entry.
@@ -187,7 +215,12 @@ struct Asked<'a> {
 }
 
 /// The word for what is asked of an element.
-fn element_word(alloc: Global, asked: &Asked<'_>, index: &[u8], keeps_rates: bool) -> Result<Vec<u8>, Refusal> {
+fn element_word(
+    alloc: Global,
+    asked: &Asked<'_>,
+    index: &[u8],
+    keeps_rates: bool,
+) -> Result<Vec<u8>, Refusal> {
     let counts = is_word(asked.name, "inc_gpc");
     let is_known = is_one_of(asked.name, &["get_gpc", "get_gpt", "inc_gpc"]);
     if is_known && !(counts && keeps_rates && legacy_name(asked.name, index).is_some()) {
@@ -204,17 +237,33 @@ fn tracked_subject(alloc: Global, plan: &Plan, asked: &Asked<'_>) -> Result<Subj
     let slot = Some(asked.slot);
     if let Some(index) = asked.index {
         let word = element_word(alloc, asked, index, plan.stores_rates)?;
-        return Ok(Subject { word, form: Form::Integer, slot });
+        return Ok(Subject {
+            word,
+            form: Form::Integer,
+            slot,
+        });
     }
     let word = slot_text(alloc, asked.slot, asked.name)?;
     if is_word(asked.name, "tracked") {
-        return Ok(Subject { word, form: Form::Truth, slot });
+        return Ok(Subject {
+            word,
+            form: Form::Truth,
+            slot,
+        });
     }
     if is_one_of(asked.name, &READ) || is_one_of(asked.name, &SLOT_ONLY) {
-        return Ok(Subject { word, form: Form::Integer, slot });
+        return Ok(Subject {
+            word,
+            form: Form::Integer,
+            slot,
+        });
     }
     if is_one_of(asked.name, &HTTP_ONLY) {
-        return Ok(Subject { word, form: Form::Zero(asked.slot), slot });
+        return Ok(Subject {
+            word,
+            form: Form::Zero(asked.slot),
+            slot,
+        });
     }
     Err(Refusal::Lost(Why::UnknownFetch))
 }
@@ -260,7 +309,9 @@ fn slot_subject(alloc: Global, plan: &Plan, asked: &Asked<'_>) -> Result<Subject
 /// A slot that tracks each connection by its source in this table.
 fn slot_by_source(plan: &Plan, table: usize) -> Option<u8> {
     for slot in 0..3u8 {
-        if tracks_in(plan.tracks.as_slice(), slot, table) && tracks_source(plan.tracks.as_slice(), slot) {
+        if tracks_in(plan.tracks.as_slice(), slot, table)
+            && tracks_source(plan.tracks.as_slice(), slot)
+        {
             return Some(slot);
         }
     }
@@ -268,7 +319,12 @@ fn slot_by_source(plan: &Plan, table: usize) -> Option<u8> {
 }
 
 /// What is asked of a source's entry: `name` behind `src_`.
-fn source_subject(alloc: Global, plan: &Plan, origin: usize, asked: &Asked<'_>) -> Result<Subject, Refusal> {
+fn source_subject(
+    alloc: Global,
+    plan: &Plan,
+    origin: usize,
+    asked: &Asked<'_>,
+) -> Result<Subject, Refusal> {
     let section = match asked.table {
         Some(table) => plan.table_section(table),
         None => Some(origin),
@@ -284,13 +340,26 @@ fn source_subject(alloc: Global, plan: &Plan, origin: usize, asked: &Asked<'_>) 
         });
     }
     match slot_by_source(plan, section) {
-        Some(slot) => tracked_subject(alloc, plan, &Asked { slot, name: asked.name, index: asked.index, table: None }),
+        Some(slot) => tracked_subject(
+            alloc,
+            plan,
+            &Asked {
+                slot,
+                name: asked.name,
+                index: asked.index,
+                table: None,
+            },
+        ),
         None => Err(Refusal::Lost(Why::UntrackedCount)),
     }
 }
 
 /// What is asked, read from its call.
-fn asked_of<'a>(slot: Option<u8>, name: &'a [u8], arguments: &'a [Vec<u8>]) -> Result<Asked<'a>, Refusal> {
+fn asked_of<'a>(
+    slot: Option<u8>,
+    name: &'a [u8],
+    arguments: &'a [Vec<u8>],
+) -> Result<Asked<'a>, Refusal> {
     let is_element = is_one_of(name, &ELEMENTS);
     let mut place = 0usize;
     let mut index = None;
@@ -306,7 +375,12 @@ fn asked_of<'a>(slot: Option<u8>, name: &'a [u8], arguments: &'a [Vec<u8>]) -> R
         }
     };
     let table = arguments.get(place).map(|table| table.as_slice());
-    Ok(Asked { slot, name, index, table })
+    Ok(Asked {
+        slot,
+        name,
+        index,
+        table,
+    })
 }
 
 /// What stands behind `sc0_`, `sc1_` or `sc2_`, with the number.
@@ -346,7 +420,10 @@ pub(crate) fn truth_text(alloc: Global, truth: bool) -> Result<Vec<u8>, NoMemory
 
 /// Why what is asked can't be: it is of the payload, or is something else.
 fn unknown(name: &[u8]) -> Refusal {
-    for front in ["req", "res", "payload", "ssl_", "rep_", "hdr", "path", "url", "method", "base", "cook", "http_"] {
+    for front in [
+        "req", "res", "payload", "ssl_", "rep_", "hdr", "path", "url", "method", "base", "cook",
+        "http_",
+    ] {
         if name.starts_with(front.as_bytes()) {
             return Refusal::Lost(Why::Payload);
         }
@@ -354,8 +431,34 @@ fn unknown(name: &[u8]) -> Refusal {
     Refusal::Lost(Why::UnknownFetch)
 }
 
+/// How many connections the frontend has, or has had lately: what a slot counts that tracks all of them together.
+fn frontend_subject(alloc: Global, plan: &Plan, call: &Call) -> Result<Subject, Refusal> {
+    let Some(slot) = plan.counts_all else {
+        return Err(Refusal::Lost(Why::MoreSlots));
+    };
+    let name = word_at(call.arguments.as_slice(), 0);
+    if !name.is_empty() && name != plan.frontend_name() {
+        return Err(Refusal::Lost(Why::UnknownFetch));
+    }
+    let datum = if is_word(call.name.as_slice(), "fe_conn") {
+        "conn_cur"
+    } else {
+        "sess_rate"
+    };
+    Ok(Subject {
+        word: slot_text(alloc, slot, datum.as_bytes())?,
+        form: Form::Integer,
+        slot: None,
+    })
+}
+
 /// What the first word of a criterion asks, in a section.
-pub(crate) fn read_subject(alloc: Global, plan: &Plan, origin: usize, word: &[u8]) -> Result<Subject, Refusal> {
+pub(crate) fn read_subject(
+    alloc: Global,
+    plan: &Plan,
+    origin: usize,
+    word: &[u8],
+) -> Result<Subject, Refusal> {
     let call = read_call(alloc, word)?;
     let name = call.name.as_slice();
     if !call.rest.is_empty() {
@@ -365,20 +468,48 @@ pub(crate) fn read_subject(alloc: Global, plan: &Plan, origin: usize, word: &[u8
         });
     }
     if let Some(truth) = constant(&call) {
-        return Ok(Subject { word: truth_text(alloc, truth)?, form: Form::Truth, slot: None });
+        return Ok(Subject {
+            word: truth_text(alloc, truth)?,
+            form: Form::Truth,
+            slot: None,
+        });
     }
     if is_word(name, "src") {
-        return Ok(Subject { word: copy_text(alloc, name)?, form: Form::Address, slot: None });
+        return Ok(Subject {
+            word: copy_text(alloc, name)?,
+            form: Form::Address,
+            slot: None,
+        });
     }
     if is_word(name, "src_port") || is_word(name, "dst_port") {
-        return Ok(Subject { word: copy_text(alloc, name)?, form: Form::Integer, slot: None });
+        return Ok(Subject {
+            word: copy_text(alloc, name)?,
+            form: Form::Integer,
+            slot: None,
+        });
+    }
+    if is_word(name, "fe_conn") || is_word(name, "fe_sess_rate") {
+        return frontend_subject(alloc, plan, &call);
     }
     let mut subject = if let Some((slot, rest)) = numbered(name) {
-        slot_subject(alloc, plan, &asked_of(Some(slot), rest, call.arguments.as_slice())?)?
+        slot_subject(
+            alloc,
+            plan,
+            &asked_of(Some(slot), rest, call.arguments.as_slice())?,
+        )?
     } else if let Some(rest) = name.strip_prefix(b"sc_".as_slice()) {
-        slot_subject(alloc, plan, &asked_of(None, rest, call.arguments.as_slice())?)?
+        slot_subject(
+            alloc,
+            plan,
+            &asked_of(None, rest, call.arguments.as_slice())?,
+        )?
     } else if let Some(rest) = name.strip_prefix(b"src_".as_slice()) {
-        source_subject(alloc, plan, origin, &asked_of(Some(0), rest, call.arguments.as_slice())?)?
+        source_subject(
+            alloc,
+            plan,
+            origin,
+            &asked_of(Some(0), rest, call.arguments.as_slice())?,
+        )?
     } else {
         return Err(unknown(name));
     };

@@ -120,10 +120,16 @@ pub(crate) fn is_one_of(word: &[u8], texts: &[&str]) -> bool {
 /// What becomes of a proxy's line that is left out, by its first two words.
 pub(crate) fn left_out(keyword: &[u8], second: &[u8]) -> Left {
     if is_word(keyword, "option") && is_one_of(second, &LOST_OPTIONS) {
-        return Left { why: Why::Transparent, matters: true };
+        return Left {
+            why: Why::Transparent,
+            matters: true,
+        };
     }
     if let Some(why) = why_of(keyword, &HARMLESS) {
-        return Left { why, matters: false };
+        return Left {
+            why,
+            matters: false,
+        };
     }
     let why = why_of(keyword, &MATTERS).unwrap_or(Why::UnknownKeyword);
     Left { why, matters: true }
@@ -131,25 +137,94 @@ pub(crate) fn left_out(keyword: &[u8], second: &[u8]) -> Left {
 
 /// Options of a server that change nothing where it is the only one.
 pub(crate) const SERVER_FLAGS: [&str; 19] = [
-    "check", "backup", "check-ssl", "check-send-proxy", "check-via-socks4", "agent-check", "no-check", "no-backup",
-    "no-agent-check", "non-stick", "tfo", "enabled", "no-check-ssl", "no-send-proxy", "no-send-proxy-v2", "no-ssl",
-    "no-verifyhost", "stick", "no-tfo",
+    "check",
+    "backup",
+    "check-ssl",
+    "check-send-proxy",
+    "check-via-socks4",
+    "agent-check",
+    "no-check",
+    "no-backup",
+    "no-agent-check",
+    "non-stick",
+    "tfo",
+    "enabled",
+    "no-check-ssl",
+    "no-send-proxy",
+    "no-send-proxy-v2",
+    "no-ssl",
+    "no-verifyhost",
+    "stick",
+    "no-tfo",
 ];
 
 /// Options of a server that are followed by a value, and change nothing where it is the only one.
 pub(crate) const SERVER_VALUES: [&str; 40] = [
-    "inter", "rise", "fall", "fastinter", "downinter", "port", "addr", "weight", "cookie", "id", "track", "observe",
-    "on-error", "on-marked-down", "on-marked-up", "error-limit", "slowstart", "init-addr", "resolvers", "resolve-prefer",
-    "resolve-net", "resolve-opts", "agent-addr", "agent-inter", "agent-port", "agent-send", "minconn", "maxqueue",
-    "check-proto", "check-alpn", "check-sni", "pool-low-conn", "pool-max-conn", "pool-purge-delay", "max-reuse", "proto",
-    "tcp-ut", "log-proto", "guid", "hash-key",
+    "inter",
+    "rise",
+    "fall",
+    "fastinter",
+    "downinter",
+    "port",
+    "addr",
+    "weight",
+    "cookie",
+    "id",
+    "track",
+    "observe",
+    "on-error",
+    "on-marked-down",
+    "on-marked-up",
+    "error-limit",
+    "slowstart",
+    "init-addr",
+    "resolvers",
+    "resolve-prefer",
+    "resolve-net",
+    "resolve-opts",
+    "agent-addr",
+    "agent-inter",
+    "agent-port",
+    "agent-send",
+    "minconn",
+    "maxqueue",
+    "check-proto",
+    "check-alpn",
+    "check-sni",
+    "pool-low-conn",
+    "pool-max-conn",
+    "pool-purge-delay",
+    "max-reuse",
+    "proto",
+    "tcp-ut",
+    "log-proto",
+    "guid",
+    "hash-key",
 ];
 
 /// Options of a listener that change nothing that is served.
-pub(crate) const BIND_FLAGS: [&str; 6] = ["v4v6", "defer-accept", "tfo", "nostrict", "strict", "no-ca-names"];
+pub(crate) const BIND_FLAGS: [&str; 6] = [
+    "v4v6",
+    "defer-accept",
+    "tfo",
+    "nostrict",
+    "strict",
+    "no-ca-names",
+];
 
 /// Options of a listener that are followed by a value, and change nothing that is served.
 pub(crate) const BIND_VALUES: [&str; 13] = [
-    "name", "id", "nice", "mss", "tcp-ut", "process", "thread", "shards", "proto", "severity-output", "guid-prefix", "tcp-md5sig",
+    "name",
+    "id",
+    "nice",
+    "mss",
+    "tcp-ut",
+    "process",
+    "thread",
+    "shards",
+    "proto",
+    "severity-output",
+    "guid-prefix",
+    "tcp-md5sig",
     "label",
 ];

@@ -11,6 +11,7 @@ mod conditions;
 mod criteria;
 mod fates;
 mod fetches;
+mod guards;
 mod keywords;
 mod listeners;
 mod options;

@@ -33,7 +33,20 @@ fn loss_of(word: &[u8]) -> Why {
     if is_word(word, "accept-proxy") || is_word(word, "accept-netscaler-cip") {
         return Why::ProxyProtocol;
     }
-    if is_one_of(word, &["ssl", "crt", "crt-list", "ca-file", "verify", "alpn", "ciphers", "no-sslv3", "no-tlsv10"]) {
+    if is_one_of(
+        word,
+        &[
+            "ssl",
+            "crt",
+            "crt-list",
+            "ca-file",
+            "verify",
+            "alpn",
+            "ciphers",
+            "no-sslv3",
+            "no-tlsv10",
+        ],
+    ) {
         return Why::Tls;
     }
     Why::BindWords
@@ -49,7 +62,9 @@ pub(crate) fn bind_loss(words: &[Vec<u8>]) -> Option<Why> {
             skips = false;
             continue;
         }
-        skips = is_one_of(word, &BIND_VALUES) || is_word(word, "maxconn") || is_word(word, "backlog");
+        skips = is_one_of(word, &BIND_VALUES)
+            || is_word(word, "maxconn")
+            || is_word(word, "backlog");
         if !skips && !is_one_of(word, &BIND_FLAGS) && loss.is_none() {
             loss = Some(loss_of(word));
         }
@@ -77,5 +92,8 @@ pub(crate) fn convert_bind(alloc: Global, words: &[Vec<u8>]) -> Result<Converted
     let mut written: Words = Vec::new(alloc);
     written.push(text_of(alloc, "bind")?)?;
     written.push(copy_text(alloc, first)?)?;
-    Ok(Converted { words: written, altered: bind_loss(words) })
+    Ok(Converted {
+        words: written,
+        altered: bind_loss(words),
+    })
 }

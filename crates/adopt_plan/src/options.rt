@@ -15,16 +15,27 @@ use std::alloc::Global;
 
 // The options of `stickd run`, as they are spelled.
 const CONNECTIONS: &str = "--connections";
+
 const THREADS: &str = "--threads";
+
 const TIMEOUT_CONNECT: &str = "--timeout-connect";
+
 const TIMEOUT_CLIENT: &str = "--timeout-client";
+
 const TIMEOUT_SERVER: &str = "--timeout-server";
+
 const TIMEOUT_FIN: &str = "--timeout-fin";
+
 const STATS_SOCKET: &str = "--stats-socket";
+
 const BIND: &str = "--bind";
+
 const KEEPALIVE: &str = "--keepalive";
+
 const RETRIES: &str = "--retries";
+
 const BACKLOG: &str = "--backlog";
+
 const IPV6_PREFIX: &str = "--ipv6-prefix";
 
 /// The most threads of the program.
@@ -61,7 +72,13 @@ impl Found {
     }
 
     /// Adds a time, unless it has no end.
-    fn add_time(&mut self, alloc: Global, plan: &Plan, flag: &'static str, line: Option<usize>) -> Result<(), NoMemory> {
+    fn add_time(
+        &mut self,
+        alloc: Global,
+        plan: &Plan,
+        flag: &'static str,
+        line: Option<usize>,
+    ) -> Result<(), NoMemory> {
         let Some(line) = line else {
             return Ok(());
         };
@@ -73,7 +90,13 @@ impl Found {
     }
 
     /// Adds a number that stands at a place of a line.
-    fn add_number(&mut self, flag: &'static str, word: &[u8], line: usize, alloc: Global) -> Result<(), NoMemory> {
+    fn add_number(
+        &mut self,
+        flag: &'static str,
+        word: &[u8],
+        line: usize,
+        alloc: Global,
+    ) -> Result<(), NoMemory> {
         match read_number(word) {
             Some(number) if number > 0 && !self.has(flag) => {
                 let mut value = Vec::new(alloc);
@@ -86,17 +109,47 @@ impl Found {
 }
 
 /// The timeouts of the frontend and the backend.
-fn add_times(alloc: Global, plan: &Plan, found: &mut Found, frontend: usize) -> Result<(), NoMemory> {
+fn add_times(
+    alloc: Global,
+    plan: &Plan,
+    found: &mut Found,
+    frontend: usize,
+) -> Result<(), NoMemory> {
     let backend = plan.backend.unwrap_or(frontend);
-    found.add_time(alloc, plan, TIMEOUT_CONNECT, plan.effective(backend, "timeout", "connect"))?;
+    found.add_time(
+        alloc,
+        plan,
+        TIMEOUT_CONNECT,
+        plan.effective(backend, "timeout", "connect"),
+    )?;
     // In mode tcp a tunnel begins at once, and its timeout takes the place of both.
     let tunnel = plan.effective(backend, "timeout", "tunnel");
     found.add_time(alloc, plan, TIMEOUT_CLIENT, tunnel)?;
     found.add_time(alloc, plan, TIMEOUT_SERVER, tunnel)?;
-    found.add_time(alloc, plan, TIMEOUT_CLIENT, plan.effective(frontend, "timeout", "client"))?;
-    found.add_time(alloc, plan, TIMEOUT_SERVER, plan.effective(backend, "timeout", "server"))?;
-    found.add_time(alloc, plan, TIMEOUT_FIN, plan.effective(frontend, "timeout", "client-fin"))?;
-    found.add_time(alloc, plan, TIMEOUT_FIN, plan.effective(backend, "timeout", "server-fin"))
+    found.add_time(
+        alloc,
+        plan,
+        TIMEOUT_CLIENT,
+        plan.effective(frontend, "timeout", "client"),
+    )?;
+    found.add_time(
+        alloc,
+        plan,
+        TIMEOUT_SERVER,
+        plan.effective(backend, "timeout", "server"),
+    )?;
+    found.add_time(
+        alloc,
+        plan,
+        TIMEOUT_FIN,
+        plan.effective(frontend, "timeout", "client-fin"),
+    )?;
+    found.add_time(
+        alloc,
+        plan,
+        TIMEOUT_FIN,
+        plan.effective(backend, "timeout", "server-fin"),
+    )
 }
 
 /// A limit of connections, and its line.
@@ -163,8 +216,15 @@ fn add_global(alloc: Global, plan: &Plan, found: &mut Found) -> Result<(), NoMem
 }
 
 /// What a line of `global` says.
-fn add_global_line(alloc: Global, words: &[Vec<u8>], line: usize, found: &mut Found) -> Result<(), NoMemory> {
-    if begins(words, "nbthread", "") && read_number(word_at(words, 1)).is_some_and(|threads| threads <= MOST_THREADS) {
+fn add_global_line(
+    alloc: Global,
+    words: &[Vec<u8>],
+    line: usize,
+    found: &mut Found,
+) -> Result<(), NoMemory> {
+    if begins(words, "nbthread", "")
+        && read_number(word_at(words, 1)).is_some_and(|threads| threads <= MOST_THREADS)
+    {
         return found.add_number(THREADS, word_at(words, 1), line, alloc);
     }
     let path = word_at(words, 2);
@@ -178,7 +238,12 @@ fn add_global_line(alloc: Global, words: &[Vec<u8>], line: usize, found: &mut Fo
 /// The line that asks for keepalive of connections, if any.
 fn keepalive_line(plan: &Plan, frontend: usize) -> Option<usize> {
     let backend = plan.backend.unwrap_or(frontend);
-    for (place, name) in [(frontend, "tcpka"), (frontend, "clitcpka"), (backend, "tcpka"), (backend, "srvtcpka")] {
+    for (place, name) in [
+        (frontend, "tcpka"),
+        (frontend, "clitcpka"),
+        (backend, "tcpka"),
+        (backend, "srvtcpka"),
+    ] {
         if let Some(line) = plan.effective(place, "option", name) {
             return Some(line);
         }
@@ -187,7 +252,12 @@ fn keepalive_line(plan: &Plan, frontend: usize) -> Option<usize> {
 }
 
 /// Keepalive, retries and the backlog.
-fn add_sockets(alloc: Global, plan: &Plan, found: &mut Found, frontend: usize) -> Result<(), NoMemory> {
+fn add_sockets(
+    alloc: Global,
+    plan: &Plan,
+    found: &mut Found,
+    frontend: usize,
+) -> Result<(), NoMemory> {
     let backend = plan.backend.unwrap_or(frontend);
     if let Some(line) = keepalive_line(plan, frontend) {
         found.add(KEEPALIVE, Vec::new(alloc), line)?;
@@ -202,7 +272,12 @@ fn add_sockets(alloc: Global, plan: &Plan, found: &mut Found, frontend: usize) -
 }
 
 /// Where else the frontend listens.
-fn add_binds(alloc: Global, plan: &Plan, found: &mut Found, frontend: usize) -> Result<(), NoMemory> {
+fn add_binds(
+    alloc: Global,
+    plan: &Plan,
+    found: &mut Found,
+    frontend: usize,
+) -> Result<(), NoMemory> {
     let Some(section) = plan.section(frontend) else {
         return Ok(());
     };
@@ -247,7 +322,9 @@ fn add_prefix(alloc: Global, plan: &Plan, found: &mut Found) -> Result<(), NoMem
 
 /// The options that stand for lines of a file.
 pub fn command_options(alloc: Global, plan: &Plan) -> Result<Vec<CommandOption>, NoMemory> {
-    let mut found = Found { options: Vec::new(alloc) };
+    let mut found = Found {
+        options: Vec::new(alloc),
+    };
     add_global(alloc, plan, &mut found)?;
     let Some(frontend) = plan.frontend else {
         return Ok(found.options);

@@ -61,11 +61,21 @@ pub struct Plan {
     pub tracks: Vec<Track>,
     /// Whether a table stores `gpc_rate`.
     pub stores_rates: bool,
+    /// The slot by which all connections of the frontend are counted together, where a rule asks how many there are.
+    pub counts_all: Option<u8>,
     pub first_server: bool,
     pub files: Vec<PatternFile>,
 }
 
 impl Plan {
+    /// The name of the frontend that is served.
+    pub fn frontend_name(&self) -> &[u8] {
+        match self.frontend {
+            Some(place) => self.new_name(place),
+            None => b"",
+        }
+    }
+
     /// The words of a line.
     pub fn words(&self, line: usize) -> &[Vec<u8>] {
         match self.lines.get(line) {
@@ -122,7 +132,10 @@ impl Plan {
         let section = self.sections.get(place)?;
         let mut last = None;
         for (number, line) in self.lines.iter().enumerate() {
-            if number > section.first && number < section.end && begins(line.words.as_slice(), keyword, second) {
+            if number > section.first
+                && number < section.end
+                && begins(line.words.as_slice(), keyword, second)
+            {
                 last = Some(number);
             }
         }

@@ -61,6 +61,7 @@ pub enum Why {
     AcceptBefore,
     NotRead,
     MovedBelow,
+    SpreadAccept,
     HttpColumns,
     OtherMask,
 }
@@ -88,7 +89,8 @@ impl Why {
             Why::InspectDelay => "rules don't wait for bytes",
             Why::NoOption => "stickd does without it",
             Why::HttpMode => "HTTP isn't read: its bytes are relayed as they are",
-            Why::OtherFrontend => "one frontend is served, and it is another: --frontend NAME chooses",
+            Why::OtherFrontend =>
+                "one frontend is served, and it is another: --frontend NAME chooses",
             Why::OtherServer => "there are several servers: --first-server keeps the first",
             Why::UnknownKeyword => "stickd has nothing like it",
             Why::UnreadableLine => "a quote isn't closed",
@@ -123,6 +125,7 @@ impl Why {
             Why::PartOfCondition => "a part of its condition is lost",
             Why::AcceptBefore => "an accept of an earlier kind would end these rules too",
             Why::NotRead => "stickd doesn't read it",
+            Why::SpreadAccept => "its condition stands, negated, with the rules that it keeps off",
             Why::MovedBelow => "it stands where HAProxy runs it",
             Why::HttpColumns => "what HTTP or peers count isn't stored",
             Why::OtherMask => "addresses are counted one by one, and not by this mask",

@@ -1,9 +1,10 @@
 //! Rules in stickd's spelling, and the order in which they run.
 
 use crate::actions::{add_words, condition_place, convert_action, is_idle, tracked_slot};
-use crate::conditions::{Condition, add_condition, convert_condition};
+use crate::conditions::{Condition, Term, add_condition, convert_condition};
 use crate::criteria::behind_two;
 use crate::fetches::slot_of;
+use crate::guards::{guarded, guards_of};
 use crate::plan::{Plan, RuleAt, Track, begins};
 use crate::reasons::{Refusal, Why};
 use crate::sections::{Kind, Section};
@@ -56,19 +57,18 @@ fn usable(condition: Condition, unless: bool) -> Result<Condition, Refusal> {
     Ok(condition)
 }
 
-/// A rule in stickd's spelling.
-pub(crate) fn convert_rule(alloc: Global, plan: &Plan, rule: &RuleAt) -> Result<Converted, Refusal> {
-    let given = behind_two(plan.words(rule.line));
-    let action = convert_action(alloc, plan, rule, given)?;
-    let mut words = start_rule(alloc, action.words.as_slice())?;
-    let place = condition_place(given);
-    if place != action.used && place != given.len() {
-        return Err(Refusal::Lost(Why::UnknownAction));
+/// A rule's condition: the words behind `if` or `unless`, or nothing.
+fn condition_of(
+    alloc: Global,
+    plan: &Plan,
+    rule: &RuleAt,
+    given: &[Vec<u8>],
+    used: usize,
+) -> Result<Option<(bool, Condition)>, Refusal> {
+    if given.len() <= used {
+        return Ok(None);
     }
-    if given.len() <= action.used {
-        return Ok(Converted { words, altered: action.altered });
-    }
-    let Some((keyword, rest)) = rest_of(given, action.used) else {
+    let Some((keyword, rest)) = rest_of(given, used) else {
         return Err(Refusal::Lost(Why::UnknownAction));
     };
     let unless = is_word(keyword, "unless");
@@ -76,6 +76,47 @@ pub(crate) fn convert_rule(alloc: Global, plan: &Plan, rule: &RuleAt) -> Result<
         return Err(Refusal::Lost(Why::UnknownAction));
     }
     let condition = usable(convert_condition(alloc, plan, rule, rest)?, unless)?;
+    Ok(Some((unless, condition)))
+}
+
+/// A condition with the terms that it needs besides.
+fn with_guards(
+    alloc: Global,
+    guards: Vec<Term>,
+    given: Option<(bool, Condition)>,
+) -> Result<Option<(bool, Condition)>, Refusal> {
+    if guards.is_empty() {
+        return Ok(given);
+    }
+    let Some((unless, condition)) = given else {
+        let mut alternatives = Vec::new(alloc);
+        alternatives.push(guards)?;
+        return Ok(Some((
+            false,
+            Condition {
+                alternatives,
+                lost: None,
+            },
+        )));
+    };
+    Ok(Some((false, guarded(alloc, guards.as_slice(), condition, unless)?)))
+}
+
+/// A rule in stickd's spelling.
+pub(crate) fn convert_rule(alloc: Global, plan: &Plan, place: usize) -> Result<Converted, Refusal> {
+    let Some(rule) = plan.rules.get(place) else {
+        return Err(Refusal::Lost(Why::NotServed));
+    };
+    let given = behind_two(plan.words(rule.line));
+    let action = convert_action(alloc, plan, rule, given)?;
+    let mut words = start_rule(alloc, action.words.as_slice())?;
+    let own = condition_of(alloc, plan, rule, given, action.used)?;
+    let Some((unless, condition)) = with_guards(alloc, guards_of(alloc, plan, place)?, own)? else {
+        return Ok(Converted {
+            words,
+            altered: action.altered,
+        });
+    };
     words.push(text_of(alloc, if unless { "unless" } else { "if" })?)?;
     add_condition(alloc, &condition, &mut words)?;
     let altered = match condition.lost {
@@ -176,9 +217,20 @@ fn add_rules(
     let Some(section) = sections.get(source.section) else {
         return Ok(());
     };
-    let place = place_for(lines, frontend, if section.kind == Kind::Backend { 4 } else { phase });
+    let place = place_for(
+        lines,
+        frontend,
+        if section.kind == Kind::Backend {
+            4
+        } else {
+            phase
+        },
+    );
     for (number, line) in lines.iter().enumerate() {
-        if number <= section.first || number >= section.end || phase_of(line.words.as_slice()) != Some(phase) {
+        if number <= section.first
+            || number >= section.end
+            || phase_of(line.words.as_slice()) != Some(phase)
+        {
             continue;
         }
         let stays = source.is_own && number > place;
@@ -206,17 +258,26 @@ pub(crate) fn rules_of(
     };
     for phase in 1..4u8 {
         if let Some(defaults) = section.defaults {
-            let source = Source { section: defaults, is_own: false };
+            let source = Source {
+                section: defaults,
+                is_own: false,
+            };
             add_rules(lines, sections, section, source, phase, &mut rules)?;
         }
-        let source = Source { section: frontend, is_own: true };
+        let source = Source {
+            section: frontend,
+            is_own: true,
+        };
         add_rules(lines, sections, section, source, phase, &mut rules)?;
     }
     let Some(backend) = backend else {
         return Ok(rules);
     };
     if backend != frontend {
-        let source = Source { section: backend, is_own: false };
+        let source = Source {
+            section: backend,
+            is_own: false,
+        };
         add_rules(lines, sections, section, source, 3, &mut rules)?;
     }
     Ok(rules)
@@ -231,9 +292,8 @@ pub(crate) fn track_of(sections: &[Section], words: &[Vec<u8>], origin: usize) -
     };
     let key = word_at(given, 1);
     let table = if is_word(word_at(given, 2), "table") {
-        sections
-            .iter()
-            .position(|section| section.has_table && section.name.as_slice() == word_at(given, 3))
+        sections.iter().position(|section| section.has_table
+            && section.name.as_slice() == word_at(given, 3))
     } else {
         Some(origin)
     };

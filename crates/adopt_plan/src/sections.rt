@@ -81,10 +81,20 @@ impl Section {
 }
 
 /// The section that a line begins, up to the end of the file yet.
-fn open_section(alloc: Global, kind: Kind, line: &SourceLine, first: usize, end: usize) -> Result<Section, NoMemory> {
+fn open_section(
+    alloc: Global,
+    kind: Kind,
+    line: &SourceLine,
+    first: usize,
+    end: usize,
+) -> Result<Section, NoMemory> {
     let words = line.words.as_slice();
     let named = word_at(words, 1);
-    let name = if is_word(named, "from") && kind == Kind::Defaults { b"" } else { named };
+    let name = if is_word(named, "from") && kind == Kind::Defaults {
+        b""
+    } else {
+        named
+    };
     Ok(Section {
         kind,
         name: copy_text(alloc, name)?,
@@ -163,7 +173,10 @@ fn defaults_of(lines: &[SourceLine], sections: &[Section], place: usize) -> Opti
 /// Whether a section has a line that begins so.
 fn has_line(lines: &[SourceLine], section: &Section, keyword: &str) -> bool {
     for (number, line) in lines.iter().enumerate() {
-        if number > section.first && number < section.end && begins(line.words.as_slice(), keyword, "") {
+        if number > section.first
+            && number < section.end
+            && begins(line.words.as_slice(), keyword, "")
+        {
             return true;
         }
     }
@@ -174,7 +187,10 @@ fn has_line(lines: &[SourceLine], section: &Section, keyword: &str) -> bool {
 fn own_mode(lines: &[SourceLine], section: &Section) -> Option<bool> {
     let mut is_http = None;
     for (number, line) in lines.iter().enumerate() {
-        if number > section.first && number < section.end && begins(line.words.as_slice(), "mode", "") {
+        if number > section.first
+            && number < section.end
+            && begins(line.words.as_slice(), "mode", "")
+        {
             is_http = Some(is_word(word_at(line.words.as_slice(), 1), "http"));
         }
     }
@@ -245,7 +261,9 @@ fn rename(alloc: Global, sections: &mut Vec<Section>, place: usize) -> Result<()
     let Some(section) = sections.get(place) else {
         return Ok(());
     };
-    if section.kind != Kind::Backend || !is_frontends_name(sections.as_slice(), section.name.as_slice()) {
+    if section.kind != Kind::Backend
+        || !is_frontends_name(sections.as_slice(), section.name.as_slice())
+    {
         return Ok(());
     }
     let name = free_name(alloc, sections.as_slice(), section.name.as_slice())?;

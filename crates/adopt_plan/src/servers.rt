@@ -11,7 +11,17 @@ use std::alloc::Global;
 
 /// Options of TLS towards a server that are followed by a value.
 const TLS_VALUES: [&str; 12] = [
-    "verify", "verifyhost", "ca-file", "crl-file", "crt", "sni", "alpn", "npn", "ciphers", "ciphersuites", "ssl-min-ver",
+    "verify",
+    "verifyhost",
+    "ca-file",
+    "crl-file",
+    "crt",
+    "sni",
+    "alpn",
+    "npn",
+    "ciphers",
+    "ciphersuites",
+    "ssl-min-ver",
     "ssl-max-ver",
 ];
 
@@ -56,7 +66,11 @@ pub(crate) fn servers_of(plan: &Plan) -> (usize, Option<usize>) {
 /// The line of the server that is kept: the only one, or the first where that is wished.
 pub(crate) fn kept_server(plan: &Plan) -> Option<usize> {
     let (count, first) = servers_of(plan);
-    if count <= 1 || plan.first_server { first } else { None }
+    if count <= 1 || plan.first_server {
+        first
+    } else {
+        None
+    }
 }
 
 /// What a server's option loses, by its word.
@@ -83,7 +97,9 @@ pub(crate) fn server_loss(words: &[Vec<u8>], from: usize) -> Option<Why> {
             skips = false;
             continue;
         }
-        skips = is_one_of(word, &SERVER_VALUES) || is_one_of(word, &TLS_VALUES) || is_word(word, "maxconn");
+        skips = is_one_of(word, &SERVER_VALUES)
+            || is_one_of(word, &TLS_VALUES)
+            || is_word(word, "maxconn");
         if !skips && !is_one_of(word, &SERVER_FLAGS) && loss.is_none() {
             loss = Some(loss_of(word));
         }
@@ -92,14 +108,29 @@ pub(crate) fn server_loss(words: &[Vec<u8>], from: usize) -> Option<Why> {
 }
 
 /// A server's line in stickd's spelling.
-pub(crate) fn convert_server(alloc: Global, plan: &Plan, words: &[Vec<u8>]) -> Result<Converted, Refusal> {
+pub(crate) fn convert_server(
+    alloc: Global,
+    plan: &Plan,
+    words: &[Vec<u8>],
+) -> Result<Converted, Refusal> {
     let is_dispatch = begins(words, "dispatch", "");
-    let name = if is_dispatch { b"dispatch" } else { word_at(words, 1) };
-    let address = if is_dispatch { word_at(words, 1) } else { word_at(words, 2) };
+    let name = if is_dispatch {
+        b"dispatch"
+    } else {
+        word_at(words, 1)
+    };
+    let address = if is_dispatch {
+        word_at(words, 1)
+    } else {
+        word_at(words, 2)
+    };
     let endpoint = server_endpoint(alloc, address, listener_port(alloc, plan))?;
     let mut written: Words = Vec::new(alloc);
     written.push(text_of(alloc, "server")?)?;
     written.push(copy_text(alloc, name)?)?;
     written.push(endpoint)?;
-    Ok(Converted { words: written, altered: server_loss(words, if is_dispatch { 2 } else { 3 }) })
+    Ok(Converted {
+        words: written,
+        altered: server_loss(words, if is_dispatch { 2 } else { 3 }),
+    })
 }

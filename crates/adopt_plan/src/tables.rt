@@ -22,11 +22,27 @@ struct Reading {
 
 /// Data that a table can store in stickd.
 const STORED: [&str; 10] = [
-    "gpt0", "gpc0", "conn_cnt", "conn_cur", "sess_cnt", "bytes_in_cnt", "bytes_out_cnt", "gpc1", "gpt", "gpc",
+    "gpt0",
+    "gpc0",
+    "conn_cnt",
+    "conn_cur",
+    "sess_cnt",
+    "bytes_in_cnt",
+    "bytes_out_cnt",
+    "gpc1",
+    "gpt",
+    "gpc",
 ];
 
 /// Rates that a table can store in stickd.
-const RATES: [&str; 6] = ["gpc0_rate", "conn_rate", "sess_rate", "bytes_in_rate", "bytes_out_rate", "gpc1_rate"];
+const RATES: [&str; 6] = [
+    "gpc0_rate",
+    "conn_rate",
+    "sess_rate",
+    "bytes_in_rate",
+    "bytes_out_rate",
+    "gpc1_rate",
+];
 
 /// The name of a column, without its parentheses.
 fn column_name(column: &[u8]) -> &[u8] {
@@ -51,7 +67,8 @@ fn has_column(columns: &[Vec<u8>], name: &[u8]) -> bool {
 /// Whether an array that a table stores stands for a column.
 fn is_in_array(columns: &[Vec<u8>], name: &[u8]) -> bool {
     let is_counter = is_word(name, "gpc0") || is_word(name, "gpc1");
-    (is_counter && has_column(columns, b"gpc")) || (is_word(name, "gpt0") && has_column(columns, b"gpt"))
+    (is_counter && has_column(columns, b"gpc"))
+        || (is_word(name, "gpt0") && has_column(columns, b"gpt"))
 }
 
 /// `gpc0_rate(PERIOD)` and its kin.
@@ -194,14 +211,29 @@ pub(crate) fn convert_table(alloc: Global, words: &[Vec<u8>]) -> Result<Converte
     }
     let columns = reading.written_columns(alloc)?;
     let has_store = !columns.is_empty();
-    let wanted = reading.words.len().saturating_add(if has_store { 2 } else { 0 });
+    let wanted = reading
+        .words
+        .len()
+        .saturating_add(if has_store { 2 } else { 0 });
     if words.len() == wanted && keeps_columns(words, columns.as_slice()) {
-        return Ok(Converted { words: adopt_words::copy_words(alloc, words)?, altered: reading.altered });
+        return Ok(Converted {
+            words: adopt_words::copy_words(alloc, words)?,
+            altered: reading.altered,
+        });
     }
-    let Reading { words: mut written, columns: _, goes_on: _, altered, next: _ } = reading;
+    let Reading {
+        words: mut written,
+        columns: _,
+        goes_on: _,
+        altered,
+        next: _,
+    } = reading;
     if has_store {
         written.push(text_of(alloc, "store")?)?;
         written.push(columns)?;
     }
-    Ok(Converted { words: written, altered })
+    Ok(Converted {
+        words: written,
+        altered,
+    })
 }

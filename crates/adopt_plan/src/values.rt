@@ -184,13 +184,21 @@ fn compared(alloc: Global, word: Vec<u8>, values: &[Vec<u8>]) -> Result<(Words, 
         words.push(copy_text(alloc, value)?)?;
     }
     if words.len() < 2 {
-        return Err(Refusal::Lost(Why::UnknownValue));
+        // To HAProxy an integer without a value never matches.
+        let mut never = Vec::new(alloc);
+        never.push(truth_text(alloc, false)?)?;
+        return Ok((never, false));
     }
     Ok((words, zero))
 }
 
 /// A criterion on an integer by `-m`.
-fn by_method(alloc: Global, word: Vec<u8>, method: &[u8], values: &Values) -> Result<(Words, bool), Refusal> {
+fn by_method(
+    alloc: Global,
+    word: Vec<u8>,
+    method: &[u8],
+    values: &Values,
+) -> Result<(Words, bool), Refusal> {
     if is_word(method, "int") {
         return compared(alloc, word, values.words.as_slice());
     }
@@ -227,7 +235,12 @@ fn on_zero(alloc: Global, slot: u8, holds: bool) -> Result<Words, Refusal> {
 }
 
 /// The words of a criterion on what is asked, by the words behind it.
-pub(crate) fn with_values(alloc: Global, plan: &Plan, subject: Subject, given: &[Vec<u8>]) -> Result<Words, Refusal> {
+pub(crate) fn with_values(
+    alloc: Global,
+    plan: &Plan,
+    subject: Subject,
+    given: &[Vec<u8>],
+) -> Result<Words, Refusal> {
     if subject.form == Form::Truth {
         let mut words = Vec::new(alloc);
         let Subject { word, .. } = subject;

@@ -11,7 +11,10 @@ use std::{env, io};
 /// What the arguments ask, and the file's name.
 fn read_arguments(alloc: Global, words: &[String]) -> Result<(Asked, usize), AllocError> {
     let mut asked = Asked {
-        wishes: Wishes { frontend: None, first_server: false },
+        wishes: Wishes {
+            frontend: None,
+            first_server: false,
+        },
         anyway: false,
         command: false,
     };

@@ -1,7 +1,11 @@
 //! The words of a line, as HAProxy reads them.
 
-use crate::texts::{Words, append, copy_text, split_at_byte};
-use line_text::without_cr;
+ghost use Rattle.std.specs.Prelude.{◌≡◌, IfOk};
+ghost use Rattle.adopt_words.specs.Lines as spec;
+ghost use Rattle.adopt_words.specs.Lines.{own_lines, own_raws, texts_of};
+
+use crate::texts::{Words, copy_text};
+use line_text::{Parts, without_cr};
 use sequence::NoMemory;
 use std::alloc::Global;
 use std::mem;
@@ -293,7 +297,9 @@ impl Lexer {
         Ok(place.saturating_add(1))
     }
 
-    fn finish(mut self, alloc: Global, raw: Vec<u8>) -> Result<SourceLine, NoMemory> {
+    fn finish(mut self, alloc: Global, raw: Vec<u8>) -> Result<SourceLine, NoMemory>
+        ensures { IfOk result (λ line. line.raw ≡ raw) }
+    {
         self.end_word(alloc)?;
         let Lexer {
             words,
@@ -314,7 +320,9 @@ impl Lexer {
 }
 
 /// The words of a line.
-fn read_line(alloc: Global, line: &[u8], variables: &[Variable]) -> Result<SourceLine, NoMemory> {
+fn read_line(alloc: Global, line: &[u8], variables: &[Variable]) -> Result<SourceLine, NoMemory>
+    ensures { IfOk result (λ read. read.raw.items ≡ line.now) }
+{
     let mut lexer = Lexer::new(alloc);
     let mut next = 0;
     for place in 0..line.len() {
@@ -349,12 +357,30 @@ fn note_variable(
     Ok(())
 }
 
-/// The lines of a file with their words, by these variables and those that its lines `setenv` and `presetenv` set.
-pub fn read_lines(
-    alloc: Global,
-    text: &[u8],
-    environment: &[Variable],
-) -> Result<Vec<SourceLine>, NoMemory> {
+/// Whether a part is an empty one behind the last line end.
+fn is_end(part: &[u8], parts: &Parts<'_>) -> bool
+    ensures { result ≡ spec.is_end part.now parts.now }
+{
+    part.is_empty() && parts.is_done()
+}
+
+/// The lines of a text, without their ends.
+fn split_lines(alloc: Global, text: &[u8]) -> Result<Vec<Vec<u8>>, NoMemory>
+    ensures { IfOk result (λ lines. texts_of lines.items ≡ own_lines text.now) }
+{
+    let mut parts = Parts::new(text, b'\n');
+    let mut lines = Vec::new(alloc);
+    while let Some(part) = parts.next() {
+        if is_end(part, &parts) {
+            return Ok(lines);
+        }
+        lines.push(copy_text(alloc, without_cr(part))?)?;
+    }
+    Ok(lines)
+}
+
+/// A copy of variables.
+fn copy_variables(alloc: Global, environment: &[Variable]) -> Result<Vec<Variable>, NoMemory> {
     let mut variables = Vec::new(alloc);
     for variable in environment {
         variables.push(Variable {
@@ -362,13 +388,22 @@ pub fn read_lines(
             value: copy_text(alloc, variable.value.as_slice())?,
         })?;
     }
-    let mut raws = split_at_byte(alloc, text, b'\n')?;
-    if raws.last().is_some_and(|last| last.is_empty()) {
-        let _end = raws.pop();
-    }
+    Ok(variables)
+}
+
+/// The lines of a file with their words, by these variables and those that its lines `setenv` and `presetenv` set.
+pub fn read_lines(
+    alloc: Global,
+    text: &[u8],
+    environment: &[Variable],
+) -> Result<Vec<SourceLine>, NoMemory>
+    ensures { IfOk result (λ lines. own_raws lines.items ≡ own_lines text.now) }
+{
+    let mut variables = copy_variables(alloc, environment)?;
+    let raws = split_lines(alloc, text)?;
     let mut lines = Vec::new(alloc);
     for raw in &raws {
-        let line = read_line(alloc, without_cr(raw.as_slice()), variables.as_slice())?;
+        let line = read_line(alloc, raw.as_slice(), variables.as_slice())?;
         note_variable(alloc, &line, &mut variables)?;
         lines.push(line)?;
     }

@@ -1,5 +1,7 @@
 //! Small work on texts and words.
 
+ghost use Rattle.std.specs.Prelude.{◌≡◌, IfOk};
+
 use sequence::NoMemory;
 use std::alloc::Global;
 use std::mem;
@@ -38,7 +40,9 @@ pub fn text_of(alloc: Global, text: &str) -> Result<Vec<u8>, NoMemory> {
 }
 
 /// A copy of a text.
-pub fn copy_text(alloc: Global, text: &[u8]) -> Result<Vec<u8>, NoMemory> {
+pub fn copy_text(alloc: Global, text: &[u8]) -> Result<Vec<u8>, NoMemory>
+    ensures { IfOk result (λ copy. copy.items ≡ text.now) }
+{
     Ok(Vec::from_slice(alloc, text)?)
 }
 
