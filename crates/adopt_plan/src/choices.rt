@@ -1,5 +1,7 @@
 //! Which frontend of a file is served, and by which server.
 
+ghost use Rattle.std.specs.Prelude.{◌≡◌, IfOk};
+
 use crate::plan::{PatternFile, Plan, RuleAt, Track, Wishes, begins};
 use crate::rules::{rules_of, track_of};
 use crate::sections::{Kind, Section, read_sections};
@@ -188,7 +190,10 @@ pub fn make_plan(
     lines: Vec<SourceLine>,
     files: Vec<PatternFile>,
     wishes: &Wishes,
-) -> Result<Plan, NoMemory> {
+) -> Result<Plan, NoMemory>
+    // The plan has the lines of the file, and no others.
+    ensures { IfOk result (λ plan. plan.lines ≡ lines) }
+{
     let sections = read_sections(alloc, lines.as_slice())?;
     let wanted = match &wishes.frontend {
         Some(name) => Some(name.as_slice()),
