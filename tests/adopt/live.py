@@ -67,25 +67,42 @@ def on_loopback(found):
     return f'127.{found.group(2)}{length or ""}'
 
 
+def served_bind(lines):
+    """The number of the line by which the served frontend listens: the first of a section that isn't one of HTTP."""
+    section, http, binds = 0, set(), []
+    for number, line in enumerate(lines):
+        words = line.split()
+        if words and words[0] in ('global', 'defaults', 'frontend', 'backend', 'listen', 'peers', 'resolvers'):
+            section = number
+        elif words[:2] == ['mode', 'http']:
+            http.add(section)
+        elif words and words[0] == 'bind':
+            binds.append((section, number))
+    return next((number for section, number in binds if section not in http), binds[0][1] if binds else None)
+
+
 def prepare(text, port, server):
-    """The text with this port for the first listener, others for the rest, and this server; and the addresses of its rules."""
-    lines, sources, ports = [], ['127.0.0.1'], []
-    for line in text.splitlines():
+    """The text with this port for the listener that is served, others for the rest, and this server; a short wait for bytes;
+    and the addresses of its rules."""
+    lines, sources = [], ['127.0.0.1']
+    given = text.splitlines()
+    served = served_bind(given)
+    for number, line in enumerate(given):
         words = line.split()
         first = words[0] if words else ''
         if first == 'bind' and len(words) > 1 and ':' in words[1]:
-            here = port if not ports else free_port()
-            ports.append(here)
-            host = '' if words[1].startswith(':::') else '127.0.0.1'
-            line = f'    bind {"::" if not host else host}:{here} {" ".join(words[2:])}'
+            here = port if number == served else free_port()
+            host = '::' if words[1].startswith((':::', '[::]')) else '127.0.0.1'
+            host = '[::]' if words[1].startswith('[::]') else host
+            line = f'    bind {host}:{here} {" ".join(words[2:])}'
         elif first == 'server':
             line = f'    server {words[1]} 127.0.0.1:{server} {" ".join(words[3:])}'
+        elif words[:2] == ['tcp-request', 'inspect-delay']:
+            line = '    tcp-request inspect-delay 500ms'
         elif first in ('acl', 'tcp-request'):
             line = ADDRESS.sub(on_loopback, line)
             sources += [f'127.{found}' for found in re.findall(r'127\.(\d+\.\d+\.\d+)', line)]
-        elif first in ('user', 'group', 'chroot', 'daemon', 'log', 'stats') and 'stats' not in line[:4]:
-            line = '    # ' + line
-        elif first == 'stats' and len(words) > 1 and words[1] == 'socket':
+        elif first in ('user', 'group', 'chroot', 'daemon', 'log') or words[:2] == ['stats', 'socket']:
             line = '    # ' + line
         lines.append(line)
     return '\n'.join(lines) + '\n', sources
@@ -100,13 +117,13 @@ def neighbour(address):
 class Client:
     """Connections to one port, by number."""
 
-    def __init__(self, port):
-        self.port, self.open = port, {}
+    def __init__(self, port, patience):
+        self.port, self.patience, self.open = port, patience, {}
 
     def connect(self, number, source):
         """Whether a connection from a source is accepted: the server's greeting comes."""
         client = socket.socket()
-        client.settimeout(PATIENCE)
+        client.settimeout(self.patience)
         try:
             client.bind((source, 0))
             client.connect(('127.0.0.1', self.port))
@@ -145,8 +162,8 @@ def draw_steps(sources, seed):
     return steps
 
 
-def judged(port, steps):
-    client, said = Client(port), []
+def judged(port, steps, patience):
+    client, said = Client(port, patience), []
     for step in steps:
         if isinstance(step, tuple):
             said.append((step[1], client.connect(*step)))
@@ -208,11 +225,13 @@ def try_file(path, given, server, seed):
                 status, out = done.returncode, done.stdout
             file.write(out)
         steps = draw_steps(sources, seed)
+        # A connection that is dropped silently is known by nothing else, and takes no time of the windows so.
+        patience = 1 if 'silent-drop' in text else PATIENCE
         with running(['haproxy', '-db', '-f', config], port, folder) as runs:
-            wanted = judged(port, steps) if runs else None
+            wanted = judged(port, steps, patience) if runs else None
         words = [given.stickd, 'run', adopted, '--socket', os.path.join(folder, 's.sock'), '--threads', '1']
         with running(words, port, folder) as runs:
-            found = judged(port, steps) if runs else None
+            found = judged(port, steps, patience) if runs else None
         with open(os.path.join(folder, 'said'), encoding='utf8', errors='replace') as said:
             last = said.read()[-300:]
     if wanted is None:

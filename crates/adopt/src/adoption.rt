@@ -10,7 +10,8 @@ use crate::checked::first_fault;
 use crate::command::{HEAD, command_of};
 use crate::written::{Adopted, push_line, push_pieces};
 use adopt_plan::{
-    Fate, FateKind, PatternFile, Why, Wishes, command_options, fates_of, make_plan, pattern_files,
+    CommandOption, Fate, FateKind, PatternFile, Plan, Why, Wishes, command_options, fates_of,
+    make_plan, pattern_files,
 };
 use adopt_words::{SourceLine, Variable, copy_text, copy_words, read_lines, text_of};
 use sequence::NoMemory;
@@ -47,10 +48,15 @@ fn first_raw(lines: &[SourceLine]) -> Option<&[u8]> {
     }
 }
 
+/// Whether a file begins with the command line that stands for what it lost.
+fn has_command(lines: &[SourceLine]) -> bool {
+    first_raw(lines).is_some_and(|raw| raw.starts_with(HEAD.as_bytes()))
+}
+
 /// The lines in front of those of the file: the command line as a comment, unless it is there.
 fn heading(alloc: Global, lines: &[SourceLine], command: &[u8]) -> Result<Vec<u8>, NoMemory> {
     let mut text = Vec::new(alloc);
-    if first_raw(lines).is_some_and(|raw| raw.starts_with(HEAD.as_bytes())) {
+    if has_command(lines) {
         return Ok(text);
     }
     let mut line = text_of(alloc, "# ")?;
@@ -200,6 +206,27 @@ fn settle(
     Ok(None)
 }
 
+/// Whether a file was adopted already: it begins with the command line, and stickd takes it.
+fn is_adopted(alloc: Global, lines: &[SourceLine], text: &[u8]) -> Result<bool, NoMemory> {
+    if !has_command(lines) {
+        return Ok(false);
+    }
+    Ok(first_fault(alloc, text)?.is_none())
+}
+
+/// What becomes of each line; of a file that was adopted already nothing is said, and each line is kept.
+fn fates_for(
+    alloc: Global,
+    plan: &Plan,
+    options: &[CommandOption],
+    text: &[u8],
+) -> Result<Vec<Fate>, NoMemory> {
+    if is_adopted(alloc, plan.lines.as_slice(), text)? {
+        return Ok(Vec::new(alloc));
+    }
+    fates_of(alloc, plan, options)
+}
+
 /// Adopts a file, by these variables of the environment, these files of patterns and wishes. None where stickd doesn't
 /// read what would be written.
 pub fn adopt(
@@ -220,7 +247,7 @@ pub fn adopt(
     let lines = read_lines(alloc, text, environment)?;
     let plan = make_plan(alloc, lines, files, wishes)?;
     let options = command_options(alloc, &plan)?;
-    let fates = fates_of(alloc, &plan, options.as_slice())?;
+    let fates = fates_for(alloc, &plan, options.as_slice(), text)?;
     let command = command_of(alloc, first_raw(plan.lines.as_slice()), options.as_slice())?;
     let head = heading(alloc, plan.lines.as_slice(), command.as_slice())?;
     let Some((lines, text)) = settle(alloc, head.as_slice(), plan.lines.as_slice(), fates)? else {

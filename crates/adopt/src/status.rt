@@ -23,13 +23,16 @@ fn matters(line: &Adopted) -> bool
     }
 }
 
+/// Whether the loss of a line changes what is served.
+fn loses(lines: &[Adopted]) -> bool
+    ensures { result ≡ list_any spec.matters lines.now }
+{
+    lines.iter().any(|line| matters(line))
+}
+
 /// The status of what became of all lines: 3 where the loss of one of them changes what is served, else 0.
 pub fn status_of(lines: &[Adopted]) -> u8
     ensures { result ≡ spec.status_of lines.now }
 {
-    if lines.iter().any(|line| matters(line)) {
-        LOST
-    } else {
-        SAME
-    }
+    if loses(lines) { LOST } else { SAME }
 }

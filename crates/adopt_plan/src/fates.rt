@@ -787,6 +787,37 @@ fn of_heading(
     Ok(fate)
 }
 
+/// Whether a section `defaults` is one that the frontend or the backend has.
+fn is_inherited(plan: &Plan, defaults: usize) -> bool {
+    for place in [plan.frontend, plan.backend] {
+        let mut at = place;
+        for _ in 0..plan.sections.len() {
+            at = match at.and_then(|here| plan.section(here)) {
+                Some(section) => section.defaults,
+                None => None,
+            };
+            if at == Some(defaults) {
+                return true;
+            }
+        }
+    }
+    false
+}
+
+/// What is lost by a line of `defaults`, if anything that matters.
+fn defaults_loss(words: &[Vec<u8>]) -> Option<Why> {
+    let keyword = word_at(words, 0);
+    if is_word(keyword, "default-server") {
+        return server_loss(words, 1);
+    }
+    let is_option = is_word(keyword, "option");
+    if is_option || is_one_of(keyword, &["filter", "rate-limit", "source", "transparent"]) {
+        let left = left_out(keyword, word_at(words, 1));
+        return if left.matters { Some(left.why) } else { None };
+    }
+    None
+}
+
 /// What becomes of a line of `defaults`.
 fn of_defaults_line(
     alloc: Global,
@@ -805,7 +836,10 @@ fn of_defaults_line(
     if plan.names_backend == Some(number) {
         return left(alloc, FateKind::Moved, Why::MovedBelow);
     }
-    left(alloc, FateKind::Harmless, Why::SectionHeader)
+    match defaults_loss(words) {
+        Some(why) if is_inherited(plan, place) => left(alloc, FateKind::Lost, why),
+        _ => left(alloc, FateKind::Harmless, Why::SectionHeader),
+    }
 }
 
 /// The option that stands for a line.

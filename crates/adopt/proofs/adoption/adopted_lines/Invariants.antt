@@ -3,5 +3,5 @@ use Rattle.adopt_words.specs.Lines.{own_raws}
 use Rattle.adopt.specs.Written.{raws_of}
 use Rattle.adopt.proofs.adoption.adopted_lines.Given as goal
 
-abbrev pub invariant-loop-place-line : goal.invariant-loop-place-line
-invariant-loop-place-line l = raws_of l.adopted.items ≡ own_raws (take l.place l.lines)
+abbrev pub invariant-loop-place : goal.invariant-loop-place
+invariant-loop-place l = raws_of l.adopted.items ≡ own_raws (take l.place l.lines)
