@@ -5,7 +5,7 @@ use crate::keywords::is_one_of;
 use crate::plan::{Plan, RuleAt};
 use crate::reasons::{Refusal, Why};
 use adopt_words::{Words, append, copy_text, is_word, split_at_byte, text_of, word_at};
-use line_text::{push_decimal, read_number};
+use line_text::{before_parenthesis, push_decimal, read_number};
 use sequence::NoMemory;
 use std::alloc::Global;
 
@@ -34,10 +34,7 @@ const IDLE: [&str; 9] = [
 
 /// Whether a rule that does this decides and counts nothing.
 pub(crate) fn is_idle(word: &[u8]) -> bool {
-    let name = match word.split(|byte| *byte == b'(').next() {
-        Some(name) => name,
-        None => word,
-    };
+    let (name, _) = before_parenthesis(word);
     is_one_of(name, &IDLE)
 }
 

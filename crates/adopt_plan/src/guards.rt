@@ -5,7 +5,7 @@
 //! a later one follow, and each of those that it kept off gets its condition, negated.
 
 use crate::actions::condition_place;
-use crate::conditions::{Condition, Term, convert_condition};
+use crate::conditions::{Condition, Term, acl_name, convert_condition};
 use crate::criteria::behind_two;
 use crate::keywords::is_one_of;
 use crate::plan::{Plan, RuleAt, begins};
@@ -18,38 +18,31 @@ use std::alloc::Global;
 /// What is asked of a connection and stays the same while its rules run.
 const STEADY: [&str; 5] = ["src", "src_port", "dst_port", "always_true", "always_false"];
 
-/// Whether all declarations of an ACL ask what stays the same.
-fn is_steady_acl(plan: &Plan, origin: usize, name: &[u8]) -> bool {
-    let bare = match name.iter().position(|byte| *byte == b'.') {
-        Some(place) if !plan.is_frontend(origin) => name
-            .split_at(place)
-            .1
-            .strip_prefix(b".".as_slice())
-            .unwrap_or(name),
-        _ => name,
-    };
+/// Whether all declarations of an ACL, which has this name in the frontend, ask what stays the same.
+fn is_steady_acl(alloc: Global, plan: &Plan, origin: usize, name: &[u8]) -> Result<bool, NoMemory> {
     let Some(section) = plan.section(origin) else {
-        return false;
+        return Ok(false);
     };
     for number in section.first..section.end {
         let words = plan.words(number);
-        if begins(words, "acl", "")
-            && word_at(words, 1) == bare
-            && !is_one_of(word_at(words, 2), &STEADY)
-        {
-            return false;
+        if !begins(words, "acl", "") || is_one_of(word_at(words, 2), &STEADY) {
+            continue;
+        }
+        let written = acl_name(alloc, plan, origin, word_at(words, 1))?;
+        if written.as_slice() == name {
+            return Ok(false);
         }
     }
-    true
+    Ok(true)
 }
 
 /// Whether a term asks what stays the same.
-fn is_steady(plan: &Plan, origin: usize, term: &Term) -> bool {
+fn is_steady(alloc: Global, plan: &Plan, origin: usize, term: &Term) -> Result<bool, NoMemory> {
     let words = term.words.as_slice();
     if is_word(word_at(words, 0), "{") {
-        return is_one_of(word_at(words, 1), &STEADY);
+        return Ok(is_one_of(word_at(words, 1), &STEADY));
     }
-    is_steady_acl(plan, origin, word_at(words, 0))
+    is_steady_acl(alloc, plan, origin, word_at(words, 0))
 }
 
 /// The terms of a condition's alternatives where each has one, negated.
@@ -96,7 +89,7 @@ fn terms_of_accept(
         return Ok(None);
     };
     for term in &terms {
-        if !is_steady(plan, rule.origin, term) {
+        if !is_steady(alloc, plan, rule.origin, term)? {
             return Ok(None);
         }
     }

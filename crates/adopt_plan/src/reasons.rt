@@ -62,6 +62,7 @@ pub enum Why {
     NotRead,
     MovedBelow,
     SpreadAccept,
+    HttpColumns,
     OtherMask,
 }
 
@@ -126,6 +127,7 @@ impl Why {
             Why::NotRead => "stickd doesn't read it",
             Why::SpreadAccept => "its condition stands, negated, with the rules that it keeps off",
             Why::MovedBelow => "it stands where HAProxy runs it",
+            Why::HttpColumns => "what HTTP or peers count isn't stored",
             Why::OtherMask => "addresses are counted one by one, and not by this mask",
         }
     }

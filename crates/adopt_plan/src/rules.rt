@@ -283,6 +283,16 @@ pub(crate) fn rules_of(
     Ok(rules)
 }
 
+/// The section of this name that has a table.
+fn table_place(sections: &[Section], name: &[u8]) -> Option<usize> {
+    for (place, section) in sections.iter().enumerate() {
+        if section.has_table && section.name.as_slice() == name {
+            return Some(place);
+        }
+    }
+    None
+}
+
 /// What a rule's words track, if anything.
 pub(crate) fn track_of(sections: &[Section], words: &[Vec<u8>], origin: usize) -> Option<Track> {
     let given = behind_two(words);
