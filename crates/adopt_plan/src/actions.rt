@@ -1,6 +1,6 @@
 //! What rules do, in stickd's spelling.
 
-use crate::fetches::{read_call, slot_of};
+use crate::calls::{read_call, slot_of};
 use crate::keywords::is_one_of;
 use crate::plan::{Plan, RuleAt};
 use crate::reasons::{Refusal, Why};

@@ -1,8 +1,8 @@
 //! Conditions of rules.
 
 use crate::addresses::dotted;
+use crate::calls::truth_text;
 use crate::criteria::{built_in, convert_criterion, declares};
-use crate::fetches::truth_text;
 use crate::plan::{Plan, RuleAt};
 use crate::reasons::{Refusal, Why};
 use adopt_words::{Words, append, copy_text, is_word, text_of};

@@ -6,20 +6,27 @@
 
 mod actions;
 mod addresses;
+mod calls;
 mod choices;
 mod conditions;
 mod criteria;
+mod entries;
 mod fates;
 mod fetches;
 mod guards;
+mod headings;
 mod keywords;
 mod listeners;
 mod options;
 mod plan;
+mod proxy_lines;
 mod reasons;
+mod roles;
+mod rule_lines;
 mod rules;
 mod sections;
 mod servers;
+mod standing;
 mod tables;
 mod values;
 

@@ -1,9 +1,9 @@
 //! Rules in stickd's spelling, and the order in which they run.
 
 use crate::actions::{add_words, condition_place, convert_action, is_idle, tracked_slot};
+use crate::calls::slot_of;
 use crate::conditions::{Condition, Term, add_condition, convert_condition};
 use crate::criteria::behind_two;
-use crate::fetches::slot_of;
 use crate::guards::{guarded, guards_of};
 use crate::plan::{Plan, RuleAt, Track, begins};
 use crate::reasons::{Refusal, Why};

@@ -1,7 +1,8 @@
 //! What a criterion compares with.
 
 use crate::addresses::source_pattern;
-use crate::fetches::{Form, Subject, truth_text};
+use crate::calls::truth_text;
+use crate::fetches::{Form, Subject};
 use crate::keywords::is_one_of;
 use crate::plan::Plan;
 use crate::reasons::{Refusal, Why};
