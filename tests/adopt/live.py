@@ -169,7 +169,8 @@ def judged(port, steps, patience):
             said.append((step[1], client.connect(*step)))
         else:
             client.close(step)
-            time.sleep(0.02)
+            # Both count the end once they have seen it.
+            time.sleep(0.3)
     client.close_all()
     return said
 

@@ -1,5 +1,9 @@
 //! The keywords that HAProxy has and stickd lacks: what becomes of their lines.
 
+ghost use Rattle.std.specs.Prelude.{◌≡◌, map};
+ghost use Rattle.adopt_plan.specs.Keywords as spec;
+ghost use Rattle.adopt_plan.specs.Keywords.{left_of, said_of};
+
 use crate::reasons::Why;
 use adopt_words::is_word;
 
@@ -94,13 +98,12 @@ const MATTERS: [(&str, Why); 11] = [
     ("tcp-request", Why::UnknownAction),
 ];
 
-/// Options whose loss changes what is served.
-const LOST_OPTIONS: [&str; 2] = ["transparent", "http_proxy"];
-
 /// What stands beside a word.
-fn why_of(word: &[u8], rows: &[(&str, Why)]) -> Option<Why> {
+fn why_of(word: &[u8], rows: &[(&str, Why)]) -> Option<Why>
+    ensures { result ≡ said_of word.now (map (λ row. (row.0.now, row.1)) rows.now) }
+{
     for (text, why) in rows {
-        if is_word(word, text) {
+        if word == text.as_bytes() {
             return Some(*why);
         }
     }
@@ -117,22 +120,61 @@ pub(crate) fn is_one_of(word: &[u8], texts: &[&str]) -> bool {
     false
 }
 
+/// Whether an option would send connections elsewhere.
+fn is_losing_option(keyword: &[u8], second: &[u8]) -> bool
+    ensures { result ≡ spec.is_losing_option keyword.now second.now }
+{
+    keyword == b"option".as_slice()
+        && (second == b"transparent".as_slice() || second == b"http_proxy".as_slice())
+}
+
+/// The reason, or else that stickd has nothing like it.
+fn or_unknown(why: Option<Why>) -> Why
+    ensures { result ≡ spec.or_unknown why }
+{
+    match why {
+        Some(why) => why,
+        None => Why::UnknownKeyword,
+    }
+}
+
+/// Why a line whose loss changes what is served is lost, if it is such a one.
+#[tactic(auto, unfolding(crate::specs::Keywords::losing_of))]
+fn why_losing(keyword: &[u8]) -> Option<Why>
+    ensures { result ≡ spec.losing_of keyword.now }
+{
+    why_of(keyword, &MATTERS)
+}
+
+/// Why a line is left out without harm, if it is.
+#[tactic(auto, unfolding(crate::specs::Keywords::harmless_of))]
+fn why_harmless(keyword: &[u8]) -> Option<Why>
+    ensures { result ≡ spec.harmless_of keyword.now }
+{
+    why_of(keyword, &HARMLESS)
+}
+
 /// What becomes of a proxy's line that is left out, by its first two words.
-pub(crate) fn left_out(keyword: &[u8], second: &[u8]) -> Left {
-    if is_word(keyword, "option") && is_one_of(second, &LOST_OPTIONS) {
+#[tactic(auto, unfolding(crate::specs::Keywords::left_of))]
+pub(crate) fn left_out(keyword: &[u8], second: &[u8]) -> Left
+    ensures { result ≡ left_of keyword.now second.now }
+{
+    if is_losing_option(keyword, second) {
         return Left {
             why: Why::Transparent,
             matters: true,
         };
     }
-    if let Some(why) = why_of(keyword, &HARMLESS) {
-        return Left {
+    match why_harmless(keyword) {
+        Some(why) => Left {
             why,
             matters: false,
-        };
+        },
+        None => Left {
+            why: or_unknown(why_losing(keyword)),
+            matters: true,
+        },
     }
-    let why = why_of(keyword, &MATTERS).unwrap_or(Why::UnknownKeyword);
-    Left { why, matters: true }
 }
 
 /// Options of a server that change nothing where it is the only one.

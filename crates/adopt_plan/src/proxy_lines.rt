@@ -8,7 +8,7 @@ use crate::listeners::{convert_bind, first_bind};
 use crate::options::is_limit;
 use crate::plan::{Plan, begins};
 use crate::reasons::{Refusal, Why};
-use crate::roles::{Role, role_of};
+use crate::roles::{Role, has_rules_of, role_of};
 use crate::rule_lines::of_rule;
 use crate::rules::{is_waiting, phase_of};
 use crate::sections::Section;
@@ -117,6 +117,16 @@ fn of_server(
     left(alloc, FateKind::Lost, Why::OtherServer)
 }
 
+/// What becomes of an ACL of the backend: it stands in the frontend where rules of the backend do.
+fn of_backend_acl(alloc: Global, plan: &Plan) -> Result<Fate, NoMemory> {
+    match plan.backend {
+        Some(backend) if has_rules_of(plan, backend) => {
+            left(alloc, FateKind::Moved, Why::MovedBelow)
+        }
+        _ => left(alloc, FateKind::Harmless, Why::NothingToSay),
+    }
+}
+
 /// What becomes of a line of the backend that only a backend has. None where it is another line.
 fn of_backend(
     alloc: Global,
@@ -145,7 +155,7 @@ fn of_backend(
         return Ok(Some(of_rule(alloc, plan, number, line)?));
     }
     if is_word(keyword, "acl") {
-        return Ok(Some(left(alloc, FateKind::Moved, Why::MovedBelow)?));
+        return Ok(Some(of_backend_acl(alloc, plan)?));
     }
     if is_word(keyword, "use_backend") || is_word(keyword, "default_backend") {
         return Ok(Some(left(alloc, FateKind::Harmless, Why::Overruled)?));
