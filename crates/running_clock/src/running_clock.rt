@@ -1,12 +1,12 @@
 //! A clock that runs.
 
-ghost use Rattle.std.specs.Prelude.{◌≡◌, ◌-◌, ◌/◌, ◌^◌, min};
+ghost use Rattle.std.specs.Prelude.{◌≡◌, ◌≤◌, ◌<◌, ◌-◌, ◌/◌, ◌^◌, min, max, IfOk, IfErr};
 ghost use Rattle.std.specs.Duration.{as_nanos};
 
 use moments::{Clock, MAX_MOMENT};
 use std::marker::Model;
-use std::time;
 use std::time::{Duration, Instant};
+use std::{io, time};
 
 /// A clock that shows how many ms have passed since its start, at most `MAX_MOMENT`. Where the time can't be read it
 /// shows the last moment that it showed, 0 at first; it never goes back. Contracts see that last moment.
@@ -50,12 +50,22 @@ impl<'a, R: time::Clock> Clock for RunningClock<'a, R> {
     ghost shows = { λ old moment new. (old ≤ moment) × (new ≡ moment) };
 
     fn now(&mut self) -> u64 {
-        let passed = match self.start.elapsed(self.rt) {
-            Ok(elapsed) => moment_after(elapsed),
-            Err(_) => 0,
-        };
-        self.shown = self.shown.max(passed);
+        self.shown = moment_shown(self.shown, self.start.elapsed(self.rt));
         self.shown
+    }
+}
+
+/// What a clock shows that last showed this moment, where so much time has passed since its start, or that can't be read.
+fn moment_shown(last: u64, elapsed: io::Result<Duration>) -> u64
+    requires { last < 2 ^ 62 }
+    ensures later { last ≤ result }
+    ensures bound { result < 2 ^ 62 }
+    ensures passed { IfOk elapsed (λ passed. result ≡ max last (min (as_nanos passed / 1_000_000) (2 ^ 62 - 1))) }
+    ensures unread { IfErr elapsed (λ unread. result ≡ last) }
+{
+    match elapsed {
+        Ok(elapsed) => last.max(moment_after(elapsed)),
+        Err(_) => last,
     }
 }
 
