@@ -3,6 +3,7 @@
 
 mod listing;
 mod opening;
+mod rolling;
 mod seated;
 mod shards;
 mod tracking;

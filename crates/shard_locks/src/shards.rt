@@ -13,6 +13,7 @@ ghost use Rattle.shard_locks.specs.ShardsState.{IsReferenceRefused, IsUnlocked, 
 ghost use Rattle.shard_locks.specs.Tracking.{IsAt, reply_of};
 
 use crate::opening::{Locks, open_locks, open_seats, specs_of_shards};
+use crate::rolling::roll_long;
 use crate::tracking::{counted_value, shown_row, tracking_of};
 use crate::unlocked::{lock_all, unlock_all};
 use crate::{Tracking, Unlocked};
@@ -303,17 +304,14 @@ impl<T: Table> Shards<T> {
             return Ok(false);
         }
         let mut book = self.books[shard as usize].lock(rt);
-        if (book.calls().len() as u64) < least {
-            return Ok(false);
-        }
-        book.roll()?;
-        Ok(true)
+        roll_long(&mut book, least)
     }
 
     /// Does some work while a shard's lock is held. Nothing of the shard changes.
     pub fn hold<R: Wait, F: FnOnce()>(&self, rt: &R, shard: u32, work: F)
         requires shard { shard < self.now.shards }
         requires work { F.pre work }
+        ensures work { F.post work tt }
     {
         let book = self.books[shard as usize].lock(rt);
         work();
