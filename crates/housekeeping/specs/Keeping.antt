@@ -14,14 +14,16 @@ use Rattle.housekeeping.specs.declared.kept.Kept.{Kept}
 abbrev pub more : ℕ → ℕ
 more count = min (count + 1) (2 ^ 64 - 1)
 
--- the seat of a table, and what was counted so far
-pub record TableState : Type 0 where
+-- the seat of a table, what the clock is, and what was counted so far
+pub record TableState (C : Type 0) : Type 0 where
   pub seat : SeatState
+  pub clock : C
   pub counts : Counts
 
 -- the seats of all tables, and the same
-pub record RoundState : Type 0 where
+pub record RoundState (C : Type 0) : Type 0 where
   pub seats : List SeatState
+  pub clock : C
   pub counts : Counts
 
 abbrev pub one_refused : Counts → Counts
@@ -39,39 +41,43 @@ ByFirst step zero old new = new ≡ old
 ByFirst {State} step (suc count) old new = (middle : State) × ByFirst step count old middle × step count middle new
 
 -- a shard told the seat that it has expired what was over at the moment; or it refused to, which is counted
-abbrev pub Expires : ℕ → ℕ → TableState → TableState → Type 0
-Expires shard now old new =
-    ((reply : Reply) × Told old.seat shard (Expire now) reply new.seat × (new.counts ≡ old.counts))
-    ⊎ ((refusal : Refusal) × IsRefusedTo old.seat shard (Expire now) refusal × (new.seat ≡ old.seat) × (new.counts ≡ one_refused old.counts))
+abbrev pub Expires : ℕ → ℕ → SeatState → Counts → SeatState → Counts → Type 0
+Expires shard now old counted new counts =
+    ((reply : Reply) × Told old shard (Expire now) reply new × (counts ≡ counted))
+    ⊎ ((refusal : Refusal) × IsRefusedTo old shard (Expire now) refusal × (new ≡ old) × (counts ≡ one_refused counted))
 
 -- a shard was asked to begin its record again, and what it answered is counted; where receipts are kept it doesn't
 abbrev pub Rolls : Bool → Counts → Counts → Type 0
 Rolls keep old new = (answer : Result Bool AllocError) × (keep ≡ true → answer ≡ Ok false) × (new ≡ noted answer old)
 
--- a shard expires at some moment, and then its record may begin again
-abbrev pub KeepsShard : Bool → ℕ → TableState → TableState → Type 0
-KeepsShard keep shard old new = (now : ℕ) × (now < 2 ^ 62) × (middle : TableState) × Expires shard now old middle × (new.seat ≡ middle.seat) × Rolls keep middle.counts new.counts
+-- ---- by a clock, which in a state may show a moment in ms and leave another state
 
--- each shard of a table, in their order
-abbrev pub KeepsTable : ShardsState → TableState → TableState → Type 0
-KeepsTable table old new = ByFirst (KeepsShard table.keep) table.shards old new
+module _ {C : Type 0} (shows : C → ℕ → C → Type 0) where
+  -- a shard expires at the moment that the clock shows then, and then its record may begin again
+  abbrev pub KeepsShard : Bool → ℕ → TableState C → TableState C → Type 0
+  KeepsShard keep shard old new = (now : ℕ) × shows old.clock now new.clock × (now < 2 ^ 62) × (counted : Counts) × Expires shard now old.seat old.counts new.seat counted × Rolls keep counted new.counts
 
--- the table of a place, by the seat of that place
-pub record KeepsPlace (tables : List ShardsState) (place : ℕ) (old new : RoundState) : Type 0 where
-  pub table : ShardsState
-  pub before : SeatState
-  pub after : SeatState
-  pub there : slice_get tables place ≡ Some table
-  pub seat : slice_get old.seats place ≡ Some before
-  pub kept : KeepsTable table (record { seat = before; counts = old.counts }) (record { seat = after; counts = new.counts })
-  pub seats : new.seats ≡ slice_set old.seats place after
+  -- each shard of a table, in their order
+  abbrev pub KeepsTable : ShardsState → TableState C → TableState C → Type 0
+  KeepsTable table old new = ByFirst (KeepsShard table.keep) table.shards old new
 
--- one round: each table, in their order
-abbrev pub KeepsRound : List ShardsState → RoundState → RoundState → Type 0
-KeepsRound tables old new = ByFirst (KeepsPlace tables) (length tables) old new
+  -- the table of a place, by the seat of that place
+  pub record KeepsPlace (tables : List ShardsState) (place : ℕ) (old new : RoundState C) : Type 0 where
+    pub table : ShardsState
+    pub before : SeatState
+    pub after : SeatState
+    pub there : slice_get tables place ≡ Some table
+    pub seat : slice_get old.seats place ≡ Some before
+    pub kept : KeepsTable table (record { seat = before; clock = old.clock; counts = old.counts }) (record { seat = after; clock = new.clock; counts = new.counts })
+    pub seats : new.seats ≡ slice_set old.seats place after
 
--- some number of rounds, from seats for which nothing was counted yet
-pub record KeepsRounds (tables : List ShardsState) (seats : List SeatState) (kept : Kept) : Type 0 where
-  pub count : ℕ
-  pub rounds : kept.rounds ≡ min count (2 ^ 64 - 1)
-  pub each : ByFirst (λ round. KeepsRound tables) count (record { seats = seats; counts = record { rolled = 0; refused = 0 } }) (record { seats = kept.seats.items; counts = record { rolled = kept.rolled; refused = kept.refused } })
+  -- one round: each table, in their order
+  abbrev pub KeepsRound : List ShardsState → RoundState C → RoundState C → Type 0
+  KeepsRound tables old new = ByFirst (KeepsPlace tables) (length tables) old new
+
+  -- some number of rounds, from seats for which nothing was counted yet; the clock is looked at once for each shard, and
+  -- at no other time
+  pub record KeepsRounds (tables : List ShardsState) (seats : List SeatState) (old : C) (kept : Kept) (new : C) : Type 0 where
+    pub count : ℕ
+    pub rounds : kept.rounds ≡ min count (2 ^ 64 - 1)
+    pub each : ByFirst (λ round. KeepsRound tables) count (record { seats = seats; clock = old; counts = record { rolled = 0; refused = 0 } }) (record { seats = kept.seats.items; clock = new; counts = record { rolled = kept.rolled; refused = kept.refused } })

@@ -23,7 +23,7 @@ fn expire<T: Table>(
 )
     requires shard { shard < table.now.shards }
     requires moment { now < 2 ^ 62 }
-    ensures { Expires shard now (record { seat = seat.old; counts = counts.old }) (record { seat = seat.new; counts = counts.new }) }
+    ensures { Expires shard now seat.old counts.old seat.new counts.new }
 {
     match table.call(rt, seat, shard, Event::Expire(now)) {
         Ok(_reply) => {}
@@ -50,7 +50,7 @@ fn keep_shard<T: Table, C: Clock>(
     counts: &mut Counts,
 )
     requires shard { shard < table.now.shards }
-    ensures { KeepsShard table.now.keep shard (record { seat = seat.old; counts = counts.old }) (record { seat = seat.new; counts = counts.new }) }
+    ensures { KeepsShard C.shows table.now.keep shard (record { seat = seat.old; clock = C.state clock.old; counts = counts.old }) (record { seat = seat.new; clock = C.state clock.new; counts = counts.new }) }
 {
     let now = clock.now();
     expire(rt, table, seat, shard, now, counts);
@@ -66,7 +66,7 @@ fn keep_table<T: Table, C: Clock>(
     roll_at: u64,
     counts: &mut Counts,
 )
-    ensures { KeepsTable table.now (record { seat = seat.old; counts = counts.old }) (record { seat = seat.new; counts = counts.new }) }
+    ensures { KeepsTable C.shows table.now (record { seat = seat.old; clock = C.state clock.old; counts = counts.old }) (record { seat = seat.new; clock = C.state clock.new; counts = counts.new }) }
 {
     for shard in 0..table.shards() {
         keep_shard(rt, table, seat, shard, clock, roll_at, counts);
@@ -84,7 +84,7 @@ fn keep_round<T: Table, C: Clock>(
 )
     requires { length tables.now ≡ length seats.old.items }
     ensures seats { length seats.new.items ≡ length seats.old.items }
-    ensures kept { KeepsRound tables.now (record { seats = seats.old.items; counts = counts.old }) (record { seats = seats.new.items; counts = counts.new }) }
+    ensures kept { KeepsRound C.shows tables.now (record { seats = seats.old.items; clock = C.state clock.old; counts = counts.old }) (record { seats = seats.new.items; clock = C.state clock.new; counts = counts.new }) }
 {
     for place in 0..tables.len() {
         let seat = &mut seats[place];
@@ -104,7 +104,7 @@ pub fn housekeep<T: Table, C: Clock, P: Pace>(
     roll_at: u64,
 ) -> Kept
     requires { length tables.now ≡ length seats.items }
-    ensures { KeepsRounds tables.now seats.items result }
+    ensures { KeepsRounds C.shows tables.now seats.items (C.state clock.old) result (C.state clock.new) }
 {
     let mut counts = Counts {
         rolled: 0,

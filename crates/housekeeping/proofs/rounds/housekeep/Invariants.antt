@@ -7,4 +7,4 @@ abbrev pub invariant-loop : goal.invariant-loop
 invariant-loop g l =
     (length l.tables ≡ length l.seats.items)
     × ((count : ℕ) × (l.rounds ≡ min count (2 ^ 64 - 1))
-    × ByFirst (λ round. KeepsRound l.tables) count (record { seats = l.fn.seats.items; counts = record { rolled = 0; refused = 0 } }) (record { seats = l.seats.items; counts = l.counts }))
+    × ByFirst (λ round. KeepsRound g.C.Clock.shows l.tables) count (record { seats = l.fn.seats.items; clock = g.C.Clock.state l.fn.clock; counts = record { rolled = 0; refused = 0 } }) (record { seats = l.seats.items; clock = g.C.Clock.state l.clock; counts = l.counts }))

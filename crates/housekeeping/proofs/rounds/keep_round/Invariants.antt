@@ -6,5 +6,5 @@ use Rattle.housekeeping.proofs.rounds.keep_round.Given as goal
 abbrev pub invariant-loop-place : goal.invariant-loop-place
 invariant-loop-place g l = record {
   size : length l.tables ≡ length l.seats.items;
-  kept : ByFirst (KeepsPlace l.tables) l.place (record { seats = l.fn.seats.items; counts = l.fn.counts }) (record { seats = l.seats.items; counts = l.counts });
+  kept : ByFirst (KeepsPlace g.C.Clock.shows l.tables) l.place (record { seats = l.fn.seats.items; clock = g.C.Clock.state l.fn.clock; counts = l.fn.counts }) (record { seats = l.seats.items; clock = g.C.Clock.state l.clock; counts = l.counts });
 }
