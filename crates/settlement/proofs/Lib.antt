@@ -3,3 +3,5 @@ pub mod ListLemmas
 pub mod TicketLemmas
 pub mod ReplayLemmas
 pub mod ToldLemmas
+pub mod PassedLemmas
+pub mod LawLemmas

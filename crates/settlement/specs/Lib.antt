@@ -1,3 +1,4 @@
 pub mod Order
 pub mod Settled
 pub mod Faults
+pub mod Laws

@@ -1,5 +1,5 @@
 -- When the books of a table's shards are settled: they agree with what the callers keep.
-use Rattle.std.specs.Prelude.{◌≡◌, ℕ, nat_eq, Bool, true, List, Some, All, length, map, filter, sum_by, slice_get, IsPermutation}
+use Rattle.std.specs.Prelude.{◌≡◌, ℕ, ◌<◌, ◌≤◌, nat_eq, Bool, true, List, Some, All, length, map, filter, sum_by, slice_get, IsPermutation}
 use Rattle.table_model.specs.Key.{Key}
 use Rattle.table_model.specs.State.{State, empty_table}
 use Rattle.table_model.specs.Run.{StoredRun}
@@ -20,6 +20,14 @@ calls_made seats shard = sum_by (λ (seat : SeatState). calls_of seat shard) sea
 -- the tickets of the references to a shard
 abbrev pub shown : ℕ → List RefState → List Ticket
 shown shard refs = map (λ (reference : RefState). reference.ticket) (filter (λ (reference : RefState). nat_eq reference.shard shard) refs)
+
+-- the seats have called none but so many shards, the first ones. A seat knows of 64
+abbrev pub CallNoOther : ℕ → List SeatState → Type 0
+CallNoOther shards seats = (other : ℕ) → shards ≤ other → other < 64 → calls_made seats other ≡ 0
+
+-- the references are of these shards
+abbrev pub AreOfShards : ℕ → List RefState → Type 0
+AreOfShards shards refs = All (λ (reference : RefState). reference.shard < shards) refs
 
 -- ---- what a book has
 
@@ -67,7 +75,10 @@ pub record IsRecorded (part : Spec) (keep : Bool) (seats : List SeatState) (shar
 
 -- ---- all shards
 
+-- each shard is counted and recorded, and nothing is shown of others
 pub record AreSettled (specs : List Spec) (keep : Bool) (seats : List SeatState) (refs : List RefState) (books : List BookState) : Type 0 where
   pub shards : length books ≡ length specs
   pub counted : (shard : ℕ) (book : BookState) → slice_get books shard ≡ Some book → IsCounted seats refs shard book
   pub recorded : (shard : ℕ) (book : BookState) (part : Spec) → slice_get books shard ≡ Some book → slice_get specs shard ≡ Some part → IsRecorded part keep seats shard book
+  pub no_other_calls : CallNoOther (length books) seats
+  pub no_other_refs : AreOfShards (length books) refs

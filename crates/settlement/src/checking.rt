@@ -1,13 +1,12 @@
 //! Whether books are settled.
 
-ghost use Rattle.std.specs.Prelude.{◌≡◌, ◌≤◌, ◌<◌, ℕ, Bool, List, Some, length, slice_get, IfOk, OnOk, IfErr};
+ghost use Rattle.std.specs.Prelude.{◌≡◌, ◌≤◌, ◌<◌, ℕ, Some, length, slice_get, IfOk, OnOk, IfErr};
 ghost use Rattle.table_model.specs.declared.specification.Spec.{Spec};
 ghost use Rattle.shard_book.specs.BookState.{BookState};
-ghost use Rattle.shard_seats.specs.SeatState.{RefState};
-ghost use Rattle.settlement.specs.Settled.{AreSettled, IsCounted, IsRecorded, counts_in, tickets_in, tickets_of};
-ghost use Rattle.settlement.specs.Faults.{IsCountFault, IsFault, IsFaultOf, IsRecordFault};
+ghost use Rattle.settlement.specs.Settled.{AreOfShards, AreSettled, CallNoOther, IsCounted, IsRecorded, counts_in, tickets_in, tickets_of};
+ghost use Rattle.settlement.specs.Faults.{IsCountFault, IsCountFaultOf, IsFault, IsOtherFault, IsRecordFault, IsRecordFaultOf};
 
-use crate::counts::{adds_up, are_shown};
+use crate::counts::{adds_up, are_shown, strange_calls, strange_reference};
 use crate::found::found_in;
 use crate::telling::are_told;
 use crate::{Fault, Found, replay};
@@ -21,7 +20,8 @@ use stick_table::{Spec, Table, Ticket};
 /// `keep`, the seats' receipts are to be the record, call by call. Each book is compared in time that grows with its calls,
 /// its tickets and what is shown, but that tickets are sorted; where a record's slots are not those that a table of the
 /// book's own kind chooses, with its calls times its entries. Room for what is answered is taken first; then the calls and
-/// the references of each shard are counted, then the records are made again.
+/// the references of each shard are counted; then what is shown of shards that the table doesn't have is missed, calls first;
+/// then the records are made again. The first fault is told, and want of memory wherever it comes.
 pub fn check<T: Table>(
     alloc: Global,
     specs: &[Spec],
@@ -41,6 +41,8 @@ pub fn check<T: Table>(
         return Err(Fault::Memory);
     };
     check_counts(alloc, books, &found, seats, refs)?;
+    let shards = books.len() as u32;
+    check_others(shards, seats, refs)?;
     check_records(alloc, specs, keep, books, seats)?;
     Ok(found)
 }
@@ -77,7 +79,7 @@ fn check_count<T: Table>(
     requires shard { shard < 64 }
     requires tickets { tickets.now ≡ tickets_of book.now.live }
     ensures ok { OnOk result (IsCounted seats.now refs.now shard book.now) }
-    ensures err { IfErr result (λ fault. (part : Spec) (keep : Bool) → IsFaultOf part keep seats.now refs.now shard book.now fault) }
+    ensures err { IfErr result (IsCountFaultOf seats.now refs.now shard book.now) }
 {
     if !adds_up(book.events(), seats, shard) {
         return Err(Fault::MissingCalls(shard));
@@ -87,6 +89,22 @@ fn check_count<T: Table>(
         Ok(false) => Err(Fault::MissingRefs(shard)),
         Err(_) => Err(Fault::Memory),
     }
+}
+
+/// Whether nothing is shown of shards but so many, the first ones: no calls, and no references.
+fn check_others(shards: u32, seats: &[Seat], refs: &[TrackRef]) -> Result<(), Fault>
+    requires few { shards ≤ 64 }
+    ensures calls { OnOk result (CallNoOther shards seats.now) }
+    ensures refs { OnOk result (AreOfShards shards refs.now) }
+    ensures err { IfErr result (IsOtherFault seats.now refs.now shards) }
+{
+    if let Some(other) = strange_calls(shards, seats) {
+        return Err(Fault::MissingCalls(other));
+    }
+    if let Some(other) = strange_reference(shards, refs) {
+        return Err(Fault::MissingRefs(other));
+    }
+    Ok(())
 }
 
 /// Whether each shard's table is made as it should be, and its record is what the seats were told, where that is kept.
@@ -125,7 +143,7 @@ fn check_record<T: Table>(
     shard: u32,
 ) -> Result<(), Fault>
     ensures ok { OnOk result (IsRecorded part.now keep seats.now shard book.now) }
-    ensures err { IfErr result (λ fault. (refs : List RefState) → IsFaultOf part.now keep seats.now refs shard book.now fault) }
+    ensures err { IfErr result (IsRecordFaultOf part.now keep seats.now shard book.now) }
 {
     if !same_spec(book.live().spec(), part) {
         return Err(Fault::Mismatch(shard));

@@ -1,7 +1,7 @@
 //! The calls and the references of a shard, against those that are shown.
 
-ghost use Rattle.std.specs.Prelude.{◌≡◌, ◌<◌, ◌↔◌, IsTrue, IfOk, IsPermutation};
-ghost use Rattle.settlement.specs.Settled.{calls_made, shown};
+ghost use Rattle.std.specs.Prelude.{◌≡◌, ◌≢◌, ◌≤◌, ◌<◌, ◌↔◌, IsTrue, [], None, IfOk, IfSome, IsPermutation};
+ghost use Rattle.settlement.specs.Settled.{AreOfShards, CallNoOther, calls_made, shown};
 
 use crate::tickets::are_same;
 use sequence::NoMemory;
@@ -50,4 +50,32 @@ pub(crate) fn are_shown(
     let found = Vec::from_slice(alloc, tickets)?;
     let shown = shown_tickets(alloc, refs, shard)?;
     Ok(are_same(found, shown))
+}
+
+/// A shard, not among so many first ones, that the seats have called.
+pub(crate) fn strange_calls(shards: u32, seats: &[Seat]) -> Option<u32>
+    requires { shards ≤ 64 }
+    ensures none { result ≡ None → CallNoOther shards seats.now }
+    ensures some { IfSome result (λ shard. (shards ≤ shard) × (calls_made seats.now shard ≢ 0)) }
+{
+    for shard in shards..64 {
+        if !adds_up(0, seats, shard) {
+            return Some(shard);
+        }
+    }
+    None
+}
+
+/// A shard, not among so many first ones, of which there is a reference.
+pub(crate) fn strange_reference(shards: u32, refs: &[TrackRef]) -> Option<u32>
+    ensures none { result ≡ None → AreOfShards shards refs.now }
+    ensures some { IfSome result (λ shard. (shards ≤ shard) × (shown shard refs.now ≢ [])) }
+{
+    for reference in refs {
+        let other = reference.shard();
+        if other >= shards {
+            return Some(other);
+        }
+    }
+    None
 }

@@ -5,6 +5,7 @@ mod checking;
 mod counts;
 mod fault;
 mod found;
+pub mod laws;
 mod replaying;
 mod settling;
 mod telling;

@@ -3,7 +3,7 @@ use Rattle.std.specs.Prelude.{slice_get}
 use Rattle.shard_book.specs.BookState.{BookState}
 use Rattle.settlement.specs.Settled.{IsCounted}
 use Rattle.settlement.specs.Faults.{IsCountFault}
-use Rattle.settlement.proofs.FaultLemmas.{fault_of_any}
+use Rattle.settlement.proofs.FaultLemmas.{count_fault}
 use Rattle.settlement.proofs.ListLemmas.{below_next, get_at, in_range}
 use Rattle.settlement.proofs.checking.check_counts.Goals as goal
 
@@ -14,7 +14,7 @@ returns-in_err-check_count-clause-err g c =
     let book : BookState = c.index-books-shard.result in
     let at : slice_get books i ≡ Some book = get_at books i book c.loop-shard-test.true c.index-books-shard.is in
     let told : IsCountFault c.args.seats.now c.args.refs.now books c.in_err-check_count.field-0.0 =
-    record { any = λ specs keep same. fault_of_any specs keep c.args.seats.now c.args.refs.now books i book c.in_err-check_count.field-0.0 same at c.in_err-check_count.ensures.err } in
+    count_fault c.args.seats.now c.args.refs.now books i book c.in_err-check_count.field-0.0 at c.loop-shard.invariant c.in_err-check_count.ensures.err in
     search rules
 
 pub loop-shard-preserved : goal.loop-shard-preserved

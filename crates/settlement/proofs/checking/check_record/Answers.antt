@@ -14,7 +14,7 @@ are_told-requires g c =
     ap length c.as_slice.ensures.value ∙ stored_run_length b.base (stored_of b.calls) c.in-Ok.replies.items b.live c.in-Ok.ensures ∙ length-stored_of b.calls ∙ sym (ap length c.calls.ensures.calls)
 
 pub returns-then-not-are_told-clause-err : goal.returns-then-not-are_told-clause-err
-returns-then-not-are_told-clause-err g c = λ refs. (
+returns-then-not-are_told-clause-err g c = (
   refl,
   λ recorded.
       let b : BookState = c.args.book.now in

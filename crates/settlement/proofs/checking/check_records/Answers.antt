@@ -4,7 +4,7 @@ use Rattle.table_model.specs.declared.specification.Spec.{Spec}
 use Rattle.shard_book.specs.BookState.{BookState}
 use Rattle.settlement.specs.Settled.{IsRecorded}
 use Rattle.settlement.specs.Faults.{IsRecordFault}
-use Rattle.settlement.proofs.FaultLemmas.{fault_of}
+use Rattle.settlement.proofs.FaultLemmas.{record_fault}
 use Rattle.settlement.proofs.ListLemmas.{both_below_next, get_at, in_range}
 use Rattle.settlement.proofs.checking.check_records.Goals as goal
 
@@ -18,7 +18,7 @@ returns-in_err-check_record-clause-err g c =
     let at : slice_get books i ≡ Some book = get_at books i book c.loop-shard-test.true c.index-books-shard.is in
     let made : slice_get specs i ≡ Some part = get_at specs i part (omega (arith, c.requires.shards, c.loop-shard-test.true)) c.index-specs-shard.is in
     let told : IsRecordFault specs c.args.keep c.args.seats.now books c.in_err-check_record.field-0.0 =
-    record { any = λ refs. fault_of specs c.args.keep c.args.seats.now refs books i part book c.in_err-check_record.field-0.0 made at (c.in_err-check_record.ensures.err refs) } in
+    record_fault specs c.args.keep c.args.seats.now books i part book c.in_err-check_record.field-0.0 made at c.loop-shard.invariant c.in_err-check_record.ensures.err in
     search rules
 
 pub loop-shard-preserved : goal.loop-shard-preserved
