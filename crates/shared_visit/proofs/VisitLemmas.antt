@@ -18,48 +18,45 @@ use Rattle.admit_core.specs.declared.conn.Conn.{Conn}
 use Rattle.admit_core.specs.declared.need.Need.TheVariants.{Turn}
 use Rattle.connection_drive.proofs.MakeLemmas.{need_same}
 use Rattle.shared_drive.specs.DriveCode.{HasMoved, IsReady}
-use Rattle.shared_drive.specs.Moves.{Moves}
 use Rattle.shared_drive.specs.Tables.{AreShared}
 use Rattle.shared_drive.specs.declared.moved.Moved.{Moved}
 use Rattle.shared_drive.specs.declared.moved.Moved.TheVariants.{Kept}
 use Rattle.shared_drive.specs.declared.moved.Rested.TheVariants as rests
-use Rattle.shared_visit.specs.Visit.{Goes, GoesJudged, HasGone, HasGoneJudged, HasRested}
+use Rattle.shared_visit.specs.Visit.{Goes, GoesJudged, HasGone, HasGoneJudged, HasMovedOnce, HasRested, MovesOnce, Visit}
 
 -- one move more
-goes_more : (now : ℕ) → now < 2 ^ 62 → (tables : List ShardsState) (count : ℕ) (old middle new : List SeatState) (connection next after : Connection RefState) (moved : Moved) → Goes tables count old connection middle next → Moves now tables middle next new after moved
-    → Goes tables (suc count) old connection new after
-goes_more now moment tables zero old middle new connection next after moved goes moves = (
-  now,
-  moment,
-  new,
-  after,
-  moved,
-  subst (λ (seats : List SeatState). Moves now tables seats connection new after moved) goes.0 (subst (λ (c : Connection RefState). Moves now tables middle c new after moved) goes.1 moves),
-  (refl, refl),
-)
-goes_more now moment tables (suc count) old middle new connection next after moved goes moves =
-    (goes.0, goes.1, goes.2, goes.3, goes.4, goes.5, goes_more now moment tables count goes.2 middle new goes.3 next after moved goes.6 moves)
+goes_more : {C : Type 0} (shows : C → ℕ → C → Type 0) (tables : List ShardsState) (count : ℕ) (old middle new : Visit C) (moved : Moved) → Goes shows tables count old middle → MovesOnce shows tables middle new moved → Goes shows tables (suc count) old new
+goes_more shows tables zero old middle new moved goes moves = (new, moved, subst (λ visit. MovesOnce shows tables visit new moved) goes moves, refl)
+goes_more shows tables (suc count) old middle new moved goes moves = (goes.0, goes.1, goes.2, goes_more shows tables count goes.0 middle new moved goes.3 moves)
 
-pub gone_none : (tables : List ShardsState) (seats : List SeatState) (conn : Conn RefState) → HasGone tables seats conn seats conn
-gone_none tables seats conn connection stands = (0, connection, stands, (refl, refl))
+pub gone_none : {C : Type 0} (shows : C → ℕ → C → Type 0) (tables : List ShardsState) (seats : List SeatState) (conn : Conn RefState) (clock : C) → HasGone shows tables seats conn clock seats conn clock
+gone_none shows tables seats conn clock connection stands = (connection, stands, (0, refl))
 
-pub gone_more : (now : ℕ) → now < 2 ^ 62 → (tables : List ShardsState) (old middle new : List SeatState) (conn next later : Conn RefState) (moved : Moved) → HasGone tables old conn middle next → HasMoved now tables middle next new later moved
-    → HasGone tables old conn new later
-gone_more now moment tables old middle new conn next later moved gone moves connection stands =
+pub gone_more : {C : Type 0} (shows : C → ℕ → C → Type 0) (tables : List ShardsState) (old middle new : List SeatState) (conn next later : Conn RefState) (clock between shown : C) (moved : Moved)
+    → HasGone shows tables old conn clock middle next between → HasMovedOnce shows tables middle next between new later shown moved → HasGone shows tables old conn clock new later shown
+gone_more shows tables old middle new conn next later clock between shown moved gone moves connection stands =
     let so_far = gone connection stands in
-    let one = moves so_far.1 so_far.2 in
-    (suc so_far.0, one.0, one.1, goes_more now moment tables so_far.0 old middle new connection so_far.1 one.0 moved so_far.3 one.2)
+    let one = moves.3 so_far.0 so_far.1 in (
+      one.0,
+      one.1,
+      (
+        suc so_far.2.0,
+        goes_more shows tables so_far.2.0 (record { seats = old; connection = connection; clock = clock }) (record { seats = middle; connection = so_far.0; clock = between }) (record { seats = new; connection = one.0; clock = shown }) moved so_far.2.1 (moves.0, moves.1, moves.2, one.2),
+      ),
+    )
 
-pub gone_to_rest : (tables : List ShardsState) (old new : List SeatState) (conn later : Conn RefState) → is_still (needed later) ≡ true → HasGone tables old conn new later → HasRested tables old conn new later rests.Still
-gone_to_rest tables old new conn later still gone connection stands =
+pub gone_to_rest : {C : Type 0} (shows : C → ℕ → C → Type 0) (tables : List ShardsState) (old new : List SeatState) (conn later : Conn RefState) (clock shown : C) → is_still (needed later) ≡ true
+    → HasGone shows tables old conn clock new later shown → HasRested shows tables old conn clock new later shown rests.Still
+gone_to_rest shows tables old new conn later clock shown still gone connection stands =
     let all = gone connection stands in
-    (all.1, all.2, record { count = all.0; middle = new; last = all.1; goes = all.3; now = 0; moment = omega arith; still = (refl, refl, ap is_still (sym (need_same later all.1 all.2)) ∙ still) })
+    (all.0, all.1, record { count = all.2.0; last = record { seats = new; connection = all.0; clock = shown }; goes = all.2.1; still = (refl, ap is_still (sym (need_same later all.0 all.1)) ∙ still) })
 
-pub gone_kept : (now : ℕ) → now < 2 ^ 62 → (tables : List ShardsState) (old middle new : List SeatState) (conn next later : Conn RefState) → HasGone tables old conn middle next → HasMoved now tables middle next new later Kept → HasRested tables old conn new later rests.Kept
-gone_kept now moment tables old middle new conn next later gone moves connection stands =
+pub gone_kept : {C : Type 0} (shows : C → ℕ → C → Type 0) (tables : List ShardsState) (old middle new : List SeatState) (conn next later : Conn RefState) (clock between shown : C)
+    → HasGone shows tables old conn clock middle next between → HasMovedOnce shows tables middle next between new later shown Kept → HasRested shows tables old conn clock new later shown rests.Kept
+gone_kept shows tables old middle new conn next later clock between shown gone moves connection stands =
     let so_far = gone connection stands in
-    let one = moves so_far.1 so_far.2 in
-    (one.0, one.1, record { count = so_far.0; middle = middle; last = so_far.1; goes = so_far.3; now = now; moment = moment; still = one.2 })
+    let one = moves.3 so_far.0 so_far.1 in
+    (one.0, one.1, record { count = so_far.2.0; last = record { seats = middle; connection = so_far.0; clock = between }; goes = so_far.2.1; still = (moves.0, moves.1, moves.2, one.2) })
 
 -- ---- while it is judged
 
@@ -115,39 +112,31 @@ never_kept now tables old new conn later ready judged moves =
     some_none one.2.0 (sym none ∙ one.2.1))
 
 -- so it goes on while it is judged, one move more
-goes_judged_more : (now : ℕ) → now < 2 ^ 62 → (tables : List ShardsState) (count : ℕ) (old middle new : List SeatState) (connection next after : Connection RefState) (moved : Moved) → is_judged next.progress.phase ≡ true → moved ≢ Kept
-    → GoesJudged tables count old connection middle next → Moves now tables middle next new after moved → GoesJudged tables (suc count) old connection new after
-goes_judged_more now moment tables zero old middle new connection next after moved judged goes_on goes moves = (
-  subst (λ (c : Connection RefState). is_judged c.progress.phase ≡ true) goes.1 judged,
-  now,
-  moment,
-  new,
-  after,
-  moved,
-  goes_on,
-  subst (λ (seats : List SeatState). Moves now tables seats connection new after moved) goes.0 (subst (λ (c : Connection RefState). Moves now tables middle c new after moved) goes.1 moves),
-  (refl, refl),
-)
-goes_judged_more now moment tables (suc count) old middle new connection next after moved judged goes_on goes moves = (
-  goes.0,
-  goes.1,
-  goes.2,
-  goes.3,
-  goes.4,
-  goes.5,
-  goes.6,
-  goes.7,
-  goes_judged_more now moment tables count goes.3 middle new goes.4 next after moved judged goes_on goes.8 moves,
-)
+goes_judged_more : {C : Type 0} (shows : C → ℕ → C → Type 0) (tables : List ShardsState) (count : ℕ) (old middle new : Visit C) (moved : Moved) → is_judged middle.connection.progress.phase ≡ true → moved ≢ Kept
+    → GoesJudged shows tables count old middle → MovesOnce shows tables middle new moved → GoesJudged shows tables (suc count) old new
+goes_judged_more shows tables zero old middle new moved judged goes_on goes moves =
+    (subst (λ visit. is_judged visit.connection.progress.phase ≡ true) goes judged, new, moved, goes_on, subst (λ visit. MovesOnce shows tables visit new moved) goes moves, refl)
+goes_judged_more shows tables (suc count) old middle new moved judged goes_on goes moves =
+    (goes.0, goes.1, goes.2, goes.3, goes.4, goes_judged_more shows tables count goes.1 middle new moved judged goes_on goes.5 moves)
 
-pub judged_more : (now : ℕ) → now < 2 ^ 62 → (tables : List ShardsState) (old middle new : List SeatState) (conn next later : Conn RefState) (moved : Moved) → IsReady tables middle next → is_judged (progress_of next).phase ≡ true
-    → HasGoneJudged tables old conn middle next → HasMoved now tables middle next new later moved → HasGoneJudged tables old conn new later
-judged_more now moment tables old middle new conn next later moved ready judged gone moves connection stands =
+pub judged_none : {C : Type 0} (shows : C → ℕ → C → Type 0) (tables : List ShardsState) (seats : List SeatState) (conn : Conn RefState) (clock : C) → HasGoneJudged shows tables seats conn clock seats conn clock
+judged_none shows tables seats conn clock connection stands = (connection, stands, (0, refl))
+
+pub judged_more : {C : Type 0} (shows : C → ℕ → C → Type 0) (tables : List ShardsState) (old middle new : List SeatState) (conn next later : Conn RefState) (clock between shown : C) (moved : Moved) → IsReady tables middle next → is_judged (progress_of next).phase ≡ true
+    → HasGoneJudged shows tables old conn clock middle next between → HasMovedOnce shows tables middle next between new later shown moved → HasGoneJudged shows tables old conn clock new later shown
+judged_more shows tables old middle new conn next later clock between shown moved ready judged gone moves connection stands =
     let so_far = gone connection stands in
-    let one = moves so_far.1 so_far.2 in
-    let still_judged : is_judged so_far.1.progress.phase ≡ true = subst (λ (p : Progress RefState). is_judged p.phase ≡ true) so_far.2.progress judged in
-    let goes_on : moved ≢ Kept = λ kept. never_kept now tables middle new next later ready judged (subst (λ (m : Moved). HasMoved now tables middle next new later m) kept moves) in
-    (suc so_far.0, one.0, one.1, goes_judged_more now moment tables so_far.0 old middle new connection so_far.1 one.0 moved still_judged goes_on so_far.3 one.2)
+    let one = moves.3 so_far.0 so_far.1 in
+    let still_judged : is_judged so_far.0.progress.phase ≡ true = subst (λ (p : Progress RefState). is_judged p.phase ≡ true) so_far.1.progress judged in
+    let goes_on : moved ≢ Kept = λ kept. never_kept moves.0 tables middle new next later ready judged (subst (λ (m : Moved). HasMoved moves.0 tables middle next new later m) kept moves.3) in (
+      one.0,
+      one.1,
+      (
+        suc so_far.2.0,
+        goes_judged_more shows tables so_far.2.0 (record { seats = old; connection = connection; clock = clock }) (record { seats = middle; connection = so_far.0; clock = between }) (record { seats = new; connection = one.0; clock = shown }) moved still_judged goes_on
+            so_far.2.1 (moves.0, moves.1, moves.2, one.2),
+      ),
+    )
 
 -- ---- the tables and their seats
 

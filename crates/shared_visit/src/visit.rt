@@ -1,14 +1,15 @@
 //! A connection comes, is judged, and goes on until it stands still.
 
-ghost use Rattle.std.specs.Prelude.{◌≡◌, true, false};
+ghost use Rattle.std.specs.Prelude.{◌≡◌, ◌≢◌, ◌+◌, ◌≤◌, true, false};
 ghost use Rattle.rule_model.specs.declared.sections.Setup.{Setup as ASetup};
 ghost use Rattle.admit_core.specs.Conn.{needed, progress_of, Stands};
 ghost use Rattle.admit_core.specs.Connection.{arrived, is_judged as is_being_judged};
-ghost use Rattle.admit_core.specs.Left.{is_rest};
+ghost use Rattle.admit_core.specs.Left.{is_rest, is_still};
 ghost use Rattle.admit_core.specs.declared.need.Need.TheVariants.{Rest};
-ghost use Rattle.shared_drive.specs.DriveCode.{IsReady};
+ghost use Rattle.shared_drive.specs.DriveCode.{IsReady, moves_left};
 ghost use Rattle.shared_drive.specs.Tables.{AreShared};
-ghost use Rattle.shared_visit.specs.Visit.{HasGoneJudged, HasRested};
+ghost use Rattle.shared_drive.specs.declared.moved.Moved.TheVariants.{Kept};
+ghost use Rattle.shared_visit.specs.Visit.{HasGoneJudged, HasMovedOnce, HasRested};
 
 use admit_core::{Conn, Phase};
 use moments::Clock;
@@ -45,6 +46,25 @@ fn is_judged(conn: &Conn<'_, TrackRef>) -> bool
     }
 }
 
+/// Has a connection that isn't still go on by one move, at the moment that the clock shows then.
+fn move_once<T: Table, C: Clock>(
+    alloc: Global,
+    rt: &impl Wait,
+    tables: &[Shards<T>],
+    seats: &mut [Seat],
+    conn: &mut Conn<'_, TrackRef>,
+    clock: &mut C,
+) -> Moved
+    requires wants { is_still (needed conn.old) ≡ false }
+    requires ready { IsReady tables.now seats.old conn.old }
+    ensures ready { IsReady tables.now seats.new conn.new }
+    ensures moved { HasMovedOnce C.shows tables.now seats.old conn.old (C.state clock.old) seats.new conn.new (C.state clock.new) result }
+    ensures left { result ≢ Kept → moves_left conn.new + 1 ≤ moves_left conn.old }
+{
+    let moment = clock.now();
+    advance(alloc, rt, tables, seats, conn, moment)
+}
+
 /// Has a connection go on until its rules have judged it, each move at the moment that the clock shows then; answers whether
 /// it is admitted, and waits to be closed. A rejected one still holds its references.
 pub fn judge<T: Table, C: Clock>(
@@ -57,15 +77,14 @@ pub fn judge<T: Table, C: Clock>(
 ) -> bool
     requires ready { IsReady tables.now seats.old conn.old }
     ensures ready { IsReady tables.now seats.new conn.new }
-    ensures gone { HasGoneJudged tables.now seats.old conn.old seats.new conn.new }
+    ensures gone { HasGoneJudged C.shows tables.now seats.old conn.old (C.state clock.old) seats.new conn.new (C.state clock.new) }
     ensures judged { is_being_judged (progress_of conn.new).phase ≡ false }
     ensures admitted { result ≡ is_rest (needed conn.new) }
     ensures rests { result ≡ true → needed conn.new ≡ Rest }
     ensures shared { (setup : ASetup) → AreShared setup tables.now seats.old → AreShared setup tables.now seats.new }
 {
     while is_judged(conn) {
-        let moment = clock.now();
-        match advance(alloc, rt, tables, seats, conn, moment) {
+        match move_once(alloc, rt, tables, seats, conn, clock) {
             Moved::Kept => unreachable!(),
             Moved::Answered | Moved::Turned | Moved::Refused => {}
         }
@@ -85,12 +104,11 @@ pub fn finish<T: Table, C: Clock>(
 ) -> Rested
     requires ready { IsReady tables.now seats.old conn.old }
     ensures ready { IsReady tables.now seats.new conn.new }
-    ensures rested { HasRested tables.now seats.old conn.old seats.new conn.new result }
+    ensures rested { HasRested C.shows tables.now seats.old conn.old (C.state clock.old) seats.new conn.new (C.state clock.new) result }
     ensures shared { (setup : ASetup) → AreShared setup tables.now seats.old → AreShared setup tables.now seats.new }
 {
     while !conn.is_still() {
-        let moment = clock.now();
-        match advance(alloc, rt, tables, seats, conn, moment) {
+        match move_once(alloc, rt, tables, seats, conn, clock) {
             Moved::Kept => return Rested::Kept,
             Moved::Answered | Moved::Turned | Moved::Refused => {}
         }

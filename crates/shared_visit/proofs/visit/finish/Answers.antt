@@ -1,20 +1,28 @@
 use Rattle.std.proofs.Common.{◌∙◌, sym, subst}
-use Rattle.shared_drive.specs.DriveCode.{HasMoved}
+use Rattle.shared_visit.specs.Visit.{HasMovedOnce}
 use Rattle.shared_visit.proofs.VisitLemmas.{gone_kept, gone_more, gone_to_rest}
 use Rattle.shared_visit.proofs.visit.finish.Goals as goal
 
 pub returns-in-Kept-clause-rested : goal.returns-in-Kept-clause-rested
 returns-in-Kept-clause-rested g c =
     let loop = c.loop-alloc in
-    gone_kept c.now-moment.result c.now-moment.ensures.bound c.args.tables.now c.args.seats.now loop.seats c.advance.new.seats c.args.conn.now loop.conn c.advance.new.conn loop.invariant.gone
-    (subst (λ moved. HasMoved c.now-moment.result c.args.tables.now loop.seats loop.conn c.advance.new.seats c.advance.new.conn moved) c.in-Kept.is c.advance.ensures.moved)
+    let state = g.C.Clock.state in
+    let once = c.move_once in
+    gone_kept g.C.Clock.shows c.args.tables.now c.args.seats.now loop.seats once.new.seats c.args.conn.now loop.conn once.new.conn (state c.args.clock.now) (state loop.clock) (state once.new.clock) loop.invariant.gone
+    (subst (λ moved. HasMovedOnce g.C.Clock.shows c.args.tables.now loop.seats loop.conn (state loop.clock) once.new.seats once.new.conn (state once.new.clock) moved) c.in-Kept.is once.ensures.moved)
 
 pub loop-alloc-preserved : goal.loop-alloc-preserved
-loop-alloc-preserved g c = record {
-  ready = c.advance.ensures.ready;
-  gone = gone_more c.now-moment.result c.now-moment.ensures.bound c.args.tables.now c.args.seats.now c.loop-alloc.seats c.advance.new.seats c.args.conn.now c.loop-alloc.conn c.advance.new.conn c.advance.result c.loop-alloc.invariant.gone c.advance.ensures.moved;
-}
+loop-alloc-preserved g c =
+    let loop = c.loop-alloc in
+    let state = g.C.Clock.state in
+    let once = c.move_once in
+    record {
+      ready = once.ensures.ready;
+      gone = gone_more g.C.Clock.shows c.args.tables.now c.args.seats.now loop.seats once.new.seats c.args.conn.now loop.conn once.new.conn (state c.args.clock.now) (state loop.clock) (state once.new.clock) once.result loop.invariant.gone once.ensures.moved;
+    }
 
 pub returns-clause-rested : goal.returns-clause-rested
 returns-clause-rested g c =
-    gone_to_rest c.args.tables.now c.args.seats.now c.loop-alloc.seats c.args.conn.now c.loop-alloc.conn (sym c.is_still.ensures ∙ c.loop-alloc-test.false) c.loop-alloc.invariant.gone
+    let loop = c.loop-alloc in
+    let state = g.C.Clock.state in
+    gone_to_rest g.C.Clock.shows c.args.tables.now c.args.seats.now loop.seats c.args.conn.now loop.conn (state c.args.clock.now) (state loop.clock) (sym c.is_still.ensures ∙ c.loop-alloc-test.false) loop.invariant.gone

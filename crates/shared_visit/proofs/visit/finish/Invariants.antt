@@ -6,7 +6,7 @@ use Rattle.shared_visit.proofs.visit.finish.Given as goal
 abbrev pub invariant-loop-alloc : goal.invariant-loop-alloc
 invariant-loop-alloc g l = record {
   ready : IsReady l.tables l.seats l.conn;
-  gone : HasGone l.tables l.fn.seats l.fn.conn l.seats l.conn;
+  gone : HasGone g.C.Clock.shows l.tables l.fn.seats l.fn.conn (g.C.Clock.state l.fn.clock) l.seats l.conn (g.C.Clock.state l.clock);
 }
 
 abbrev pub decreases-loop-alloc : goal.decreases-loop-alloc
