@@ -208,34 +208,47 @@ fn a_reference_of_another_table_is_stale(rt: HostRuntime) -> Result<(), Fail> {
 }
 
 /// What a table refuses a seat that has seen three events of another.
-fn refused_after(rt: &impl Wait, desk: &mut Desk, fresh: &Shards<PlainTable>) -> Said {
+fn refused_after(rt: &impl Wait, desk: &mut Desk, other: &Shards<PlainTable>) -> Said {
     for _ in 0..3u32 {
         if desk.say(rt, 0, Ask::Expire(0)) != Said::Expired(0) {
             return Said::Other;
         }
     }
-    say(rt, desk.alloc, fresh, &mut desk.seat, 0, Ask::Expire(0))
+    say(rt, desk.alloc, other, &mut desk.seat, 0, Ask::Expire(0))
 }
 
-/// What a fresh table refuses a seat that has seen three events of this one.
-fn refused_by_fresh(rt: &impl Wait, desk: &mut Desk, keep: bool) -> Said {
-    match Desk::open(desk.alloc, 1, keep) {
-        Ok(fresh) => refused_after(rt, desk, &fresh.table),
-        Err(_) => Said::Other,
+/// A table that has counted two events of its own seat.
+fn begun(rt: &impl Wait, alloc: Global, keep: bool) -> Option<Desk> {
+    let Ok(mut desk) = Desk::open(alloc, 1, keep) else {
+        return None;
+    };
+    for _ in 0..2u32 {
+        if desk.say(rt, 0, Ask::Expire(0)) != Said::Expired(0) {
+            return None;
+        }
+    }
+    Some(desk)
+}
+
+/// What a table of two events refuses a seat that has seen three events of this one.
+fn refused_by_begun(rt: &impl Wait, desk: &mut Desk, keep: bool) -> Said {
+    match begun(rt, desk.alloc, keep) {
+        Some(other) => refused_after(rt, desk, &other.table),
+        None => Said::Other,
     }
 }
 
-/// What a fresh table refuses a seat that has seen three events of another.
+/// What a table of two events refuses a seat that has seen three events of another.
 fn behind(rt: &impl Wait, alloc: Global, keep: bool) -> Said {
     match Desk::open(alloc, 1, keep) {
-        Ok(mut desk) => refused_by_fresh(rt, &mut desk, keep),
+        Ok(mut desk) => refused_by_begun(rt, &mut desk, keep),
         Err(_) => Said::Other,
     }
 }
 
 #[test]
 fn a_table_that_has_counted_less_is_behind(rt: HostRuntime) -> Result<(), Fail> {
-    let wanted = Said::Refused(Refusal::Behind { count: 0, front: 3 });
+    let wanted = Said::Refused(Refusal::Behind { count: 2, front: 3 });
     assert!(rt; behind(&rt, rt.alloc(), false) == wanted);
     assert!(rt; behind(&rt, rt.alloc(), true) == wanted);
     Ok(())

@@ -12,6 +12,8 @@ mod commands;
 #[cfg(test)]
 mod holding;
 #[cfg(test)]
+mod joining;
+#[cfg(test)]
 mod replay;
 #[cfg(test)]
 mod rolls;

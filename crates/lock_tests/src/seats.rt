@@ -217,11 +217,11 @@ fn release(book: &mut Book<PlainTable>, seat: &mut Seat, ticket: Ticket) -> Opti
 }
 
 /// Whether a book of three events, one of which makes a reference, refuses each other event as it has to; and so does a
-/// fresh book.
+/// book of one event.
 fn is_refused(
     alloc: Global,
     book: &mut Book<PlainTable>,
-    fresh: &mut Book<PlainTable>,
+    other: &mut Book<PlainTable>,
     seat: &mut Seat,
 ) -> bool {
     let Some(ticket) = track(alloc, book, seat) else {
@@ -231,17 +231,24 @@ fn is_refused(
         && expiry(book, seat) == Some(Refusal::Exhausted)
         && release(book, seat, ticket).is_none()
         && release(book, seat, ticket) == Some(Refusal::Stale)
-        && release(fresh, seat, ticket) == Some(Refusal::Behind { count: 0, front: 3 })
+        && release(other, seat, ticket) == Some(Refusal::Behind { count: 1, front: 3 })
         && counts_of(seat, 7) == (3, 3)
-        && events_of(fresh) == 0
+        && events_of(other) == 1
 }
 
-/// Whether that is so of a new seat, this book and a fresh one.
+/// A book that has counted one event.
+fn begun(alloc: Global) -> Result<Book<PlainTable>, Refusal> {
+    let mut book = open(alloc, 3)?;
+    book.call(9, Event::Expire(0))?;
+    Ok(book)
+}
+
+/// Whether that is so of a new seat, this book and one that has counted one event.
 fn is_refused_by(alloc: Global, book: &mut Book<PlainTable>, keeps: bool) -> bool {
-    match open(alloc, 3) {
-        Ok(mut fresh) => {
+    match begun(alloc) {
+        Ok(mut other) => {
             let mut seat = Seat::new(alloc, 0, keeps);
-            is_refused(alloc, book, &mut fresh, &mut seat)
+            is_refused(alloc, book, &mut other, &mut seat)
         }
         Err(_) => false,
     }

@@ -77,7 +77,7 @@ fn call_both(
 }
 
 /// A table and its two seats, by which both shards were called at these moments, and the reference that is out.
-fn called(
+pub fn called(
     rt: &impl Wait,
     alloc: Global,
     keep: bool,
@@ -101,7 +101,7 @@ pub fn unsettled(alloc: Global, opened: Opened, held: &[Held], wanted: Fault) ->
 }
 
 /// A table, and its seats but for one, and that seat.
-fn left_out(opened: Opened, place: usize) -> Option<(Opened, Seat)> {
+pub fn left_out(opened: Opened, place: usize) -> Option<(Opened, Seat)> {
     let (table, mut seats) = opened;
     if place < seats.len() {
         let left_out = seats.remove(place);
@@ -121,7 +121,7 @@ pub fn with_seat(opened: Opened, seat: Seat) -> Option<Opened> {
 }
 
 /// The same with a seat left out, which is shown behind the others then.
-fn unsettled_without(
+pub fn unsettled_without(
     alloc: Global,
     opened: Opened,
     place: usize,
@@ -159,7 +159,7 @@ fn settles(
 }
 
 /// The same where two events of the first shard and one of the second are counted, and the reference is out.
-fn settles_called(alloc: Global, opened: Opened, held: Held) -> bool {
+pub fn settles_called(alloc: Global, opened: Opened, held: Held) -> bool {
     settles(alloc, opened, &[held], [2, 1], [1, 0])
 }
 

@@ -11,6 +11,8 @@ mod clocks;
 #[cfg(test)]
 mod counting_clock;
 #[cfg(test)]
+mod expiries;
+#[cfg(test)]
 mod faults;
 #[cfg(test)]
 mod records;
@@ -20,5 +22,7 @@ mod rounds;
 mod setups;
 #[cfg(test)]
 mod threads;
+#[cfg(test)]
+mod two_faults;
 #[cfg(test)]
 mod visits;

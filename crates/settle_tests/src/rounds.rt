@@ -19,8 +19,17 @@ use stick_table::{PlainTable, Reply, Row};
 
 /// A pace of so many rounds.
 #[derive(Drop)]
-struct Rounds {
+pub struct Rounds {
     left: AtomicU64,
+}
+
+impl Rounds {
+    /// A pace of so many rounds.
+    pub fn new(rounds: u64) -> Rounds {
+        Rounds {
+            left: AtomicU64::new(rounds),
+        }
+    }
 }
 
 impl Pace for Rounds {
@@ -50,7 +59,7 @@ fn open_one(alloc: Global, keep: bool) -> Option<(Shards<PlainTable>, Seat)> {
 }
 
 /// A list of one seat.
-fn alone(alloc: Global, seat: Seat) -> Option<Vec<Seat>>
+pub fn alone(alloc: Global, seat: Seat) -> Option<Vec<Seat>>
     ensures { IfSome result (λ seats. length seats.items ≡ 1) }
 {
     let mut seats = Vec::new(alloc);
@@ -158,9 +167,7 @@ fn count_rounds(
     rounds: u64,
     roll_at: u64,
 ) -> Option<(Counted, Seat)> {
-    let pace = Rounds {
-        left: AtomicU64::new(rounds),
-    };
+    let pace = Rounds::new(rounds);
     let seats = alone(alloc, seat)?;
     let Kept {
         rounds,
