@@ -4,7 +4,7 @@ use Rattle.std.specs.Option.{option_map_or}
 use Rattle.std.proofs.lemmas.List.Sums.{count_by-le-length, fold-append}
 use Rattle.stored_data.specs.declared.field.Field.{Field}
 use Rattle.table_model.specs.State.{State, stays}
-use Rattle.table_model.specs.Step.{Outcome, Step, begun, listed, cleared}
+use Rattle.table_model.specs.Step.{Outcome, Step, begun, listed, cleared, shows_rows}
 use Rattle.table_model.specs.Legal.{IsLegal}
 use Rattle.table_model.specs.Limits.{IsTableSpec}
 use Rattle.table_model.specs.Filters.{not_stored, is_matched}
@@ -104,3 +104,17 @@ pub so_far_counted-more : (so_far : Option Reply) (reply all : Reply) (rest left
 so_far_counted-more so_far reply all rest left n is gives few before here =
     let one_more : n - length rest + 1 ≡ n - length left = omega (arith, ap length is, few) in
     subst (IsCounted ((n - length left) * 2 ^ 30)) (sym gives) (subst (λ k. IsCounted (k * 2 ^ 30) (together so_far reply)) one_more (counted-more (n - length rest) so_far reply before here))
+
+-- ---- where it is rows that come of it
+
+both_shows : (first second : Reply) → shows_rows first ≡ true → shows_rows (both first second) ≡ true
+both_shows first second h = search rules
+
+fold_shows : (first : Reply) (rest : List Reply) → shows_rows first ≡ true → shows_rows (fold both first rest) ≡ true
+fold_shows first [] h = h
+fold_shows first (reply ∷ rest) h = fold_shows (both first reply) rest (both_shows first reply h)
+
+-- where the replies so far and the next one come to rows, all do
+pub total_shows : (so_far : Option Reply) (reply : Reply) (rest left all : List Reply) → rest ≡ reply ∷ left → total_from so_far rest ≡ total all → shows_rows (together so_far reply) ≡ true → shows_rows (total all) ≡ true
+total_shows None reply rest left all is same h = subst (λ r. shows_rows r ≡ true) (ap total (sym is) ∙ same) (fold_shows reply left h)
+total_shows (Some before) reply rest left all is same h = subst (λ r. shows_rows r ≡ true) (ap (fold both before) (sym is) ∙ same) (fold_shows (both before reply) left h)

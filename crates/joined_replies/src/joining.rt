@@ -25,6 +25,7 @@ fn both(first: Reply, second: Reply) -> Result<Reply, NoMemory>
     requires second { IsCounted (2 ^ 62) second }
     ensures both { IfOk result (λ reply. reply ≡ specified_both first second) }
     ensures memory { OnErr result (shows_rows second ≡ true) }
+    ensures rows { OnErr result (shows_rows (specified_both first second) ≡ true) }
 {
     match (first, second) {
         (
@@ -54,12 +55,13 @@ fn both(first: Reply, second: Reply) -> Result<Reply, NoMemory>
     }
 }
 
-/// The replies so far, if there are any, and one more. Only rows want memory.
+/// The replies so far, if there are any, and one more. Only rows want memory, and only where it is rows that come of it.
 pub fn added(so_far: Option<Reply>, reply: Reply) -> Result<Reply, NoMemory>
     requires so_far { IfSome so_far (IsCounted (2 ^ 62)) }
     requires reply { IsCounted (2 ^ 62) reply }
     ensures added { IfOk result (λ all. all ≡ together so_far reply) }
     ensures memory { OnErr result (shows_rows reply ≡ true) }
+    ensures rows { OnErr result (shows_rows (together so_far reply) ≡ true) }
 {
     match so_far {
         None => Ok(reply),
@@ -74,7 +76,8 @@ pub fn added(so_far: Option<Reply>, reply: Reply) -> Result<Reply, NoMemory>
 fn total_of(replies: Vec<Reply>) -> Result<Reply, NoMemory>
     requires few { length replies.items ≤ 2 ^ 32 }
     requires counted { All (IsCounted (2 ^ 30)) replies.items }
-    ensures { IfOk result (λ reply. reply ≡ total replies.items) }
+    ensures total { IfOk result (λ reply. reply ≡ total replies.items) }
+    ensures memory { OnErr result (shows_rows (total replies.items) ≡ true) }
 {
     let mut so_far = None;
     for reply in replies {
@@ -86,11 +89,13 @@ fn total_of(replies: Vec<Reply>) -> Result<Reply, NoMemory>
     }
 }
 
-/// What the replies of all shards come to, rows in the order of their keys; `Absent`, where there is none.
+/// What the replies of all shards come to, rows in the order of their keys; `Absent`, where there is none. Only rows want
+/// memory: where the first reply has none, whatever the later ones are, this doesn't fail.
 pub fn joined(replies: Vec<Reply>) -> Result<Reply, NoMemory>
     requires few { length replies.items ≤ 2 ^ 32 }
     requires counted { All (IsCounted (2 ^ 30)) replies.items }
-    ensures { IfOk result (IsShown (total replies.items)) }
+    ensures shown { IfOk result (IsShown (total replies.items)) }
+    ensures memory { OnErr result (shows_rows (total replies.items) ≡ true) }
 {
     match total_of(replies) {
         Ok(reply) => in_key_order(reply),

@@ -13,4 +13,4 @@ joined-requires-clause-counted g c = told_by_counted c.args.self.now.shards c.ar
 pub listing_of-requires : goal.listing_of-requires
 listing_of-requires g c =
     joined_listing c.args.self.now.shards c.args.seat.now c.list_each.new.seat c.args.now c.args.filter.now c.in-Ok.replies.items c.in-Ok-joined.reply (omega (arith, c.shards-shards.ensures.shards, c.shards-shards.ensures.some))
-    c.in-Ok.ensures.told c.in-Ok-joined.ensures
+    c.in-Ok.ensures.told c.in-Ok-joined.ensures.shown
