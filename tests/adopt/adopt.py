@@ -243,7 +243,7 @@ def main():
     parser.add_argument('--program', default=f'{STICKD} adopt', help='the words that adopt a file')
     parser.add_argument('--check', default=STICKD, help='the program that checks; none where this is empty')
     parser.add_argument('files', nargs='*')
-    given = parser.parse_args()
+    given = parser.parse_intermixed_args()
     adopter = Adopter(given.program.split(), [given.check] if given.check else [])
     if given.what == 'rows':
         good = try_rows(adopter)

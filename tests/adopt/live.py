@@ -56,7 +56,7 @@ class Greeter:
                 pass
 
 
-ADDRESS = re.compile(r'(?<![\w.])(\d{1,3})\.(\d{1,3}\.\d{1,3}\.\d{1,3})(/\d+)?(?![\w.])')
+ADDRESS = re.compile(r'(?<![\w./])(\d{1,3})\.(\d{1,3}\.\d{1,3}\.\d{1,3})(/\d+)?(?![\w.])')
 
 
 def on_loopback(found):
@@ -96,7 +96,8 @@ def prepare(text, port, server):
             host = '[::]' if words[1].startswith('[::]') else host
             line = f'    bind {host}:{here} {" ".join(words[2:])}'
         elif first == 'server':
-            line = f'    server {words[1]} 127.0.0.1:{server} {" ".join(words[3:])}'
+            # The server greets and says nothing else, so a check of a protocol would find it down.
+            line = f'    server {words[1]} 127.0.0.1:{server} {" ".join(it for it in words[3:] if it != "check")}'
         elif words[:2] == ['tcp-request', 'inspect-delay']:
             line = '    tcp-request inspect-delay 500ms'
         elif first in ('acl', 'tcp-request'):
