@@ -31,6 +31,20 @@ Prints 'valid: T tables, R rules'; or the first fault with the number of its lin
 with a warning each on standard error, are sections global and defaults, lines that
 begin with option, timeout, balance, maxconn or log, and words behind a server's address.";
 
+/// What `stickd adopt --help` says last.
+const ADOPT_HELP: &str = "\
+Writes to standard output the configuration that stickd runs in place of FILE: its lines,
+in order, each as it is, rewritten, or left out as a comment with the reason. The first
+line is the command line, as a comment. Standard error says what became of each line:
+  kept
+  rewritten: LINE
+  lost without harm: REASON
+  rewritten, with a change of what is served: REASON
+  lost with a change of what is served: REASON
+The status is 0 where what is served is the same, and 1 where FILE can't be read or
+adopted. It is 3 where what is served changes, and nothing is written then without
+--anyway.";
+
 /// What `stickd replay --help` says last.
 const REPLAY_HELP: &str = "\
 Each line is a moment in ms and what is done at it:
@@ -93,14 +107,21 @@ fn file_argument<'a>(alloc: Global, required: bool, help: &'a str) -> Arg<'a> {
     Arg::new(alloc, "FILE").required(required).help(help)
 }
 
+/// An option that has no value.
+fn flag_option<'a>(alloc: Global, name: &'a str, help: &'a str) -> Arg<'a> {
+    Arg::new(alloc, name)
+        .long(name)
+        .action(ArgAction::SetTrue)
+        .help(help)
+}
+
 /// The option that asks for an explanation of each fault.
 fn explain_option<'a>(alloc: Global) -> Arg<'a> {
-    Arg::new(alloc, "explain")
-        .long("explain")
-        .action(ArgAction::SetTrue)
-        .help(
-            "Show the line below a fault or a warning, and say what commonly causes it, or what is lost",
-        )
+    flag_option(
+        alloc,
+        "explain",
+        "Show the line below a fault or a warning, and say what commonly causes it, or what is lost",
+    )
 }
 
 /// `stickd check`.
@@ -113,6 +134,46 @@ fn check_command<'a>(alloc: Global) -> Result<Command<'a>, AllocError> {
         file_argument(alloc, true, "The configuration"),
     );
     add_argument(command, explain_option(alloc))
+}
+
+/// `stickd adopt`.
+fn adopt_command<'a>(alloc: Global) -> Result<Command<'a>, AllocError> {
+    let command = file_command(
+        alloc,
+        "adopt",
+        "Write the configuration that stickd runs in place of HAProxy's",
+        ADOPT_HELP,
+        file_argument(alloc, true, "The configuration of HAProxy"),
+    );
+    let command = add_argument(
+        command,
+        flag_option(
+            alloc,
+            "anyway",
+            "Write it also where what is served changes",
+        ),
+    );
+    let command = add_argument(
+        command,
+        flag_option(
+            alloc,
+            "command",
+            "Write the command line that runs it, and nothing else",
+        ),
+    );
+    let command = add_argument(
+        command,
+        flag_option(alloc, "first-server", "Keep the first of several servers"),
+    );
+    add_argument(
+        command,
+        value_option(
+            alloc,
+            "frontend",
+            "NAME",
+            "The frontend or listen section to serve [default: the first]",
+        ),
+    )
 }
 
 /// `stickd replay`.
@@ -389,7 +450,8 @@ fn bare_program<'a>(alloc: Global) -> Command<'a> {
 
 /// `stickd` and its subcommands.
 fn program_command<'a>(alloc: Global) -> Result<Command<'a>, AllocError> {
-    let command = add_subcommand(bare_program(alloc), check_command(alloc))?;
+    let command = add_subcommand(bare_program(alloc), adopt_command(alloc))?;
+    let command = add_subcommand(command, check_command(alloc))?;
     let command = add_subcommand(command, replay_command(alloc))?;
     add_subcommand(command, run_command(alloc))
 }

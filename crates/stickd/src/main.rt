@@ -5,6 +5,9 @@ ghost use Rattle.std.specs.Prelude.{◌≤◌};
 
 mod run_plan;
 
+use adopt::{Asked, adopt_file};
+use adopt_plan::Wishes;
+use adopt_words::text_of;
 use byte_ports::{StreamSink, StreamSource};
 use clap::ArgMatches;
 use command_line::{Keeping, read_command_line, read_keeping};
@@ -16,7 +19,7 @@ use script::{BadLines, FaultKind, ReplayFault, replay_script};
 use std::net::{Net, TcpListener, TcpStream};
 use std::process::ExitCode;
 use std::random::RandomSource;
-use std::rt::Files;
+use std::rt::{Env, Files};
 use std::sync::Wait;
 use std::thread::Threads;
 use std::time::Clock;
@@ -67,6 +70,7 @@ fn run<
         + Sync
         + RandomSource
         + Files
+        + Env
         + Input
         + Print
         + Eprint
@@ -93,11 +97,12 @@ fn run<
 }
 
 /// Does what a command asks. The status is 1 where that fails, which is then said on standard error.
-fn run_command<R: ProxyRuntime + RandomSource + Files + Input + Print + Eprint + AllocGlobal>(
+fn run_command<R: ProxyRuntime + RandomSource + Files + Env + Input + Print + Eprint + AllocGlobal>(
     rt: &R,
     matches: &ArgMatches<'_>,
 ) -> io::Result<ExitCode> {
     let done = match matches.subcommand() {
+        Some(("adopt", arguments)) => return adopt_named(rt, arguments),
         Some(("check", arguments)) => check(rt, arguments)?,
         Some(("run", arguments)) => return serve(rt, arguments),
         Some((_, arguments)) => replay(rt, arguments.get_str("FILE"), read_keeping(arguments))?,
@@ -113,6 +118,28 @@ fn status_of(is_done: bool) -> ExitCode {
     } else {
         ExitCode::FAILURE
     }
+}
+
+/// Writes what stickd runs in place of a configuration of HAProxy.
+fn adopt_named<R: Files + Env + Print + Eprint + AllocGlobal>(
+    rt: &R,
+    arguments: &ArgMatches<'_>,
+) -> io::Result<ExitCode> {
+    let frontend = match arguments.get_str("frontend") {
+        Some(name) => Some(text_of(rt.alloc(), name)?),
+        None => None,
+    };
+    let wishes = Wishes {
+        frontend,
+        first_server: arguments.get_flag("first-server"),
+    };
+    let asked = Asked {
+        wishes,
+        anyway: arguments.get_flag("anyway"),
+        command: arguments.get_flag("command"),
+    };
+    let path = arguments.get_str("FILE").unwrap_or("");
+    Ok(ExitCode::from(adopt_file(rt, path, &asked)?))
 }
 
 /// Says what a configuration has.

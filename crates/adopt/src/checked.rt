@@ -1,0 +1,22 @@
+//! What is written, read by the program that is to run it.
+
+ghost use Rattle.std.specs.Prelude.{◌≡◌, OnOk, IfOk, IsNone, None};
+ghost use Rattle.adopt.specs.Checked.{IsTaken};
+
+use rule_config::read_config;
+use rule_model::ReadError;
+use sequence::NoMemory;
+use std::alloc::Global;
+
+/// The first line that stickd doesn't read, or reads past with a warning, from 1. None where it takes the whole text.
+pub(crate) fn first_fault(alloc: Global, text: &[u8]) -> Result<Option<u64>, NoMemory>
+    ensures { IfOk result (λ found. found ≡ None → IsTaken text.now) }
+{
+    match read_config(alloc, text) {
+        Ok(config) => Ok(config.warnings.as_slice().first().copied()),
+        Err(fault) => match fault.kind {
+            ReadError::OutOfMemory => Err(NoMemory),
+            ReadError::Wrong(_) => Ok(Some(fault.line)),
+        },
+    }
+}
