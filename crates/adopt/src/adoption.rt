@@ -54,9 +54,9 @@ fn has_command(lines: &[SourceLine]) -> bool {
 }
 
 /// The lines in front of those of the file: the command line as a comment, unless it is there.
-fn heading(alloc: Global, lines: &[SourceLine], command: &[u8]) -> Result<Vec<u8>, NoMemory> {
+fn heading(alloc: Global, is_there: bool, command: &[u8]) -> Result<Vec<u8>, NoMemory> {
     let mut text = Vec::new(alloc);
-    if has_command(lines) {
+    if is_there {
         return Ok(text);
     }
     let mut line = text_of(alloc, "# ")?;
@@ -219,12 +219,23 @@ fn fates_for(
     alloc: Global,
     plan: &Plan,
     options: &[CommandOption],
-    text: &[u8],
+    was_adopted: bool,
 ) -> Result<Vec<Fate>, NoMemory> {
-    if is_adopted(alloc, plan.lines.as_slice(), text)? {
+    if was_adopted {
         return Ok(Vec::new(alloc));
     }
     fates_of(alloc, plan, options)
+}
+
+/// The command line: that of the first line where the file was adopted already, else one of these options.
+fn command_for(
+    alloc: Global,
+    lines: &[SourceLine],
+    options: &[CommandOption],
+    was_adopted: bool,
+) -> Result<Vec<u8>, NoMemory> {
+    let first = if was_adopted { first_raw(lines) } else { None };
+    command_of(alloc, first, options)
 }
 
 /// Adopts a file, by these variables of the environment, these files of patterns and wishes. None where stickd doesn't
@@ -247,9 +258,15 @@ pub fn adopt(
     let lines = read_lines(alloc, text, environment)?;
     let plan = make_plan(alloc, lines, files, wishes)?;
     let options = command_options(alloc, &plan)?;
-    let fates = fates_for(alloc, &plan, options.as_slice(), text)?;
-    let command = command_of(alloc, first_raw(plan.lines.as_slice()), options.as_slice())?;
-    let head = heading(alloc, plan.lines.as_slice(), command.as_slice())?;
+    let was_adopted = is_adopted(alloc, plan.lines.as_slice(), text)?;
+    let fates = fates_for(alloc, &plan, options.as_slice(), was_adopted)?;
+    let command = command_for(
+        alloc,
+        plan.lines.as_slice(),
+        options.as_slice(),
+        was_adopted,
+    )?;
+    let head = heading(alloc, was_adopted, command.as_slice())?;
     let Some((lines, text)) = settle(alloc, head.as_slice(), plan.lines.as_slice(), fates)? else {
         return Ok(None);
     };

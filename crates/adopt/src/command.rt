@@ -60,7 +60,7 @@ fn from_options(alloc: Global, options: &[CommandOption]) -> Result<Vec<u8>, NoM
     Ok(text)
 }
 
-/// The command line: that of the first line where the file was adopted already, else one of these options.
+/// The command line: that of this first line of a file, else one of these options.
 pub(crate) fn command_of(
     alloc: Global,
     first: Option<&[u8]>,
