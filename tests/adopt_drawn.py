@@ -70,6 +70,6 @@ def drawn(seed, number):
     """A file of a seed, as bytes, and the options by which it is adopted."""
     draw = random.Random(f'{seed} {number}')
     text = draw_file(draw)
-    options = draw.choice([[], ['--first-server'], ['--frontend', 'two'], ['--first-server', '--frontend', 'all']])
+    options = draw.choice([[], ['--first-server']]) + draw.choice([[], *(['--frontend', name] for name in ('two', 'all'))])
     # One in seven isn't UTF-8 where it has a letter beyond ASCII.
     return text.encode('latin1' if number % 7 == 0 else 'utf-8'), options

@@ -8,8 +8,8 @@ import tempfile
 HERE = os.path.dirname(os.path.abspath(__file__))
 TOP = os.path.dirname(HERE)
 CASES = os.path.join(HERE, 'adopt_cases')
-# The statuses where what is served is the same, and where it changes.
-SAME, CHANGED = 0, 3
+# The statuses where what is served is the same, where nothing is made of a file, and where what is served changes.
+SAME, FAILED, CHANGED = 0, 1, 3
 # The seconds after which a run has failed.
 PATIENCE = 60
 
@@ -101,6 +101,8 @@ class Adopter:
         file, to be read without a fault and without a warning, to stay as it is where it is adopted again, and to name a command
         line that is taken; and nothing is written where what is served changes, unless that is asked for."""
         done = self.adopt(path, '--anyway', *options)
+        if done.status == FAILED and '--frontend' in options and len(done.said) == 1 and 'has no frontend' in done.said[0]:
+            return (None if not done.text else f'it has written {done.text}'), FAILED
         if done.status not in (SAME, CHANGED):
             return f'status {done.status}: {done.said[-1:]}', done.status
         quiet = self.adopt(path, *options)

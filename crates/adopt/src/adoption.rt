@@ -26,6 +26,8 @@ pub struct Adoption {
     pub text: Vec<u8>,
     /// The command line.
     pub command: Vec<u8>,
+    /// Whether one of its frontends is served.
+    pub serves: bool,
     /// The exit status: 0 where what is served is the same, 3 where something that matters was lost.
     pub status: u8,
 }
@@ -275,6 +277,7 @@ pub fn adopt(
         lines,
         text,
         command,
+        serves: plan.frontend.is_some(),
         status,
     }))
 }

@@ -113,6 +113,24 @@ fn tell<R: Eprint>(rt: &R, text: &[u8]) -> io::Result<()> {
     }
 }
 
+/// Whether a frontend is asked for that isn't there, which is then said.
+fn lacks_frontend<R: Eprint>(
+    rt: &R,
+    path: &str,
+    adoption: &Adoption,
+    wishes: &Wishes,
+) -> io::Result<bool> {
+    let Some(name) = &wishes.frontend else {
+        return Ok(false);
+    };
+    if adoption.serves {
+        return Ok(false);
+    }
+    let name = str::from_utf8(name.as_slice()).unwrap_or("");
+    eprintln!(rt; "stickd: {path} has no frontend or listen section '{name}' with a bind")?;
+    Ok(true)
+}
+
 /// Writes what became of a file, and answers the status.
 fn show_adoption<R: Print + Eprint + AllocGlobal>(
     rt: &R,
@@ -135,7 +153,7 @@ fn show_adoption<R: Print + Eprint + AllocGlobal>(
 
 /// Adopts the file of this name: writes the configuration, or the command line, to standard output, and the report to
 /// standard error. Answers the status: 0 where what is served is the same, 3 where something that matters was lost, and
-/// 1 where the file can't be read.
+/// 1 where the file can't be read, or has no such frontend as is asked for.
 pub fn adopt_file<R: Files + Env + Print + Eprint + AllocGlobal>(
     rt: &R,
     path: &str,
@@ -152,11 +170,12 @@ pub fn adopt_file<R: Files + Env + Print + Eprint + AllocGlobal>(
         eprintln!(rt; "stickd: out of memory")?;
         return Ok(UNREADABLE);
     };
-    match adopted {
-        Some(adoption) => show_adoption(rt, &adoption, asked),
-        None => {
-            eprintln!(rt; "stickd: {path} can't be adopted")?;
-            Ok(UNREADABLE)
-        }
+    let Some(adoption) = adopted else {
+        eprintln!(rt; "stickd: {path} can't be adopted")?;
+        return Ok(UNREADABLE);
+    };
+    if lacks_frontend(rt, path, &adoption, &asked.wishes)? {
+        return Ok(UNREADABLE);
     }
+    show_adoption(rt, &adoption, asked)
 }

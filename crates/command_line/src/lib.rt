@@ -41,9 +41,9 @@ line is the command line, as a comment. Standard error says what became of each 
   lost without harm: REASON
   rewritten, with a change of what is served: REASON
   lost with a change of what is served: REASON
-The status is 0 where what is served is the same, and 1 where FILE can't be read or
-adopted. It is 3 where what is served changes, and nothing is written then without
---anyway.";
+The status is 0 where what is served is the same, and 1 where FILE can't be read, or has
+no such frontend. It is 3 where what is served changes, and nothing is written then
+without --anyway.";
 
 /// What `stickd replay --help` says last.
 const REPLAY_HELP: &str = "\
@@ -171,7 +171,7 @@ fn adopt_command<'a>(alloc: Global) -> Result<Command<'a>, AllocError> {
             alloc,
             "frontend",
             "NAME",
-            "The frontend or listen section to serve [default: the first]",
+            "The frontend or listen section to serve [default: the first that isn't HTTP]",
         ),
     )
 }
