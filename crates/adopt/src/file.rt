@@ -26,8 +26,10 @@ pub struct Asked {
 /// The variables of the environment. None are had where one of them isn't UTF-8.
 fn environment<R: Env + AllocGlobal>(rt: &R) -> Result<Vec<Variable>, NoMemory> {
     let mut variables = Vec::new(rt.alloc());
-    let Ok(all) = env::vars(rt) else {
-        return Ok(variables);
+    let all = match env::vars(rt) {
+        Ok(all) => all,
+        Err(reason) if reason.kind() == io::ErrorKind::InvalidData => return Ok(variables),
+        Err(_) => return Err(NoMemory),
     };
     for (name, value) in all {
         variables.push(Variable {
@@ -49,14 +51,15 @@ fn beside(alloc: Global, path: &str, name: &[u8]) -> Result<Vec<u8>, NoMemory> {
     Ok(text)
 }
 
-/// The text of a file. None where it can't be read.
-fn read_named<R: Files + AllocGlobal>(rt: &R, name: &[u8]) -> Option<Vec<u8>> {
+/// The text of a file. None where it can't be read for another reason than want of memory.
+fn read_named<R: Files + AllocGlobal>(rt: &R, name: &[u8]) -> Result<Option<Vec<u8>>, NoMemory> {
     let Ok(path) = str::from_utf8(name) else {
-        return None;
+        return Ok(None);
     };
     match fs::read(rt, path) {
-        Ok(text) => Some(text),
-        Err(_) => None,
+        Ok(text) => Ok(Some(text)),
+        Err(reason) if reason.kind() == io::ErrorKind::OutOfMemory => Err(NoMemory),
+        Err(_) => Ok(None),
     }
 }
 
@@ -69,11 +72,11 @@ fn read_patterns<R: Files + AllocGlobal>(
     let mut files = Vec::new(rt.alloc());
     for name in names {
         let name = name.as_slice();
-        let text = match read_named(rt, name) {
+        let text = match read_named(rt, name)? {
             Some(text) => Some(text),
             None => {
                 let other = beside(rt.alloc(), path, name)?;
-                read_named(rt, other.as_slice())
+                read_named(rt, other.as_slice())?
             }
         };
         files.push(PatternFile {
@@ -137,7 +140,10 @@ fn show_adoption<R: Print + Eprint + AllocGlobal>(
     adoption: &Adoption,
     asked: &Asked,
 ) -> io::Result<u8> {
-    let report = report_of(rt.alloc(), adoption)?;
+    let Ok(report) = report_of(rt.alloc(), adoption) else {
+        eprintln!(rt; "stickd: out of memory")?;
+        return Ok(UNREADABLE);
+    };
     tell(rt, report.as_slice())?;
     if adoption.status != SAME && !asked.anyway {
         return Ok(adoption.status);

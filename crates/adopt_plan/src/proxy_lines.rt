@@ -17,6 +17,7 @@ use crate::servers::{convert_server, kept_server, server_loss, servers_of};
 use crate::standing::{of_converted, two_words, written};
 use crate::tables::convert_table;
 use adopt_words::{SourceLine, is_word, word_at};
+use config_words::read_time;
 use sequence::NoMemory;
 use std::alloc::Global;
 
@@ -198,15 +199,14 @@ fn of_any(alloc: Global, section: &Section, line: &SourceLine) -> Result<Fate, N
                 "server-fin",
             ],
         );
-        return left(
-            alloc,
-            FateKind::Harmless,
-            if is_known {
-                Why::Overruled
-            } else {
-                Why::NoTimeout
-            },
-        );
+        let why = if !is_known {
+            Why::NoTimeout
+        } else if read_time(word_at(words, 2)).is_err() {
+            Why::NeverEnds
+        } else {
+            Why::Overruled
+        };
+        return left(alloc, FateKind::Harmless, why);
     }
     if is_limit(keyword) {
         return left(alloc, FateKind::Harmless, Why::LargerLimit);

@@ -67,6 +67,7 @@ pub enum Why {
     OneListener,
     NoRetries,
     OwnSocket,
+    NeverEnds,
 }
 
 impl Why {
@@ -134,6 +135,7 @@ impl Why {
             Why::OtherMask => "addresses are counted one by one, and not by this mask",
             Why::OneListener => "connections are accepted at the first address alone",
             Why::NoRetries => "a server that refuses isn't tried again",
+            Why::NeverEnds => "no connection ends by it",
             Why::OwnSocket => "commands are answered on the socket that --socket names",
         }
     }

@@ -16,6 +16,8 @@ use log::Log;
 use proxy::{ProxyRuntime, run_pooled};
 use run_plan::read_plan;
 use script::{BadLines, FaultKind, ReplayFault, replay_script};
+use sequence::NoMemory;
+use std::alloc::Global;
 use std::net::{Net, TcpListener, TcpStream};
 use std::process::ExitCode;
 use std::random::RandomSource;
@@ -120,23 +122,30 @@ fn status_of(is_done: bool) -> ExitCode {
     }
 }
 
+/// What `stickd adopt` is asked.
+fn read_asked(alloc: Global, arguments: &ArgMatches<'_>) -> Result<Asked, NoMemory> {
+    let frontend = match arguments.get_str("frontend") {
+        Some(name) => Some(text_of(alloc, name)?),
+        None => None,
+    };
+    Ok(Asked {
+        wishes: Wishes {
+            frontend,
+            first_server: arguments.get_flag("first-server"),
+        },
+        anyway: arguments.get_flag("anyway"),
+        command: arguments.get_flag("command"),
+    })
+}
+
 /// Writes what stickd runs in place of a configuration of HAProxy.
 fn adopt_named<R: Files + Env + Print + Eprint + AllocGlobal>(
     rt: &R,
     arguments: &ArgMatches<'_>,
 ) -> io::Result<ExitCode> {
-    let frontend = match arguments.get_str("frontend") {
-        Some(name) => Some(text_of(rt.alloc(), name)?),
-        None => None,
-    };
-    let wishes = Wishes {
-        frontend,
-        first_server: arguments.get_flag("first-server"),
-    };
-    let asked = Asked {
-        wishes,
-        anyway: arguments.get_flag("anyway"),
-        command: arguments.get_flag("command"),
+    let Ok(asked) = read_asked(rt.alloc(), arguments) else {
+        eprintln!(rt; "stickd: out of memory")?;
+        return Ok(ExitCode::FAILURE);
     };
     let path = arguments.get_str("FILE").unwrap_or("");
     Ok(ExitCode::from(adopt_file(rt, path, &asked)?))
