@@ -7,6 +7,7 @@ use adopt_plan::{PatternFile, Wishes};
 use adopt_words::{Variable, append, append_str, copy_text};
 use sequence::NoMemory;
 use std::alloc::Global;
+use std::env::VarError;
 use std::rt::{Env, Files};
 use std::{env, fs, io, str};
 
@@ -28,8 +29,8 @@ fn environment<R: Env + AllocGlobal>(rt: &R) -> Result<Vec<Variable>, NoMemory> 
     let mut variables = Vec::new(rt.alloc());
     let all = match env::vars(rt) {
         Ok(all) => all,
-        Err(reason) if reason.kind() == io::ErrorKind::InvalidData => return Ok(variables),
-        Err(_) => return Err(NoMemory),
+        Err(VarError::OutOfMemory) => return Err(NoMemory),
+        Err(VarError::NotPresent | VarError::NotUnicode) => return Ok(variables),
     };
     for (name, value) in all {
         variables.push(Variable {
