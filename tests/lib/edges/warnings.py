@@ -1,7 +1,7 @@
 """Trials of what the program says as it starts: each doubt about how it was started in one line, once, and nothing without one."""
 import re
 
-from live_proxy import TRACK, Proxy, Server, echoes, reject_above
+from lib.proxy import TRACK, Proxy, Server, echoes, reject_above
 
 TABLE = 'stick-table type ip size {size} store conn_cur'
 SAFE = [TRACK, 'tcp-request connection reject unless { sc0_tracked }', reject_above(3)]

@@ -5,12 +5,11 @@ import random
 import subprocess
 import time
 
-TOP = os.path.dirname(os.path.dirname(os.path.abspath(__file__)))
 # The seconds after which a run that should have ended has failed.
 PATIENCE = 60
 
-# The program, the seed of what is drawn, and how much is tried.
-Given = collections.namedtuple('Given', 'program seed count')
+# The seed of what is drawn, and how much is tried.
+Given = collections.namedtuple('Given', 'seed count')
 
 
 class Report:

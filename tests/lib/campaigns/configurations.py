@@ -6,8 +6,9 @@ import re
 import shutil
 import tempfile
 
-from hostile_grammar import damage, draw_configuration
-from hostile_parts import Ran, Report, run, write_file
+from lib.campaigns.grammar import damage, draw_configuration
+from lib.campaigns.parts import Ran, Report, run, write_file
+from lib.places import stickd
 
 # The seconds that a file may take.
 SHARE = 10
@@ -67,7 +68,7 @@ def configurations(given):
     report, slowest = Report(), (0, None)
     portions = [range(first, min(first + PORTION, given.count)) for first in range(0, given.count, PORTION)]
     with tempfile.TemporaryDirectory() as room, concurrent.futures.ProcessPoolExecutor(os.cpu_count()) as pool:
-        program = shutil.copy(given.program, room)
+        program = shutil.copy(stickd(), room)
         for part, its_slowest in pool.map(functools.partial(check_portion, program, given.seed), portions):
             report.add(part)
             slowest = max(slowest, its_slowest)

@@ -5,8 +5,9 @@ import socket
 import tempfile
 import threading
 
-from hostile_parts import Draw, Report, run, write_file
-from live_proxy import PATIENCE, PROGRAM, TABLE, TRACK, Proxy, Server, echoes, read_all
+from lib.campaigns.parts import Draw, Report, run, write_file
+from lib.places import stickd
+from lib.proxy import PATIENCE, TABLE, TRACK, Proxy, Server, echoes, read_all
 
 # The longest line that is read, in bytes.
 LONGEST = 16_384
@@ -52,7 +53,7 @@ def scripts(given):
     report, text = Report(), random_bytes(given.seed, given.count)
     bad = [number for number, line in enumerate(text.split(b'\n'), 1) if line]
     lines = len(bad)
-    ran = run([given.program, 'replay'], text)
+    ran = run([stickd(), 'replay'], text)
     said = b''.join(b'stickd: script line %d: bad line\n' % number for number in bad[:10])
     said += b'stickd: %d bad lines in all\n' % lines if lines > 10 else b''
     wanted = 0, b'bad line\n' * lines, said
@@ -97,7 +98,6 @@ def bytes_on_the_socket(given):
     """Random bytes on the socket of a running proxy: each command is unknown, and the next client is answered; so it is where one
     that sends them is gone."""
     report, text = Report(), random_bytes(given.seed, given.count)
-    PROGRAM[0] = given.program
     with Server(echoes) as server, Proxy(server.port, [TABLE, TRACK]) as proxy:
         for first in range(0, len(text), PIECE):
             piece = text[first:first + PIECE]
@@ -220,16 +220,15 @@ def commands(given):
     """Random commands in words of the grammar: on small tables with dates and rates each answer has a form that there is, and the
     listings at the end are well formed; on others a replay in one shard, in seven, and a running proxy answer the same."""
     report, draw = Report(), Draw('commands', given.seed)
-    PROGRAM[0] = given.program
     with tempfile.TemporaryDirectory() as room:
         lines, count = plausible_lines(draw, TIMED, given.count // 2)
-        ran = replayed(given.program, room, TIMED, lines, 7)
+        ran = replayed(stickd(), room, TIMED, lines, 7)
         report.check((ran.status, ran.stderr) == (0, b''), f'a replay: {ran[0]}, {ran[2]!r}')
         check_answers(report, 'timed', ran.stdout, count, TIMED)
         lines, count = plausible_lines(draw, TIMELESS, given.count // 2)
-        ran = replayed(given.program, room, TIMELESS, lines, 1)
+        ran = replayed(stickd(), room, TIMELESS, lines, 1)
         check_answers(report, 'timeless', ran.stdout, count, TIMELESS)
-        apart = replayed(given.program, room, TIMELESS, lines, 1, '--shards', '7')
+        apart = replayed(stickd(), room, TIMELESS, lines, 1, '--shards', '7')
         report.check(apart[:3] == ran[:3], 'seven shards answer otherwise than one')
     with Server(echoes) as server, Proxy(server.port, [], others=configuration(TIMELESS)) as proxy:
         whole = [*lines, *(f'show table {table}' for table in TIMELESS)]

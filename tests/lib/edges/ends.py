@@ -7,7 +7,7 @@ import subprocess
 import threading
 import time
 
-from live_proxy import (PATIENCE, TABLE, TRACK, FarServer, Proxy, closed_after, end_of, hears_end, read_all, reset, wait_for)
+from lib.proxy import (PATIENCE, TABLE, TRACK, FarServer, Proxy, closed_after, end_of, hears_end, read_all, reset, wait_for)
 
 # How soon something is to be seen that happens at once, in seconds.
 SOON = 2

@@ -2,7 +2,7 @@
 are read past."""
 import collections
 
-from hostile_parts import Draw
+from lib.campaigns.parts import Draw
 
 PLAIN = ['gpt0', 'gpc0', 'conn_cnt', 'conn_cur', 'sess_cnt', 'bytes_in_cnt', 'bytes_out_cnt', 'gpc1']
 RATES = ['gpc0_rate', 'conn_rate', 'sess_rate', 'bytes_in_rate', 'bytes_out_rate', 'gpc1_rate']

@@ -6,10 +6,11 @@ import os
 import re
 import tempfile
 
-from hostile_clients import shut, wait_for_rest
-from hostile_parts import Report, run, write_file
-from live_proxy import PROGRAM, Proxy, Server, echoes, free_port, wait_for
-from refused_runs import Refusals, build_shim
+from lib.campaigns.clients import shut, wait_for_rest
+from lib.campaigns.parts import Report, run, write_file
+from lib.places import stickd
+from lib.proxy import Proxy, Server, echoes, free_port, wait_for
+from lib.shims import Refusals, build_shim
 
 TABLE = 'stick-table type ip size 20 store gpc0,conn_cur,conn_cnt'
 TRACK = 'tcp-request connection track-sc0 src'
@@ -32,8 +33,7 @@ SETTLED = re.compile(r'settled www: \d+ calls, ([01]) references\n')
 class Refused:
     """A proxy of which single allocations are refused, on one thread beside those for commands and for the house."""
 
-    def __init__(self, given, shim, *words):
-        PROGRAM[0] = given.program
+    def __init__(self, shim, *words):
         self.room = tempfile.TemporaryDirectory(prefix='stickd-')
         self.refusals = Refusals(self.room.name)
         self.server = Server(echoes)
@@ -86,7 +86,7 @@ def answer_refused(report, refused, command, fresh):
 def commands_refused(given):
     """Each form of a command on the socket, each allocation refused in turn."""
     report, counts = Report(), []
-    with tempfile.TemporaryDirectory() as room, Refused(given, build_shim(room)) as refused:
+    with tempfile.TemporaryDirectory() as room, Refused(build_shim(room)) as refused:
         proxy = refused.proxy
         refused.serve_one()
         for command in COMMANDS:
@@ -110,7 +110,7 @@ def connections_refused(given):
     """A connection, each allocation refused in turn: it is echoed or closed, counted or not, and its reference is back; then one is
     served. All that on a table whose records begin again each second, so that they grow again."""
     report = Report()
-    with tempfile.TemporaryDirectory() as room, Refused(given, build_shim(room), '--roll-at', '1') as refused:
+    with tempfile.TemporaryDirectory() as room, Refused(build_shim(room), '--roll-at', '1') as refused:
         def come(number):
             before = refused.proxy.rows().get('127.0.0.1', {'conn_cnt': 0})['conn_cnt']
             refused.refusals.refuse(number)
@@ -132,31 +132,31 @@ def is_end(status, written, said):
     return status == 0 and SETTLED.fullmatch(written) is not None or status in (1, 2) and SHORT.fullmatch(said) is not None
 
 
-def settle_refused(given, shim, number):
+def settle_refused(shim, number):
     """A proxy that stops behind its first connection, with this allocation refused as that comes: its status, and what it wrote."""
-    with Refused(given, shim, '--stop-after', '1', '--shards', '2') as refused:
+    with Refused(shim, '--stop-after', '1', '--shards', '2') as refused:
         refused.refusals.refuse(number)
         visit(refused.proxy)
         return (*refused.proxy.ended(), refused.refusals.were_met())
 
 
-def start_refused(given, shim, number):
+def start_refused(shim, number):
     """A start that stops after no connection, with this allocation refused."""
     with tempfile.TemporaryDirectory(prefix='stickd-') as room:
         lines = ['listen www', f'bind 127.0.0.1:{free_port()}', TABLE, TRACK, 'server s 127.0.0.1:1', '']
         words = ['run', write_file(room, 'proxy.cfg', '\n'.join(lines)), '--socket', os.path.join(room, 's'), '--threads', '2']
-        ran = run([given.program, *words, '--stop-after', '0'], env={'LD_PRELOAD': shim, 'REFUSED_ALLOCATION': str(number)})
+        ran = run([stickd(), *words, '--stop-after', '0'], env={'LD_PRELOAD': shim, 'REFUSED_ALLOCATION': str(number)})
     return ran.status, ran.stdout.decode(), ran.stderr.decode(), ran.status != 0
 
 
-def refuse_ends(given, report, end):
+def refuse_ends(report, end):
     """Has runs end with the first allocation refused, the second, and so on, several side by side, until some on end meet none. Each
     settles its table, or says on one line that memory is short. How many times a reference stayed out."""
     outs, number, unmet = 0, 0, 0
     with tempfile.TemporaryDirectory() as room, concurrent.futures.ThreadPoolExecutor(os.cpu_count()) as pool:
         shim = build_shim(room)
         while unmet < UNMET:
-            for status, written, said, met in pool.map(lambda one: end(given, shim, one), range(number + 1, number + UNMET + 1)):
+            for status, written, said, met in pool.map(lambda one: end(shim, one), range(number + 1, number + UNMET + 1)):
                 number += 1
                 report.check(is_end(status, written, said), f'allocation {number} refused: {(status, written, said)}')
                 unmet = 0 if met else unmet + 1
@@ -169,7 +169,7 @@ def settling_refused(given):
     """A connection and the settling behind it, each allocation refused in turn, with receipts: the table is settled, with the reference
     that couldn't be given back if there is one, or it is said that there was no memory for it."""
     report = Report()
-    outs = refuse_ends(given, report, settle_refused)
+    outs = refuse_ends(report, settle_refused)
     report.check(outs == 1, f'of a release one allocation is refused, and {outs} references stayed out')
     return report
 
@@ -177,7 +177,7 @@ def settling_refused(given):
 def starts_refused(given):
     """A start that stops after no connection, each allocation refused in turn: it settles, or says on one line that memory is short."""
     report = Report()
-    refuse_ends(given, report, start_refused)
+    refuse_ends(report, start_refused)
     return report
 
 
@@ -185,7 +185,7 @@ def nothing_but_refusals(given):
     """All allocations refused from some moment on: a listing is refused, each connection is closed or served, and once there is
     memory again all is as it was."""
     report = Report()
-    with tempfile.TemporaryDirectory() as room, Refused(given, build_shim(room)) as refused:
+    with tempfile.TemporaryDirectory() as room, Refused(build_shim(room)) as refused:
         proxy = refused.proxy
         refused.serve_one()
         proxy.command(PREPARED)

@@ -7,7 +7,8 @@ Before the first line is read it is said that memory is short, and nothing is do
 import os
 import re
 
-from refused_runs import is_short, run_words
+from lib.refusals.runs import is_short
+from lib.shims import run_words
 
 REFUSED = 'Out of memory.\n\n'
 ACCEPTED, REJECTED = ' accept\n', ' reject\n'

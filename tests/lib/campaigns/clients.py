@@ -7,8 +7,8 @@ import re
 import socket
 import time
 
-from hostile_parts import Draw, Report
-from live_proxy import PROGRAM, TRACK, Proxy, Server, arrive, free_port, read_all, reset, wait_for
+from lib.campaigns.parts import Draw, Report
+from lib.proxy import TRACK, Proxy, Server, arrive, free_port, read_all, reset, wait_for
 
 TABLE = 'stick-table type ip size 1k store conn_cur,conn_cnt,sess_cnt,bytes_in_cnt,bytes_out_cnt'
 REQUEST, REPLY = b'a request of some bytes', b'and what it is replied'
@@ -146,7 +146,6 @@ def replies_some(count, end):
 def exchanges(given):
     """Clients and servers that end behind each byte of a small exchange, by a close, by a reset, and in order."""
     report = Report()
-    PROGRAM[0] = given.program
     with Exchange(report) as exchange:
         for count, end in itertools.product(range(len(REQUEST) + 1), (close, reset)):
             exchange.visit(echo_all, sends_some(count, end), f'a client sends {count} bytes, and {end.__name__}')
@@ -269,7 +268,6 @@ def clients(given):
     """Clients that close or reset, at once, before, during and after the relay, are slow, send nothing, or read nothing; and servers
     that reset, close, flood and stall."""
     report = Report()
-    PROGRAM[0] = given.program
     stay_unharmed(report, given)
     stop = ['--stop-after', str(given.count)]
     with any_server(Draw('servers', given.seed)) as server, Proxy(server.port, [TABLE, TRACK, LIMITED], *stop, threads=4) as proxy:
@@ -280,7 +278,6 @@ def clients(given):
 def servers(given):
     """The same clients of servers that all reset, close or stall, and without a server."""
     report = Report()
-    PROGRAM[0] = given.program
     for serve in (reset, close, stalls, None):
         server = None if serve is None else Server(serve)
         name = 'no server' if serve is None else f'servers, of which each does {serve.__name__}'

@@ -7,7 +7,7 @@ import socket
 import stat
 import time
 
-from live_proxy import TABLE, TRACK, FarServer, Proxy, Server, closed_after, echoes, hears_end, read_all, wait_for
+from lib.proxy import TABLE, TRACK, FarServer, Proxy, Server, closed_after, echoes, hears_end, read_all, wait_for
 
 # How soon a client is answered beside others, in seconds.
 SOON = 1

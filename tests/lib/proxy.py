@@ -14,8 +14,8 @@ import tempfile
 import threading
 import time
 
-TOP = os.path.dirname(os.path.dirname(os.path.abspath(__file__)))
-PROGRAM = [os.path.join(TOP, 'crates', 'stickd', 'out', 'stickd')]
+from lib.places import stickd
+
 # The seconds after which whatever is waited for has failed.
 PATIENCE = 20
 TABLE = 'stick-table type ip size 1k store conn_cur,conn_cnt,bytes_in_cnt,bytes_out_cnt'
@@ -177,7 +177,7 @@ class Proxy:
         self.start()
 
     def start(self):
-        self.program = subprocess.Popen([*PROGRAM, *self.words], stdin=subprocess.DEVNULL, stdout=subprocess.PIPE,
+        self.program = subprocess.Popen([stickd(), *self.words], stdin=subprocess.DEVNULL, stdout=subprocess.PIPE,
                                         stderr=subprocess.PIPE, text=True, preexec_fn=self.limit, env=self.environment, umask=self.umask)
         wait_for('the program answers', lambda: self.program.poll() is not None or self.is_up())
         assert self.program.poll() is None, f'it ended at once: {self.program.stderr.read()}'
@@ -364,23 +364,3 @@ def reset(client):
     """Ends a connection by a reset."""
     client.setsockopt(socket.SOL_SOCKET, socket.SO_LINGER, struct.pack('ii', 1, 0))
     client.close()
-
-
-def passes(trial):
-    """Makes a trial, and says what failed."""
-    try:
-        trial()
-    except (AssertionError, OSError, subprocess.TimeoutExpired, KeyError) as fault:
-        print(f'{trial.__name__}: {fault!r}'[:2000], flush=True)
-        return False
-    return True
-
-
-def run_trials(name, trials, words):
-    """Makes the trials that are named, or all, and answers the status."""
-    if words[:1] == ['--program']:
-        PROGRAM[0], words = os.path.abspath(words[1]), words[2:]
-    chosen = [trial for trial in trials if not words or trial.__name__ in words]
-    passed = sum(map(passes, chosen))
-    print(f'{name}: {passed} passed, {len(chosen) - passed} failed')
-    return 0 if passed == len(chosen) and passed else 1

@@ -6,9 +6,9 @@ import tempfile
 import threading
 import time
 
-from live_proxy import (TABLE, TRACK, EchoServer, Proxy, Server, closed_after, greets, is_closed, is_greeted, raise_descriptors, reset,
+from lib.proxy import (TABLE, TRACK, EchoServer, Proxy, Server, closed_after, greets, is_closed, is_greeted, raise_descriptors, reset,
                         wait_for)
-from refused_runs import build_shim
+from lib.shims import build_shim
 
 # A connection takes two descriptors here, its own and the server's.
 CROWD = min(1000, (raise_descriptors(4000) - 200) // 2)

@@ -7,7 +7,8 @@ import subprocess
 import tempfile
 import tty
 
-from hostile_parts import PATIENCE, Draw, Report, run
+from lib.campaigns.parts import PATIENCE, Draw, Report, run
+from lib.places import stickd
 
 # Lines of every kind, and what each is answered on the built-in table.
 SESSION = [
@@ -63,9 +64,9 @@ def outputs(given):
         for count in range(len(ANSWERS)):
             done, _ = done_within([answer for _, answer in SESSION], count)
             wanted = 1, said_behind(done, b'stickd: writing failed after %d lines\n' % done), ANSWERS[:count]
-            found = run_into_file(given.program, room, count)
+            found = run_into_file(stickd(), room, count)
             report.check(found == wanted, f'{count} bytes are taken: {wanted} is wanted: {found}')
-        found = run_into_file(given.program, room, len(ANSWERS))
+        found = run_into_file(stickd(), room, len(ANSWERS))
         report.check(found == (0, said_behind(len(SESSION)), ANSWERS), f'all bytes are taken: {found}')
     return report
 
@@ -90,7 +91,7 @@ def inputs(given):
         done, _ = done_within([line for line, _ in SESSION], count)
         fault = b'stickd: reading failed after %d lines\n' % done
         wanted = 1, said_behind(done, fault), b''.join(answer for _, answer in SESSION[:done])
-        found = run_from_terminal(given.program, count)
+        found = run_from_terminal(stickd(), count)
         report.check(found == wanted, f'{count} bytes are given: {wanted} is wanted: {found}')
     return report
 
@@ -117,13 +118,13 @@ def pipes(given):
     and no more than that and what the pipe holds."""
     report, draw = Report(), Draw('pipes', given.seed)
     script = FILLED + b'0 cmd show table t\n' * 30
-    answers = run([given.program, 'replay'], script).stdout
+    answers = run([stickd(), 'replay'], script).stdout
     listing = len(answers) - 100
     parts = [b'\n'] * 100 + [bytes(listing // 30)] * 30
     report.check(listing % 30 == 0, 'each listing is as long')
     for _ in range(given.count):
         count = draw.randrange(len(answers) - 3 * 4096)
-        status, said = run_into_pipe(given.program, script, count)
+        status, said = run_into_pipe(stickd(), script, count)
         least, most = done_within(parts, count)[0], done_within(parts, count + 2 * 4096)[0]
         wanted = [b'stickd: writing failed after %d lines\n' % done for done in range(least, most + 1)]
         report.check(status == 1 and said in wanted, f'the reader took {count} bytes: {status}, {said!r}, {least} to {most} are wanted')

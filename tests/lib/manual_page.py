@@ -9,11 +9,10 @@ Each display of the page has a comment before it, which says what it is:
                 `echo $?` stands the status; where it isn't shown it is 1 if standard error alone was written, and else 0.
 .\\" fault       a configuration, of which `check` names the last line and the fault that its item is named after
 .\\" by hand     nothing that is run"""
-import os
 import re
 
-TOP = os.path.dirname(os.path.dirname(os.path.abspath(__file__)))
-PAGE = os.path.join(TOP, 'man', 'stickd.1')
+from lib.places import PAGE
+
 MARK = re.compile(r'\.\\" (?:(file) (\S+)|(session|fault|by hand))$')
 ITEM = re.compile(r'\.It Sy (.*)$')
 TYPED = re.compile(r"(?:echo '(?P<line>.*)' \| )?stickd (?P<words>.*?)(?: < (?P<file>\S+)| << (?P<end>\S+))?$")

@@ -9,8 +9,8 @@ import tempfile
 import threading
 import time
 
-from live_proxy import PATIENCE, TABLE, TRACK, Proxy, Server, greets, is_greeted
-from refused_runs import build_shim
+from lib.proxy import PATIENCE, TABLE, TRACK, Proxy, Server, greets, is_greeted
+from lib.shims import build_shim
 
 
 def greeted_of(clients):

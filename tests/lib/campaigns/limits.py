@@ -12,10 +12,11 @@ import tempfile
 import threading
 import time
 
-from hostile_clients import AT_ONCE, come, footprint, settles, wait_for_rest
-from hostile_parts import Report, run, sole_line, write_file
-from live_proxy import PROGRAM, Proxy, Server, arrive, echoes, free_port, greets, is_greeted, wait_for
-from refused_runs import build_shim
+from lib.campaigns.clients import AT_ONCE, come, footprint, settles, wait_for_rest
+from lib.campaigns.parts import Report, run, sole_line, write_file
+from lib.places import stickd
+from lib.proxy import Proxy, Server, arrive, echoes, free_port, greets, is_greeted, wait_for
+from lib.shims import build_shim
 
 TABLE = 'stick-table type ip size 1k store conn_cur,conn_cnt'
 TRACK = 'tcp-request connection track-sc0 src'
@@ -75,10 +76,9 @@ def descriptors(given):
     """Starts with 3 descriptors and more; and with 64 a crowd of clients, of which each is served once there is room, while the
     socket answers in the end. Then the same crowd until the program stops, whose table is settled."""
     report = Report()
-    PROGRAM[0] = given.program
-    limits = loadable(given.program, [(f'{most} descriptors', limited(resource.RLIMIT_NOFILE, most)) for most in range(3, 40)])
+    limits = loadable(stickd(), [(f'{most} descriptors', limited(resource.RLIMIT_NOFILE, most)) for most in range(3, 40)])
     texts = ("stickd: a thread can't", 'stickd: 127.0.0.1:', 'stickd: /', 'stickd: no random numbers')
-    start_each(report, given.program, limits, texts)
+    start_each(report, stickd(), limits, texts)
     with Server(greets) as server, Proxy(server.port, [TABLE, TRACK], threads=2, descriptors=64) as proxy:
         held = [proxy.connect() for _ in range(100)]
         first = sum(map(is_served_soon, held))
@@ -139,7 +139,6 @@ class Rushed(Proxy):
 def rushes(given):
     """Starts with 30 descriptors amid a crowd of clients, so many times: once they are gone each of the eight threads is there."""
     report = Report()
-    PROGRAM[0] = given.program
     for number in range(given.count):
         with Server(greets) as server, Rushed(server.port) as proxy:
             proxy.leave()
@@ -158,7 +157,7 @@ def threads(given):
         shim = build_shim(workplace, 'refuse_thread')
         for number in range(1, THREADS + 7):
             with tempfile.TemporaryDirectory(prefix='stickd-') as room:
-                ran = run([given.program, *Site(room, 1).words], patience=AT_MOST, env={'LD_PRELOAD': shim, 'REFUSED_THREAD': str(number)})
+                ran = run([stickd(), *Site(room, 1).words], patience=AT_MOST, env={'LD_PRELOAD': shim, 'REFUSED_THREAD': str(number)})
             is_refused = number <= THREADS + 5
             is_right = sole_line(said_alone(ran), "stickd: a thread can't be started") if is_refused else settles_or_says(ran)
             report.check(is_right, f'thread {number} is refused: {ran}')
@@ -166,7 +165,7 @@ def threads(given):
         limits = [(f'{most} processes', limited(resource.RLIMIT_NPROC, most)) for most in range(1, THREADS + 11)]
         with tempfile.TemporaryDirectory() as place:
             os.chmod(place, 0o755)
-            copy = shutil.copy(given.program, place)
+            copy = shutil.copy(stickd(), place)
             start_each(report, copy, limits, ["stickd: a thread can't be started"], user=NOBODY)
     return report
 
@@ -176,8 +175,8 @@ def memory(given):
     it isn't even loaded."""
     report = Report()
     sizes = [step << 20 for step in range(2, 30)] + [step << 23 for step in range(4, 60)]
-    limits = loadable(given.program, [(f'{most >> 20} MB', limited(resource.RLIMIT_AS, most)) for most in sizes])
-    start_each(report, given.program, limits, ('stickd: out of memory', "stickd: a thread can't be started"))
+    limits = loadable(stickd(), [(f'{most >> 20} MB', limited(resource.RLIMIT_AS, most)) for most in sizes])
+    start_each(report, stickd(), limits, ('stickd: out of memory', "stickd: a thread can't be started"))
     return report
 
 
@@ -202,13 +201,13 @@ def socket_paths(given):
         paths = [os.path.join(room, 'none', 's'), room, '/proc/s', '/sys/s', '/dev/null', '/dev/null/s', os.path.join(room, 'x' * 90)]
         paths += [os.path.join(full, 's')] if full else []
         for path in paths:
-            ran = run([given.program, *Site(room, 1, socket_path=path).words], patience=AT_MOST)
+            ran = run([stickd(), *Site(room, 1, socket_path=path).words], patience=AT_MOST)
             report.check(sole_line(said_alone(ran), f"stickd: {path} can't be bound: "), f'{path}: {ran}')
         report.tell('a full file system was ' + ('tried' if full else 'not to be had'))
         if os.geteuid() == 0:
             with tempfile.TemporaryDirectory() as place:
                 os.chmod(place, 0o755)
-                copy = shutil.copy(given.program, place)
+                copy = shutil.copy(stickd(), place)
                 ran = run([copy, *Site(room, 1).words], patience=AT_MOST, user=NOBODY)
             report.check(sole_line(said_alone(ran), f'stickd: {room}'), f'as nobody: {ran}')
     return report
@@ -217,7 +216,6 @@ def socket_paths(given):
 def path_is_gone(given):
     """A socket's file that is removed, or replaced by another program's, while the proxy runs: it serves on, and stops."""
     report = Report()
-    PROGRAM[0] = given.program
     for way in ('removed', 'replaced'):
         with Server(echoes) as server, Proxy(server.port, [TABLE, TRACK], '--stop-after', '5', threads=2) as proxy, \
                 socket.socket(socket.AF_UNIX) as other:
@@ -288,11 +286,11 @@ def standard_streams(given):
         for kinds in itertools.product(('open', 'closed'), STREAMS, STREAMS):
             can_write = kinds[1] == 'open'
             wanted_said = b'' if can_write else b'stickd: writing failed'
-            status, written, said, _ = run_on([given.program, 'check', conf], kinds)
+            status, written, said, _ = run_on([stickd(), 'check', conf], kinds)
             is_right = status == (not can_write) and (written or b'') == (b'valid: 0 tables, 0 rules\n' if can_write else b'')
             report.check(is_right and (kinds[2] != 'open' or said.startswith(wanted_said)), f'check with {kinds}: {(status, written, said)}')
             site = Site(room, server.port, 1)
-            status, written, said, got = run_on([given.program, *site.words], kinds, lambda: visit(site))
+            status, written, said, got = run_on([stickd(), *site.words], kinds, lambda: visit(site))
             is_right = status == (not can_write) and got and (not can_write or SETTLED.fullmatch(written))
             report.check(is_right and (kinds[2] != 'open' or wanted_said in said), f'run with {kinds}: {(status, written, said, got)}')
     return report
