@@ -1,0 +1,56 @@
+# Completion of stickd for bash. packaging/completions.py wrote this from the help of stickd: edit it there.
+
+_stickd() {
+    local word=${COMP_WORDS[COMP_CWORD]} before=${COMP_WORDS[COMP_CWORD - 1]} command=${COMP_WORDS[1]} choices=()
+    COMPREPLY=()
+    # In `--option=value` the `=` is a word of its own.
+    if [[ $word == '=' ]]; then
+        word=
+    elif [[ $before == '=' ]]; then
+        before=${COMP_WORDS[COMP_CWORD - 2]}
+    fi
+    # What the option before wants; else what the command has.
+    case "$command $before" in
+        "replay --shards" | "replay --purge" | "run --threads" | "run --shards" | "run --purge" | "run --connections" | "run --backlog" | "run --timeout-connect" | "run --timeout-client" | "run --timeout-server" | "run --timeout-fin" | "run --keepalive" | "run --socket-mode" | "run --socket-clients" | "run --timeout-socket" | "run --stop-after" | "run --roll-at")
+            return
+            ;;
+        "run --socket")
+            compopt -o filenames 2>/dev/null
+            choices=(-f)
+            ;;
+        "run --socket-group")
+            choices=(-g)
+            ;;
+    esac
+    if ((COMP_CWORD == 1)); then
+        choices=(-W "check replay run help -h --help -V --version")
+    fi
+    ((${#choices[@]})) || case "$command ${word:0:1}" in
+        "check -")
+            choices=(-W "--explain -h --help")
+            ;;
+        "check "*)
+            compopt -o filenames 2>/dev/null
+            choices=(-f)
+            ;;
+        "replay -")
+            choices=(-W "--shards --purge -h --help")
+            ;;
+        "replay "*)
+            compopt -o filenames 2>/dev/null
+            choices=(-f)
+            ;;
+        "run -")
+            choices=(-W "--socket --threads --shards --purge --connections --backlog --timeout-connect --timeout-client --timeout-server --timeout-fin --keepalive --socket-mode --socket-group --socket-clients --timeout-socket --stop-after --roll-at -h --help")
+            ;;
+        "run "*)
+            compopt -o filenames 2>/dev/null
+            choices=(-f)
+            ;;
+        "help "*)
+            choices=(-W "check replay run help")
+            ;;
+    esac
+    ((${#choices[@]})) && mapfile -t COMPREPLY < <(compgen "${choices[@]}" -- "$word")
+}
+complete -F _stickd stickd

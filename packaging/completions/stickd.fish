@@ -1,0 +1,45 @@
+# Completion of stickd for fish. packaging/completions.py wrote this from the help of stickd: edit it there.
+
+function __stickd_at -d "Whether the command line is at a command, or at none yet"
+    set -l words (commandline -opc)
+    test "$words[2]" = "$argv[1]"
+end
+
+complete -c stickd -f
+complete -c stickd -n '__stickd_at' -s h -l help -d 'Print help'
+complete -c stickd -n '__stickd_at' -s V -l version -d 'Print version'
+complete -c stickd -n '__stickd_at' -a check -d 'Read a configuration, and say what is wrong with it'
+complete -c stickd -n '__stickd_at' -a replay -d 'Replay a timed script of connections and commands on standard input'
+complete -c stickd -n '__stickd_at' -a run -d 'Run the proxy, and answer commands on a socket'
+complete -c stickd -n '__stickd_at' -a help -d 'Print this message or the help of the given subcommand(s)'
+
+complete -c stickd -n '__stickd_at check' -l explain -d 'Show the line below a fault or a warning, and say what commonly causes it, or what is lost'
+complete -c stickd -n '__stickd_at check' -s h -l help -d 'Print help'
+complete -c stickd -n '__stickd_at check' -F
+
+complete -c stickd -n '__stickd_at replay' -l shards -x -d 'In how many parts each table is kept, 1 to 64 [default: 1]'
+complete -c stickd -n '__stickd_at replay' -l purge -x -d 'How many of its oldest entries a full table removes for a new one, 1 to 1024 [default: 1]'
+complete -c stickd -n '__stickd_at replay' -s h -l help -d 'Print help'
+complete -c stickd -n '__stickd_at replay' -F
+
+complete -c stickd -n '__stickd_at run' -l socket -r -F -d 'The Unix socket on which commands are answered'
+complete -c stickd -n '__stickd_at run' -l threads -x -d 'How many threads serve connections, 1 to 64'
+complete -c stickd -n '__stickd_at run' -l shards -x -d 'In how many parts each table is kept, 1 to 64 [default: 1]'
+complete -c stickd -n '__stickd_at run' -l purge -x -d 'How many of its oldest entries a full table removes for a new one, 1 to 1024 [default: 1]'
+complete -c stickd -n '__stickd_at run' -l connections -x -d 'How many connections are open at once at most, on all threads together [default: 10000]'
+complete -c stickd -n '__stickd_at run' -l backlog -x -d 'How many connections may wait to be accepted [default: as --connections]'
+complete -c stickd -n '__stickd_at run' -l timeout-connect -x -d 'How long a server may take to accept a connection, as 1500ms, 5s or 10m [default: 5s]'
+complete -c stickd -n '__stickd_at run' -l timeout-client -x -d 'How long a client may be silent [default: for ever]'
+complete -c stickd -n '__stickd_at run' -l timeout-server -x -d 'How long a server may be silent [default: for ever]'
+complete -c stickd -n '__stickd_at run' -l timeout-fin -x -d 'How long a connection may be silent once one side has ended [default: as the other timeouts]'
+complete -c stickd -n '__stickd_at run' -l keepalive -x -d 'Ask silent peers whether they are still there after TIME (TCP keepalive) [default: never]'
+complete -c stickd -n '__stickd_at run' -l socket-mode -x -d 'The permissions of the socket\'s file, in octal, up to 0777 [default: 600]'
+complete -c stickd -n '__stickd_at run' -l socket-group -x -a '(__fish_complete_groups)' -d 'The group of the socket\'s file, a name or a number [default: the program\'s]'
+complete -c stickd -n '__stickd_at run' -l socket-clients -x -d 'How many clients of the socket are answered at once, 1 to 64 [default: 4]'
+complete -c stickd -n '__stickd_at run' -l timeout-socket -x -d 'How long a client of the socket may send nothing, or take nothing [default: 10s]'
+complete -c stickd -n '__stickd_at run' -l stop-after -x -d 'Stop once N connections have ended, and settle the tables'
+complete -c stickd -n '__stickd_at run' -l roll-at -x -d 'How many calls of a part of a table are recorded before its record begins again [default: 65536]'
+complete -c stickd -n '__stickd_at run' -s h -l help -d 'Print help'
+complete -c stickd -n '__stickd_at run' -F
+
+complete -c stickd -n '__stickd_at help' -a 'check replay run help'
