@@ -1,7 +1,6 @@
 #!/usr/bin/env bash
-# Runs the proxy on a limit of two connections for each address, beside a server that greets and then waits. The third client is
-# turned away, the table is shown, and it is settled once all three have gone. Without the built program, crates/stickd/out/stickd,
-# `rt try` makes one with no proof, in a minute or two. Wants python3.
+# Runs the proxy on a limit of two connections for each address, beside a server that greets and then waits: the third client
+# is turned away, and the table is shown. Wants python3 and the built program, crates/stickd/out/stickd.
 set -euo pipefail
 cd "$(dirname "$0")/.."
 room=$(mktemp -d)
@@ -23,30 +22,17 @@ class Greeter(socketserver.BaseRequestHandler):
 socketserver.ThreadingTCPServer.allow_reuse_address = True
 socketserver.ThreadingTCPServer(('127.0.0.1', 8481), Greeter).serve_forever()
 SERVER
-options=(--socket "$room/stickd.sock" --threads 4 --stop-after 3)
-if [ -x crates/stickd/out/stickd ]; then
-    crates/stickd/out/stickd run "$room/limit.cfg" "${options[@]}" > "$room/said" 2> "$room/faults" &
-else
-    echo 'The program is not built, so this takes a minute or two.'
-    (cd crates/stickd && rt try --data limit.cfg="$room/limit.cfg" -- run limit.cfg "${options[@]}") > "$room/said" 2> "$room/faults" &
-fi
-proxy=$!
-python3 - "$room/stickd.sock" "$proxy" <<'CLIENTS' || { cat "$room/faults"; exit 1; }
-import os, socket, sys, time
-def when_there(connect):
-    while True:
-        try:
-            return connect()
-        except OSError:
-            time.sleep(0.1)
-        try:
-            os.kill(int(sys.argv[2]), 0)
-        except ProcessLookupError:
-            sys.exit('The proxy has ended:')
-with when_there(lambda: socket.create_connection(('127.0.0.1', 8481))) as greeted:
-    greeted.recv(100)
-commands = socket.socket(socket.AF_UNIX)
-when_there(lambda: commands.connect(sys.argv[1]))
+crates/stickd/out/stickd run "$room/limit.cfg" --socket "$room/stickd.sock" --threads 4 &
+python3 - "$room/stickd.sock" <<'CLIENTS'
+import socket, sys, time
+for _ in range(100):
+    try:
+        socket.create_connection(('127.0.0.1', 8481)).close()
+        commands = socket.socket(socket.AF_UNIX)
+        commands.connect(sys.argv[1])
+        break
+    except OSError:
+        time.sleep(0.1)
 clients = []
 for number in (1, 2, 3):
     # One that is turned away is reset, be it before it knows that it is connected.
@@ -61,6 +47,3 @@ commands.sendall(b'show table www\n')
 commands.shutdown(socket.SHUT_WR)
 print(commands.makefile().read().strip())
 CLIENTS
-# Its third connection has ended with the clients, so that it stops and settles its table.
-wait "$proxy" || { cat "$room/faults"; exit 1; }
-grep settled "$room/said"
