@@ -1,6 +1,6 @@
 //! What a form asks of a table.
 
-ghost use Rattle.std.specs.Prelude.{◌≡◌, ◌⊎◌, ◌<◌, ◌≤◌, ◌^◌, ℕ, List, [], All, IfOk, MatchResult, unwrap_or};
+ghost use Rattle.std.specs.Prelude.{◌≡◌, ◌⊎◌, ◌<◌, ◌≤◌, ◌^◌, List, [], All, IfOk, MatchResult, unwrap_or};
 ghost use Rattle.stored_data.specs.Data.{greatest};
 ghost use Rattle.table_model.specs.declared.rows.Cell.{Cell};
 ghost use Rattle.table_model.specs.Limits.{IsTableEvent};

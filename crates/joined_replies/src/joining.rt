@@ -1,6 +1,6 @@
 //! The replies of shards, added up.
 
-ghost use Rattle.std.specs.Prelude.{◌≡◌, ◌≤◌, ◌^◌, ◌++◌, true, All, IfOk, IfErr, IfSome, OnErr, length};
+ghost use Rattle.std.specs.Prelude.{◌≡◌, ◌≤◌, ◌^◌, ◌++◌, true, All, IfOk, IfSome, OnErr, length};
 ghost use Rattle.table_model.specs.Step.{shows_rows};
 ghost use Rattle.joined_replies.specs.Total.{IsCounted, IsShown, both as specified_both, together, total};
 
