@@ -1,6 +1,6 @@
 //! What a form asks of a table.
 
-ghost use Rattle.std.specs.Prelude.{◌≡◌, ◌⊎◌, ◌<◌, ◌≤◌, ◌^◌, ℕ, List, [], All, IfOk, MatchResult, unwrap_or};
+ghost use Rattle.std.specs.Prelude.{◌≡◌, ◌⊎◌, ◌<◌, ◌≤◌, ◌^◌, List, [], All, IfOk, MatchResult, unwrap_or};
 ghost use Rattle.stored_data.specs.Data.{greatest};
 ghost use Rattle.table_model.specs.declared.rows.Cell.{Cell};
 ghost use Rattle.table_model.specs.Limits.{IsTableEvent};
@@ -50,10 +50,7 @@ fn read_filter(alloc: Global, kind: KeyType, choice: Choice<'_>) -> Result<Filte
 {
     match choice {
         Choice::Everything => Ok(Filter::Everything),
-        Choice::Key(text) => match read_key_text(alloc, kind, text) {
-            Ok(key) => Ok(Filter::Key(key)),
-            Err(message) => Err(message),
-        },
+        Choice::Key(text) => Ok(Filter::Key(read_key_text(alloc, kind, text)?)),
         Choice::Compare(name, op, value) => compared(name, op, value),
     }
 }
@@ -91,10 +88,7 @@ fn read_cells(alloc: Global, text: &[u8]) -> Result<Cells, Message>
         let Some(value) = words.next() else {
             return Ok(cells);
         };
-        let cell = match read_cell(word, value) {
-            Ok(cell) => cell,
-            Err(message) => return Err(message),
-        };
+        let cell = read_cell(word, value)?;
         match cells.push(cell) {
             Ok(()) => {}
             Err(_) => return Err(Message::OutOfMemory),
@@ -114,14 +108,9 @@ fn read_put(
     ensures put { ReadsPut kind moment key.now (words_of pairs.now) result }
     ensures event { IfOk result IsTableEvent }
 {
-    let key = match read_key_text(alloc, kind, key) {
-        Ok(key) => key,
-        Err(message) => return Err(message),
-    };
-    match read_cells(alloc, pairs) {
-        Ok(cells) => Ok(Event::Put(moment, key, cells)),
-        Err(message) => Err(message),
-    }
+    let key = read_key_text(alloc, kind, key)?;
+    let cells = read_cells(alloc, pairs)?;
+    Ok(Event::Put(moment, key, cells))
 }
 
 fn read_clear(
@@ -135,15 +124,11 @@ fn read_clear(
     ensures event { IfOk result IsTableEvent }
 {
     if let Choice::Key(text) = choice {
-        return match read_key_text(alloc, kind, text) {
-            Ok(key) => Ok(Event::Clear(moment, key)),
-            Err(message) => Err(message),
-        };
+        let key = read_key_text(alloc, kind, text)?;
+        return Ok(Event::Clear(moment, key));
     }
-    match read_filter(alloc, kind, choice) {
-        Ok(filter) => Ok(Event::ClearWhere(moment, filter)),
-        Err(message) => Err(message),
-    }
+    let filter = read_filter(alloc, kind, choice)?;
+    Ok(Event::ClearWhere(moment, filter))
 }
 
 /// The event that a request makes of a table.
@@ -158,10 +143,10 @@ pub fn read_event(
     ensures event { IfOk result IsTableEvent }
 {
     match request {
-        Request::Show(choice) => match read_filter(alloc, kind, choice) {
-            Ok(filter) => Ok(Event::List(moment, filter)),
-            Err(message) => Err(message),
-        },
+        Request::Show(choice) => {
+            let filter = read_filter(alloc, kind, choice)?;
+            Ok(Event::List(moment, filter))
+        }
         Request::Clear(choice) => read_clear(alloc, kind, moment, choice),
         Request::Set(key, pairs) => read_put(alloc, kind, moment, key, pairs),
     }

@@ -4,7 +4,7 @@ ghost use Rattle.std.specs.Prelude.{◌≡◌, ◌≤◌, length};
 ghost use Rattle.std.specs.Char.{is_ascii_digit};
 ghost use Rattle.std.specs.List.{prefix_len};
 ghost use Rattle.config_words.specs.Numbers as spec;
-ghost use Rattle.config_words.specs.Numbers.{bounded_number, digits_of, size_of, suffix_of, time_of};
+ghost use Rattle.config_words.specs.Numbers.{bounded_number, size_of, time_of};
 
 use line_text::read_number;
 use rule_model::Fault;

@@ -4,7 +4,7 @@ ghost use Rattle.std.specs.Prelude.{◌≡◌, ◌∷◌, option_map};
 ghost use Rattle.line_text.specs.Words.{words_left};
 ghost use Rattle.rule_model.specs.Reading.{Gives, Leaves};
 ghost use Rattle.config_words.specs.Table as spec;
-ghost use Rattle.config_words.specs.Table.{complete, kind_of, no_settings, once, pairs_of, table_of, with_setting, with_settings};
+ghost use Rattle.config_words.specs.Table.{complete, kind_of, no_settings, pairs_of, table_of, with_setting, with_settings};
 
 use crate::columns::add_items;
 use crate::demand;

@@ -69,14 +69,8 @@ impl<W: Sink> GatheringSink<W> {
         ensures err { OnErr result (IsOneMore (W.failures self.old.inner) (W.failures self.new.inner)) }
         ensures kept { OnErr result (Grows W.tells (W.written self.old.inner ++ gathered self.old.held self.old.sent) (W.written self.new.inner ++ gathered self.new.held self.new.sent) []) }
     {
-        match self.flush() {
-            Ok(()) => {}
-            Err(error) => return Err(error),
-        }
-        match self.inner.write(bytes) {
-            Ok(count) => Ok(count),
-            Err(error) => Err(error),
-        }
+        self.flush()?;
+        self.inner.write(bytes)
     }
 }
 
@@ -92,10 +86,7 @@ impl<W: Sink> Sink for GatheringSink<W> {
     fn write(&mut self, bytes: &[u8]) -> Result<usize, Failed> {
         match self.held.try_extend_from_slice(bytes) {
             Ok(()) => Ok(bytes.len()),
-            Err(_) => match self.pass(bytes) {
-                Ok(count) => Ok(count),
-                Err(error) => Err(error),
-            },
+            Err(_) => self.pass(bytes),
         }
     }
 }

@@ -31,10 +31,7 @@ impl<'a, W: Sink> SharedSink<'a, W> {
         ensures some { 0 < length bytes.now → IfOk result (λ count. 0 < count) }
     {
         match self.gathered.try_borrow_mut() {
-            Ok(mut sink) => match sink.write(bytes) {
-                Ok(count) => Ok(count),
-                Err(error) => Err(error),
-            },
+            Ok(mut sink) => sink.write(bytes),
             Err(_) => Err(Failed),
         }
     }

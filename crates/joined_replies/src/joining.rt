@@ -1,6 +1,6 @@
 //! The replies of shards, added up.
 
-ghost use Rattle.std.specs.Prelude.{◌≡◌, ◌≤◌, ◌^◌, ◌++◌, true, All, IfOk, IfErr, IfSome, OnErr, length};
+ghost use Rattle.std.specs.Prelude.{◌≡◌, ◌≤◌, ◌^◌, ◌++◌, true, All, IfOk, IfSome, OnErr, length};
 ghost use Rattle.table_model.specs.Step.{shows_rows};
 ghost use Rattle.joined_replies.specs.Total.{IsCounted, IsShown, both as specified_both, together, total};
 
@@ -33,13 +33,10 @@ fn both(first: Reply, second: Reply) -> Result<Reply, NoMemory>
                 used: more,
                 rows: others,
             },
-        ) => match joined_rows(rows, others) {
-            Ok(rows) => Ok(Reply::Rows {
-                used: used + more,
-                rows,
-            }),
-            Err(refused) => Err(refused),
-        },
+        ) => Ok(Reply::Rows {
+            used: used + more,
+            rows: joined_rows(rows, others)?,
+        }),
         (
             Reply::Cleared { removed, kept },
             Reply::Cleared {
@@ -63,10 +60,7 @@ pub fn added(so_far: Option<Reply>, reply: Reply) -> Result<Reply, NoMemory>
 {
     match so_far {
         None => Ok(reply),
-        Some(before) => match both(before, reply) {
-            Ok(all) => Ok(all),
-            Err(refused) => Err(refused),
-        },
+        Some(before) => both(before, reply),
     }
 }
 
@@ -92,8 +86,5 @@ pub fn joined(replies: Vec<Reply>) -> Result<Reply, NoMemory>
     requires counted { All (IsCounted (2 ^ 30)) replies.items }
     ensures { IfOk result (IsShown (total replies.items)) }
 {
-    match total_of(replies) {
-        Ok(reply) => in_key_order(reply),
-        Err(refused) => Err(refused),
-    }
+    in_key_order(total_of(replies)?)
 }

@@ -12,10 +12,8 @@ fn sort_rows(rows: Rows) -> Result<Rows, NoMemory>
     ensures { IfOk result (IsInKeyOrder rows) }
 {
     let mut all = rows.into_vec();
-    match all.sort_by(|a: &Row, b: &Row| a.key.cmp(&b.key)) {
-        Ok(()) => Ok(Sequence::from_vec(all)),
-        Err(refused) => Err(refused),
-    }
+    all.sort_by(|a: &Row, b: &Row| a.key.cmp(&b.key))?;
+    Ok(Sequence::from_vec(all))
 }
 
 /// The reply with its rows in the order of their keys. Only rows want memory.
@@ -24,10 +22,10 @@ pub fn in_key_order(reply: Reply) -> Result<Reply, NoMemory>
     ensures memory { OnErr result (shows_rows reply ≡ true) }
 {
     match reply {
-        Reply::Rows { used, rows } => match sort_rows(rows) {
-            Ok(rows) => Ok(Reply::Rows { used, rows }),
-            Err(refused) => Err(refused),
-        },
+        Reply::Rows { used, rows } => {
+            let rows = sort_rows(rows)?;
+            Ok(Reply::Rows { used, rows })
+        }
         reply => Ok(reply),
     }
 }

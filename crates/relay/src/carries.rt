@@ -42,10 +42,7 @@ fn carry_once<R: ReadySource, W: ReadySink>(
     ensures most { flow.new.read ≤ flow.old.read + length buffer.old }
     ensures end_room { Keeps flow.new → flow.new.end ≤ length buffer.new }
 {
-    let count = match flow.fill_now(reader, buffer) {
-        Ok(count) => count,
-        Err(step) => return Err(step),
-    };
+    let count = flow.fill_now(reader, buffer)?;
     match flow.drain_all_now(writer, buffer) {
         Ok(()) => Ok(count),
         Err(halt) => Err(halted(halt)),

@@ -128,13 +128,9 @@ fn keep(flow: &mut Flow, rest: &mut Vec<u8>, buffer: &[u8]) -> Result<(), AllocE
     ensures ok { OnOk result ((rest.new.items ≡ kept flow.old buffer.now) × (flow.new ≡ from_its_start flow.old)) }
     ensures err { OnErr result ((rest.new.items ≡ []) × (flow.new ≡ flow.old)) }
 {
-    match rest.extend_from_slice(flow.kept(buffer)) {
-        Ok(()) => {
-            flow.moves_to_a_start();
-            Ok(())
-        }
-        Err(error) => Err(error),
-    }
+    rest.extend_from_slice(flow.kept(buffer))?;
+    flow.moves_to_a_start();
+    Ok(())
 }
 
 /// What a turn does once nothing is kept.

@@ -1,6 +1,7 @@
 -- Which limits fail open: a connection that finds the table full is tracked by nothing, and passes what is read of its entry.
 use Rattle.std.specs.Prelude.{ℕ, ◌+◌, ◌*◌, ◌/◌, nat_lt, Bool, true, false, not, ◌&&◌, ◌||◌, if◌then◌else◌, List, [], ◌∷◌, Option, Some, None, is_some}
 use Rattle.std.specs.List.{count_by, list_any}
+use Rattle.std.specs.Bool.{beq}
 use Rattle.std.specs.Str.{bytes_eq}
 use Rattle.rule_model.specs.declared.actions.Action.{Action}
 use Rattle.rule_model.specs.declared.actions.Action.TheVariants as actions
@@ -93,24 +94,18 @@ varies keys.DestinationPort = false
 varies (keys.Integer number) = false
 varies (keys.Text text) = false
 
--- whether an action tracks such a key in the table, and whether it tracks one that all connections share
-abbrev pub tracks_own : List ℕ → Action → Bool
-tracks_own name actions.Accept = false
-tracks_own name actions.Reject = false
-tracks_own name (actions.Track slot key table) = varies key && bytes_eq table name
-tracks_own name (actions.Count slot act) = false
-
-abbrev pub tracks_shared : List ℕ → Action → Bool
-tracks_shared name actions.Accept = false
-tracks_shared name actions.Reject = false
-tracks_shared name (actions.Track slot key table) = not (varies key) && bytes_eq table name
-tracks_shared name (actions.Count slot act) = false
+-- whether an action tracks a key in the table: one that connections have of their own, or one that all share
+abbrev pub tracks : Bool → List ℕ → Action → Bool
+tracks own name actions.Accept = false
+tracks own name actions.Reject = false
+tracks own name (actions.Track slot key table) = beq (varies key) own && bytes_eq table name
+tracks own name (actions.Count slot act) = false
 
 abbrev pub has_own_keys : List ℕ → List Rule → Bool
-has_own_keys name rules = list_any (λ (rule : Rule). tracks_own name rule.action) rules
+has_own_keys name rules = list_any (λ (rule : Rule). tracks true name rule.action) rules
 
 abbrev pub shared_keys : List ℕ → List Rule → ℕ
-shared_keys name rules = count_by (λ (rule : Rule). tracks_shared name rule.action) rules
+shared_keys name rules = count_by (λ (rule : Rule). tracks false name rule.action) rules
 
 -- ---- what connections want of a table at once, at most, and what it has
 

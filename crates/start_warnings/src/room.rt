@@ -1,6 +1,6 @@
 //! What connections want of a table at once, and whether it has as much.
 
-ghost use Rattle.std.specs.Prelude.{◌≡◌, ◌≤◌};
+ghost use Rattle.std.specs.Prelude.{◌≡◌, ◌≤◌, false};
 ghost use Rattle.std.specs.List.{count_by};
 ghost use Rattle.start_warnings.specs.Limits as spec;
 
@@ -15,30 +15,16 @@ fn varies(key: &KeyExpression) -> bool
     matches!(key, KeyExpression::Source | KeyExpression::SourcePort)
 }
 
-/// Whether an action tracks such a key in the table of a name.
-fn tracks_own(name: &[u8], action: &Action) -> bool
-    ensures { result ≡ spec.tracks_own name.now action.now }
+/// Whether an action tracks a key in the table of a name: one that connections have of their own, or one that all share.
+fn tracks(own: bool, name: &[u8], action: &Action) -> bool
+    ensures { result ≡ spec.tracks own name.now action.now }
 {
     match action {
         Action::Track {
             slot: _,
             key,
             table,
-        } => varies(key) && table.as_slice() == name,
-        _ => false,
-    }
-}
-
-/// Whether an action tracks a key there that all connections share.
-fn tracks_shared(name: &[u8], action: &Action) -> bool
-    ensures { result ≡ spec.tracks_shared name.now action.now }
-{
-    match action {
-        Action::Track {
-            slot: _,
-            key,
-            table,
-        } => !varies(key) && table.as_slice() == name,
+        } => varies(key) == own && table.as_slice() == name,
         _ => false,
     }
 }
@@ -46,16 +32,16 @@ fn tracks_shared(name: &[u8], action: &Action) -> bool
 fn has_own_keys(name: &[u8], rules: &[Rule]) -> bool
     ensures { result ≡ spec.has_own_keys name.now rules.now }
 {
-    rules.iter().any(|rule| tracks_own(name, &rule.action))
+    rules.iter().any(|rule| tracks(true, name, &rule.action))
 }
 
 /// How many rules track such a shared key.
 fn shared_keys(name: &[u8], rules: &[Rule]) -> usize
-    ensures { result ≡ count_by (λ rule. spec.tracks_shared name.now rule.action) rules.now }
+    ensures { result ≡ count_by (λ rule. spec.tracks false name.now rule.action) rules.now }
 {
     let mut count = 0;
     for rule in rules {
-        if tracks_shared(name, &rule.action) {
+        if tracks(false, name, &rule.action) {
             count += 1;
         }
     }

@@ -1,7 +1,7 @@
 //! The data of many keys in one block of words: a row of the same columns for each slot of a table.
 #![tactic(auto)]
 
-ghost use Rattle.std.specs.Prelude.{◌≡◌, ◌+◌, ◌*◌, ◌<◌, ◌≤◌, length, vec_len, IfOk};
+ghost use Rattle.std.specs.Prelude.{◌≡◌, ◌+◌, ◌*◌, ◌<◌, ◌≤◌, length, IfOk};
 ghost use Rattle.stored_data.specs.Acts.{acted, answer, with_value, zero_of};
 ghost use Rattle.stored_data.specs.Stored.{HavePeriods};
 ghost use Rattle.stored_data.specs.Words.{width as specified_width, fields_in};

@@ -56,14 +56,10 @@ impl Flow {
         ensures kept { OnErr result (Grows W.tells (W.written writer.old) (W.written writer.new) []) }
         ensures err { OnErr result (self.new ≡ self.old) }
     {
-        match writer.write_now(&buffer[self.start..self.end]) {
-            Ok(count) => {
-                self.written += count as u64;
-                self.start += count;
-                Ok(())
-            }
-            Err(halt) => Err(halt),
-        }
+        let count = writer.write_now(&buffer[self.start..self.end])?;
+        self.written += count as u64;
+        self.start += count;
+        Ok(())
     }
 
     /// Writes what the buffer keeps, until nothing is kept, or the writer has no room or fails.

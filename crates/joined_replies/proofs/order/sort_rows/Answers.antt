@@ -6,10 +6,10 @@ use Rattle.table_model.specs.Key.{Key}
 use Rattle.table_model.specs.declared.rows.Row.{Row}
 use Rattle.joined_replies.proofs.order.sort_rows.Goals as goal
 
-pub returns-in-Ok : goal.returns-in-Ok
-returns-in-Ok c =
+pub returns : goal.returns
+returns c =
     let key : Row → Key = λ row. row.key in
     rw c.from_vec.ensures (record {
-      same = subst (λ (rows : List Row). IsPermutation rows c.sort_by.new.self.items) c.into_vec-all.ensures c.in-Ok.ensures.permutation;
-      rising = c.in-Ok.ensures.sorted _ (ranks_by nat_list_cmp_total key) (answers_always _ _ _ (λ f a r g h. search rules));
+      same = subst (λ (rows : List Row). IsPermutation rows c.sort_by.new.self.items) c.into_vec-all.ensures c.in_ok-sort_by.ensures.permutation;
+      rising = c.in_ok-sort_by.ensures.sorted _ (ranks_by nat_list_cmp_total key) (answers_always _ _ _ (λ f a r g h. search rules));
     })

@@ -2,14 +2,19 @@ use Rattle.std.proofs.Common.{rules}
 use Rattle.relay.proofs.MoveLemmas.{carried_moves, paused_failed, paused_moves}
 use Rattle.relay.proofs.carries.carry_once.Goals as goal
 
+pub returns-in_err-count-clause-moved : goal.returns-in_err-count-clause-moved
+returns-in_err-count-clause-moved g c = paused_moves _ _ _ _ _ _ _ _ _ _ _ _ c.requires.empty c.in_err-count.ensures.paused c.in_err-count.ensures.err
+
+pub returns-in_err-count-clause-failed : goal.returns-in_err-count-clause-failed
+returns-in_err-count-clause-failed g c =
+    let R = g.R.ReadySource in
+    let W = g.W.ReadySink in
+    let failed =
+    paused_failed R.tells (R.left c.args.reader.now) (R.left c.fill_now.new.reader) (R.failures c.args.reader.now) (R.failures c.fill_now.new.reader) c.args.flow.now.reads c.fill_now.new.self.read (W.failures c.args.writer.now) c.in_err-count.field-0.0 (search rules) c.in_err-count.ensures.paused in
+    search rules
+
+pub returns-in-Ok-clause-moved : goal.returns-in-Ok-clause-moved
+returns-in-Ok-clause-moved g c = carried_moves _ _ _ _ _ _ _ _ _ _ c.requires.empty c.in_ok-count.ensures.ok c.drain_all_now.ensures.bytes
+
 pub returns-in-Err-clause-moved : goal.returns-in-Err-clause-moved
-returns-in-Err-clause-moved g c = paused_moves _ _ _ _ _ _ _ _ _ _ _ _ c.requires.empty c.in-Err.ensures.paused c.in-Err.ensures.err
-
-pub returns-in-Err-clause-failed : goal.returns-in-Err-clause-failed
-returns-in-Err-clause-failed g c = paused_failed _ _ _ _ _ c.args.flow.now.reads _ _ c.in-Err.step (search rules) c.in-Err.ensures.paused
-
-pub returns-in-Ok-drain_all_now-clause-moved : goal.returns-in-Ok-drain_all_now-clause-moved
-returns-in-Ok-drain_all_now-clause-moved g c = carried_moves _ _ _ _ _ _ _ _ _ _ c.requires.empty c.in-Ok.ensures.ok c.drain_all_now.ensures.bytes
-
-pub returns-in-Err-drain_all_now-clause-moved : goal.returns-in-Err-drain_all_now-clause-moved
-returns-in-Err-drain_all_now-clause-moved g c = carried_moves _ _ _ _ _ _ _ _ _ _ c.requires.empty c.in-Ok.ensures.ok c.drain_all_now.ensures.bytes
+returns-in-Err-clause-moved g c = carried_moves _ _ _ _ _ _ _ _ _ _ c.requires.empty c.in_ok-count.ensures.ok c.drain_all_now.ensures.bytes
