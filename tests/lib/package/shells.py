@@ -5,7 +5,7 @@ import subprocess
 import threading
 import time
 
-from lib.package.base import PATIENCE, TOP, Made, content, folder, put, run, same, wants
+from lib.package.base import PATIENCE, TOP, Made, content, folder, packaging, put, run, same, wants
 
 OF_BASH, OF_FISH, OF_ZSH = (os.path.join(TOP, 'packaging', 'completions', name)
                             for name in ('stickd.bash', 'stickd.fish', '_stickd'))
@@ -56,7 +56,7 @@ ZSH_TELLS = ("autoload -U compinit; compinit -u -D; source %s; tell() { zle comp
 
 def completions_are_those_of_the_help():
     """The files in the repository are those that the program's help makes."""
-    said = run(os.path.join(TOP, 'packaging', 'completions.py'), '--check', '--program', Made.program)[0]
+    said = packaging('completions.py', '--check', '--program', Made.program)[0]
     same('completions', said, 'the completions are those of the help: 3 files\n')
 
 
