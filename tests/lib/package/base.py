@@ -6,8 +6,8 @@ import sys
 import tempfile
 
 TOP = os.path.dirname(os.path.dirname(os.path.dirname(os.path.dirname(os.path.abspath(__file__)))))
-# The seconds after which whatever is waited for has failed.
-PATIENCE = 60
+# The seconds after which whatever is waited for has failed: many, as lintian took half a minute on a busy machine.
+PATIENCE = 120
 
 
 class NotHere(Exception):
