@@ -1,4 +1,4 @@
-//! The calls that `table_benchmark parts` times, on what Rust's std has in the place of each part: a list of entries with a
+//! The calls that `bench_table parts` times, on what Rust's std has in the place of each part: a list of entries with a
 //! free list, a `HashMap` beside a list of keys, and a list linked by index.
 //!
 //!     rustc -O --edition 2024 benches/parts.rs -o /tmp/parts && /tmp/parts 1000000

@@ -28,6 +28,11 @@ class File(NamedTuple):
     is_kept: bool = False
 
 
+def place(root, file):
+    """Where a file lies below a folder that stands for the root: never elsewhere, whatever its path begins with."""
+    return os.path.join(root, file.path.lstrip('/'))
+
+
 class Program(NamedTuple):
     """A built program, and the version that it tells."""
     path: str

@@ -1,10 +1,10 @@
-//! What a lock takes in Rust: the rounds of `table_benchmark locks` with a `Mutex` of std's in the place of each shard's lock,
+//! What a lock takes in Rust: the rounds of `bench_table locks` with a `Mutex` of std's in the place of each shard's lock,
 //! and the same rounds with none, by as many threads, of as many locks. A round takes the lock of a payload as large as
 //! a shard's book, and counts in it.
 //!
 //!     rustc -O --edition 2024 benches/mutex/main.rs -o /tmp/mutex && /tmp/mutex 1000000
 //!
-//! Prints, as `table_benchmark locks` does, the least of five times for a round in ns, of the thread that took longest each
+//! Prints, as `bench_table locks` does, the least of five times for a round in ns, of the thread that took longest each
 //! time: without the lock, and with it.
 
 use std::hint::black_box;

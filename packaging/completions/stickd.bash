@@ -11,7 +11,7 @@ _stickd() {
     fi
     # What the option before wants; else what the command has.
     case "$command $before" in
-        "replay --shards" | "replay --purge" | "run --threads" | "run --shards" | "run --purge" | "run --connections" | "run --backlog" | "run --timeout-connect" | "run --timeout-client" | "run --timeout-server" | "run --timeout-fin" | "run --keepalive" | "run --socket-mode" | "run --socket-clients" | "run --timeout-socket" | "run --stop-after" | "run --roll-at")
+        "adopt --frontend" | "replay --shards" | "replay --purge" | "run --threads" | "run --shards" | "run --purge" | "run --connections" | "run --backlog" | "run --timeout-connect" | "run --timeout-client" | "run --timeout-server" | "run --timeout-fin" | "run --keepalive" | "run --socket-mode" | "run --socket-clients" | "run --timeout-socket" | "run --stop-after" | "run --roll-at")
             return
             ;;
         "run --socket")
@@ -23,9 +23,16 @@ _stickd() {
             ;;
     esac
     if ((COMP_CWORD == 1)); then
-        choices=(-W "check replay run help -h --help -V --version")
+        choices=(-W "adopt check replay run help -h --help -V --version")
     fi
     ((${#choices[@]})) || case "$command ${word:0:1}" in
+        "adopt -")
+            choices=(-W "--anyway --command --first-server --frontend -h --help")
+            ;;
+        "adopt "*)
+            compopt -o filenames 2>/dev/null
+            choices=(-f)
+            ;;
         "check -")
             choices=(-W "--explain -h --help")
             ;;
@@ -48,7 +55,7 @@ _stickd() {
             choices=(-f)
             ;;
         "help "*)
-            choices=(-W "check replay run help")
+            choices=(-W "adopt check replay run help")
             ;;
     esac
     ((${#choices[@]})) && mapfile -t COMPREPLY < <(compgen "${choices[@]}" -- "$word")

@@ -8,10 +8,18 @@ end
 complete -c stickd -f
 complete -c stickd -n '__stickd_at' -s h -l help -d 'Print help'
 complete -c stickd -n '__stickd_at' -s V -l version -d 'Print version'
+complete -c stickd -n '__stickd_at' -a adopt -d 'Write the configuration that stickd runs in place of HAProxy\'s'
 complete -c stickd -n '__stickd_at' -a check -d 'Read a configuration, and say what is wrong with it'
 complete -c stickd -n '__stickd_at' -a replay -d 'Replay a timed script of connections and commands on standard input'
 complete -c stickd -n '__stickd_at' -a run -d 'Run the proxy, and answer commands on a socket'
 complete -c stickd -n '__stickd_at' -a help -d 'Print this message or the help of the given subcommand(s)'
+
+complete -c stickd -n '__stickd_at adopt' -l anyway -d 'Write it also where what is served changes'
+complete -c stickd -n '__stickd_at adopt' -l command -d 'Write the command line that runs it, and nothing else'
+complete -c stickd -n '__stickd_at adopt' -l first-server -d 'Keep the first of several servers'
+complete -c stickd -n '__stickd_at adopt' -l frontend -x -d 'The frontend or listen section to serve [default: the first that isn\'t HTTP]'
+complete -c stickd -n '__stickd_at adopt' -s h -l help -d 'Print help'
+complete -c stickd -n '__stickd_at adopt' -F
 
 complete -c stickd -n '__stickd_at check' -l explain -d 'Show the line below a fault or a warning, and say what commonly causes it, or what is lost'
 complete -c stickd -n '__stickd_at check' -s h -l help -d 'Print help'
@@ -42,4 +50,4 @@ complete -c stickd -n '__stickd_at run' -l roll-at -x -d 'How many calls of a pa
 complete -c stickd -n '__stickd_at run' -s h -l help -d 'Print help'
 complete -c stickd -n '__stickd_at run' -F
 
-complete -c stickd -n '__stickd_at help' -a 'check replay run help'
+complete -c stickd -n '__stickd_at help' -a 'adopt check replay run help'

@@ -16,25 +16,25 @@ use Rattle.stored_data.specs.declared.field.Field.{Field}
 use Rattle.stored_data.specs.declared.stored_set.Column.{Column}
 use Rattle.stored_data.specs.declared.values.StoredValue.{StoredValue}
 use Rattle.stored_data.proofs.SameFields.{other_place}
-use Rattle.table_model.specs.Key.{Key, key_cmp, same_key}
-use Rattle.table_model.specs.Laws.{values_after}
-use Rattle.table_model.specs.Legal.{AreDataOf, AreFieldsOf, IsLegal}
-use Rattle.table_model.specs.Limits.{moment_of}
-use Rattle.table_model.specs.Run.{Run}
-use Rattle.table_model.specs.State.{State, empty_table, key_of, record_at, refs, row, stays, zero_record}
-use Rattle.table_model.specs.Step.{Outcome, Step, after, begun, found_or_zero, get, put_pairs}
-use Rattle.table_model.specs.declared.events.Event.{Event}
-use Rattle.table_model.specs.declared.events.Event.TheVariants.{Get, Track, Look, Count, Release, Put, Clear, ClearWhere, List as ListRows, Expire}
-use Rattle.table_model.specs.declared.replies.Reply.{Reply}
-use Rattle.table_model.specs.declared.replies.Reply.TheVariants.{Absent, Row as ARow}
-use Rattle.table_model.specs.declared.rows.Cell.{Cell}
-use Rattle.table_model.specs.declared.rows.Record.{Record}
-use Rattle.table_model.specs.declared.rows.Row.{Row}
-use Rattle.table_model.specs.declared.specification.Spec.{Spec}
-use Rattle.table_model.proofs.EntryLemmas.{lookup-filter-cases}
-use Rattle.table_model.proofs.FateLemmas.{Fate, gone, same, made, step_fate}
-use Rattle.table_model.proofs.LegalLemmas.{IsOrderly, empty_legal, orderly-from_legal, step_orderly}
-use Rattle.table_model.proofs.StepLemmas.{step_spec}
+use Rattle.stick_model.specs.Key.{Key, key_cmp, same_key}
+use Rattle.stick_model.specs.Laws.{values_after}
+use Rattle.stick_model.specs.Legal.{AreDataOf, AreFieldsOf, IsLegal}
+use Rattle.stick_model.specs.Limits.{moment_of}
+use Rattle.stick_model.specs.Run.{Run}
+use Rattle.stick_model.specs.State.{State, empty_table, key_of, record_at, refs, row, stays, zero_record}
+use Rattle.stick_model.specs.Step.{Outcome, Step, after, begun, found_or_zero, get, put_pairs}
+use Rattle.stick_model.specs.declared.events.Event.{Event}
+use Rattle.stick_model.specs.declared.events.Event.TheVariants.{Get, Track, Look, Count, Release, Put, Clear, ClearWhere, List as ListRows, Expire}
+use Rattle.stick_model.specs.declared.replies.Reply.{Reply}
+use Rattle.stick_model.specs.declared.replies.Reply.TheVariants.{Absent, Row as ARow}
+use Rattle.stick_model.specs.declared.rows.Cell.{Cell}
+use Rattle.stick_model.specs.declared.rows.Record.{Record}
+use Rattle.stick_model.specs.declared.rows.Row.{Row}
+use Rattle.stick_model.specs.declared.specification.Spec.{Spec}
+use Rattle.stick_model.proofs.EntryLemmas.{lookup-filter-cases}
+use Rattle.stick_model.proofs.FateLemmas.{Fate, gone, same, made, step_fate}
+use Rattle.stick_model.proofs.LegalLemmas.{IsOrderly, empty_legal, orderly-from_legal, step_orderly}
+use Rattle.stick_model.proofs.StepLemmas.{step_spec}
 use Rattle.rule_eval.proofs.ShownLemmas.{shown_lem}
 use Rattle.rule_eval.specs.Readings.{value_in}
 use Rattle.admit_core.specs.Shown.{LookLaw, ReadingLaw, RowLaw, is_reading}

@@ -2,10 +2,10 @@
 use Rattle.std.specs.Prelude.{refl, ◌≡◌, ℕ, [], ◌∷◌, Some, None}
 use Rattle.stored_data.specs.Fields.{same_field}
 use Rattle.stored_data.specs.declared.act.Act.TheVariants.{BytesIn, BytesOut, Session}
-use Rattle.table_model.specs.State.{State, empty_table}
-use Rattle.table_model.specs.Step.{after}
-use Rattle.table_model.specs.declared.events.Event.TheVariants as events
-use Rattle.table_model.specs.declared.replies.Reply.TheVariants as replies
+use Rattle.stick_model.specs.State.{State, empty_table}
+use Rattle.stick_model.specs.Step.{after}
+use Rattle.stick_model.specs.declared.events.Event.TheVariants as events
+use Rattle.stick_model.specs.declared.replies.Reply.TheVariants as replies
 use Rattle.rule_model.specs.declared.actions.Slot.TheVariants.{Sc0, Sc1}
 use Rattle.rule_eval.specs.Examples.{addresses, client, client_key, one_each, shown}
 use Rattle.rule_eval.specs.Verdict.{effect, judged}

@@ -2,19 +2,19 @@
 use Rattle.std.specs.Prelude.{◌≡◌, ℕ, Bool, true, false, List, Some}
 use Rattle.stored_data.specs.Stored.{is_column}
 use Rattle.stored_data.specs.declared.datum.Datum.TheVariants.{ConnCur}
-use Rattle.table_model.specs.Key.{Key}
-use Rattle.table_model.specs.Legal.{IsLegal}
-use Rattle.table_model.specs.Run.{Run}
-use Rattle.table_model.specs.State.{State, empty_table, record_at, refs, row}
-use Rattle.table_model.specs.Step.{Step}
-use Rattle.table_model.specs.declared.events.Event.{Event}
-use Rattle.table_model.specs.declared.events.Event.TheVariants.{Get, Look}
-use Rattle.table_model.specs.declared.replies.Reply.{Reply}
-use Rattle.table_model.specs.declared.replies.Reply.TheVariants.{Row as ARow}
-use Rattle.table_model.specs.declared.rows.Record.{Record}
-use Rattle.table_model.specs.declared.rows.Row.{Row}
-use Rattle.table_model.specs.declared.rows.Ticket.{Ticket}
-use Rattle.table_model.specs.declared.specification.Spec.{Spec}
+use Rattle.stick_model.specs.Key.{Key}
+use Rattle.stick_model.specs.Legal.{IsLegal}
+use Rattle.stick_model.specs.Run.{Run}
+use Rattle.stick_model.specs.State.{State, empty_table, record_at, refs, row}
+use Rattle.stick_model.specs.Step.{Step}
+use Rattle.stick_model.specs.declared.events.Event.{Event}
+use Rattle.stick_model.specs.declared.events.Event.TheVariants.{Get, Look}
+use Rattle.stick_model.specs.declared.replies.Reply.{Reply}
+use Rattle.stick_model.specs.declared.replies.Reply.TheVariants.{Row as ARow}
+use Rattle.stick_model.specs.declared.rows.Record.{Record}
+use Rattle.stick_model.specs.declared.rows.Row.{Row}
+use Rattle.stick_model.specs.declared.rows.Ticket.{Ticket}
+use Rattle.stick_model.specs.declared.specification.Spec.{Spec}
 use Rattle.rule_eval.specs.Readings.{value_in}
 
 -- after every run from the empty table, where it stores conn_cur, a look shows of it how many references its key has

@@ -13,9 +13,9 @@ ghost use Rattle.admit_core.specs.declared.need.Need.TheVariants.{Rest, Turn};
 
 use crate::held::Held;
 use crate::{Need, Phase};
+use base_sequence::NoMemory;
 use rule_eval::{Answer, Asked, Eval, Samples, Verdict, Want};
 use rule_model::{Setup, Slot};
-use sequence::NoMemory;
 use std::alloc::Global;
 use stored_data::Act;
 

@@ -1,3 +1,5 @@
 pub mod Status
 pub mod Written
 pub mod Checked
+pub mod Lines
+pub mod Keywords

@@ -5,8 +5,8 @@ use Rattle.std.specs.Str.{is_utf8}
 use Rattle.std.specs.declared.vec.Vec.{Vec}
 use Rattle.std.specs.declared.alloc.Global.{Global}
 use Rattle.adopt.specs.declared.written.Adopted.{Adopted}
-use Rattle.adopt_plan.specs.declared.fates.FateKind.{FateKind}
-use Rattle.adopt_plan.specs.declared.fates.FateKind.TheVariants.{Kept, Rewritten, Moved, Harmless, Altered, Lost}
+use Rattle.adopt.specs.declared.fates.FateKind.{FateKind}
+use Rattle.adopt.specs.declared.fates.FateKind.TheVariants.{Kept, Rewritten, Moved, Harmless, Altered, Lost}
 
 -- a byte of ASCII, or a question mark
 abbrev pub ascii : ℕ → ℕ

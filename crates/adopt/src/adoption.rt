@@ -1,20 +1,22 @@
 //! A whole file, adopted.
 
 ghost use Rattle.std.specs.Prelude.{◌≡◌, ◌++◌, ℕ, List, IfOk, IfSome};
-ghost use Rattle.adopt_words.specs.Lines.{own_lines, own_raws};
+ghost use Rattle.adopt.specs.Lines.{own_lines, own_raws};
 ghost use Rattle.adopt.specs.Checked.{IsTaken};
 ghost use Rattle.adopt.specs.Status.{status_of};
 ghost use Rattle.adopt.specs.Written.{composed, raws_of};
 
 use crate::checked::first_fault;
+use crate::choices::make_plan;
 use crate::command::{HEAD, command_of};
+use crate::fates::{Fate, FateKind, fates_of};
+use crate::lexer::{SourceLine, Variable, read_lines};
+use crate::options::{CommandOption, command_options};
+use crate::plan::{PatternFile, Plan, Wishes, pattern_files};
+use crate::reasons::Why;
+use crate::texts::{copy_text, copy_words, text_of};
 use crate::written::{Adopted, push_line, push_pieces};
-use adopt_plan::{
-    CommandOption, Fate, FateKind, PatternFile, Plan, Why, Wishes, command_options, fates_of,
-    make_plan, pattern_files,
-};
-use adopt_words::{SourceLine, Variable, copy_text, copy_words, read_lines, text_of};
-use sequence::NoMemory;
+use base_sequence::NoMemory;
 use std::alloc::Global;
 
 /// What became of a file.
@@ -62,7 +64,7 @@ fn heading(alloc: Global, is_there: bool, command: &[u8]) -> Result<Vec<u8>, NoM
         return Ok(text);
     }
     let mut line = text_of(alloc, "# ")?;
-    adopt_words::append(&mut line, command)?;
+    crate::texts::append(&mut line, command)?;
     push_line(&mut text, line.as_slice())?;
     Ok(text)
 }

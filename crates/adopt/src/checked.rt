@@ -3,9 +3,9 @@
 ghost use Rattle.std.specs.Prelude.{◌≡◌, OnOk, IfOk, IsNone, None};
 ghost use Rattle.adopt.specs.Checked.{IsTaken};
 
+use base_sequence::NoMemory;
 use rule_config::read_config;
 use rule_model::ReadError;
-use sequence::NoMemory;
 use std::alloc::Global;
 
 /// The first line that stickd doesn't read, or reads past with a warning, from 1. None where it takes the whole text.

@@ -1,8 +1,8 @@
 //! The command line that stands for lines of limits and times.
 
-use adopt_plan::CommandOption;
-use adopt_words::{append, append_str, copy_text};
-use sequence::NoMemory;
+use crate::options::CommandOption;
+use crate::texts::{append, append_str, copy_text};
+use base_sequence::NoMemory;
 use std::alloc::Global;
 
 /// What the command line begins with: the configuration's name and the socket are for whoever runs it to change.

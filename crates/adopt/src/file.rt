@@ -1,11 +1,12 @@
 //! Adopting a file that is named: what is read, and what is written where.
 
 use crate::adoption::{Adoption, adopt, wanted_files};
+use crate::lexer::Variable;
+use crate::plan::{PatternFile, Wishes};
 use crate::report::report_of;
 use crate::status::SAME;
-use adopt_plan::{PatternFile, Wishes};
-use adopt_words::{Variable, append, append_str, copy_text};
-use sequence::NoMemory;
+use crate::texts::{append, append_str, copy_text};
+use base_sequence::NoMemory;
 use std::alloc::Global;
 use std::env::VarError;
 use std::rt::{Env, Files};

@@ -1,17 +1,54 @@
 //! An HAProxy configuration carried over: the configuration that stickd runs in its place, the command line, and a
 //! report of what became of each line.
+//!
+//! The lines of an HAProxy configuration as words: quotes, escapes and variables resolved (HAProxy Configuration Manual
+//! 2.6, sections 2.2 and 2.3); and small work on words.
+//!
+//! What becomes of each line of an HAProxy configuration: it is kept, rewritten, or left out with a reason.
+//!
+//! A file is read into a `Plan`: its sections, the one frontend that is served and its backend, and what their rules
+//! track. Then each line has a `Fate`, and options of the command line stand for lines of limits and times.
 #![tactic(auto)]
 
+mod actions;
+mod addresses;
 mod adoption;
+mod calls;
 mod checked;
+mod choices;
 mod command;
+mod conditions;
+mod criteria;
+mod entries;
+mod fates;
+mod fetches;
 mod file;
+mod guards;
+mod headings;
+mod keywords;
+mod lexer;
+mod listeners;
+mod options;
+mod plan;
+mod proxy_lines;
+mod reasons;
 mod report;
+mod roles;
+mod rule_lines;
+mod rules;
+mod sections;
+mod servers;
+mod standing;
 mod status;
+mod tables;
+mod texts;
+mod values;
 mod written;
 
 pub use adoption::{Adoption, adopt, wanted_files};
 pub use file::{Asked, adopt_file};
+pub use plan::Wishes;
 pub use report::report_of;
 pub use status::{LOST, SAME, status_of};
+pub use texts::text_of;
 pub use written::Adopted;

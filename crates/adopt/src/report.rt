@@ -1,10 +1,10 @@
 //! What is said of each line.
 
 use crate::adoption::Adoption;
-use adopt_plan::{Fate, FateKind};
-use adopt_words::{append, append_str};
-use line_text::push_decimal;
-use sequence::NoMemory;
+use crate::fates::{Fate, FateKind};
+use crate::texts::{append, append_str};
+use base_lines::push_decimal;
+use base_sequence::NoMemory;
 use std::alloc::Global;
 
 /// How a fate begins.

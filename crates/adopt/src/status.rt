@@ -4,8 +4,8 @@ ghost use Rattle.std.specs.Prelude.{◌≡◌};
 ghost use Rattle.std.specs.List.{list_any};
 ghost use Rattle.adopt.specs.Status as spec;
 
+use crate::fates::FateKind;
 use crate::written::Adopted;
-use adopt_plan::FateKind;
 
 /// The status where what is served is the same.
 pub const SAME: u8 = 0;

@@ -5,9 +5,9 @@ ghost use Rattle.std.specs.Str.{is_utf8};
 ghost use Rattle.adopt.specs.Written as spec;
 ghost use Rattle.adopt.specs.Written.{line_of, comment_of, piece_of, added_lines, composed};
 
-use adopt_plan::{Fate, FateKind};
-use config_words::is_text;
-use sequence::NoMemory;
+use crate::fates::{Fate, FateKind};
+use base_sequence::NoMemory;
+use rule_words::is_text;
 
 /// A line of the file, and what becomes of it.
 #[derive(Drop)]

@@ -6,20 +6,33 @@
 //!
 //! The words of the contracts are in `specs::Bytes`. A crate above cites the lemmas on them as
 //! `Rattle.byte_ports.proofs.Pieces`.
+//!
+//! Writes that are gathered, so that many short ones are a single one of the device.
+//!
+//! `GatheringSink` is a `Sink` over another, and its contracts see what it has taken. `SharedSink` and `FlushingSource`
+//! are the two ends of a conversation that share one: what was written comes before the next read.
 #![tactic(auto)]
-
-mod memory_sink;
-mod memory_source;
-mod pace;
-mod stream_sink;
-mod stream_source;
-mod writes;
 
 ghost use Rattle.std.specs.Prelude.{◌≡◌, ℕ, ◌<◌, ◌≤◌, List, [], length, take, IfOk, OnOk, OnErr};
 ghost use Rattle.byte_ports.specs.Bytes.{Grows, IsAtEnd, IsOneMore, Takes};
 
+mod flushing_source;
+mod gathering_sink;
+mod held_bytes;
+mod memory_sink;
+mod memory_source;
+mod pace;
+mod shared_sink;
+mod stream_sink;
+mod stream_source;
+mod writes;
+
+pub use flushing_source::{FlushingSource, flush_shared};
+pub use gathering_sink::GatheringSink;
+pub use held_bytes::ROOM;
 pub use memory_sink::MemorySink;
 pub use memory_source::MemorySource;
+pub use shared_sink::SharedSink;
 pub use stream_sink::StreamSink;
 pub use stream_source::StreamSource;
 pub use writes::{Stopped, write_all};

@@ -3,7 +3,7 @@ use Rattle.std.proofs.Common.{◌≡◌, ◌≢◌, ◌⊎◌, ℕ, zero, suc, �
 use Rattle.std.proofs.lemmas.Bool.{eqb-true, eq-eqb}
 use Rattle.std.proofs.lemmas.List.{get_or-set_same, get_or-set_other}
 use Rattle.std.proofs.Permutation.{which}
-use Rattle.slot_handle.specs.declared.Handle.{Handle}
+use Rattle.entry_pool.specs.declared.slot_handle.Handle.{Handle}
 use Rattle.entry_pool.specs.Contents.{Entry, entry, Contents, entry_at, find, value_of_generation, IsGone}
 use Rattle.entry_pool.specs.Calls.{Call, IsCall, handle_of, after}
 use Rattle.entry_pool.specs.Calls.Call.{inserted, written, removed}

@@ -8,3 +8,4 @@ pub mod SlotLemmas
 pub mod SoundLemmas
 pub mod Steps
 pub mod Threads
+pub mod DistinctSlots

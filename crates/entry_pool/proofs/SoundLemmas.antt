@@ -8,7 +8,7 @@ use Rattle.std.proofs.lemmas.Option.{get_or_from_slice_get, slice_get-get_or, sl
 use Rattle.std.specs.List.{slice_get}
 use Rattle.entry_pool.specs.declared.Live.{Live}
 use Rattle.entry_pool.specs.declared.TheConstants.{FULL}
-use Rattle.slot_handle.specs.declared.TheConstants.{NONE}
+use Rattle.entry_pool.specs.declared.slot_handle.TheConstants.{NONE}
 use Rattle.entry_pool.specs.Slots.{IsFreeChain, IsTold, AreAllFree, IsSound}
 use Rattle.entry_pool.proofs.SlotLemmas.{none_some, same_some, get_within, count_set}
 

@@ -1,6 +1,6 @@
 -- What the calls on a pool do to it, one after another.
 use Rattle.std.specs.Prelude.{◌≡◌, ◌<◌, List, [], ◌∷◌, None, IsSome}
-use Rattle.slot_handle.specs.declared.Handle.{Handle}
+use Rattle.entry_pool.specs.declared.slot_handle.Handle.{Handle}
 use Rattle.entry_pool.specs.Contents.{Contents, entry_at, find, with_value, with_inserted, without}
 
 -- a call that changes a pool: an insert that gave this handle, a write through `get_mut`, or a removal

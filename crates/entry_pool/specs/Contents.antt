@@ -1,7 +1,7 @@
 -- What a contract sees of a `Pool`: a finite map from handles to values.
 use Rattle.std.specs.Prelude.{◌≡◌, ℕ, ◌==◌, ◌≤◌, if◌then◌else◌, List, length, replicate, get_or, slice_set, Option, Some, None, is_some, count_by, refl}
 use Rattle.std.specs.Coded.{Coded, code_by, coded×, coded_list, coded_option, coded_ℕ}
-use Rattle.slot_handle.specs.declared.Handle.{Handle}
+use Rattle.entry_pool.specs.declared.slot_handle.Handle.{Handle}
 
 -- a live value, and the generation of its handle
 pub record Entry (T : Type 0) : Type 0 where

@@ -1,6 +1,6 @@
 -- What every pool keeps, whatever is called on it.
 use Rattle.std.specs.Prelude.{◌≡◌, ◌≢◌, List, Some}
-use Rattle.slot_handle.specs.declared.Handle.{Handle}
+use Rattle.entry_pool.specs.declared.slot_handle.Handle.{Handle}
 use Rattle.entry_pool.specs.Contents.{Contents, find, with_inserted, IsGone, IsPool}
 use Rattle.entry_pool.specs.Calls.{Call, IsGiven, IsCall, AreCalls, handle_of, after, after_all}
 

@@ -1,7 +1,7 @@
 -- What a pool ends as, where a `&mut` to one of its values is returned.
 use Rattle.std.specs.Prelude.{Option}
 use Rattle.std.specs.Borrow.{LendsIf, Fml, RattleType, MutBor}
-use Rattle.slot_handle.specs.declared.Handle.{Handle}
+use Rattle.entry_pool.specs.declared.slot_handle.Handle.{Handle}
 use Rattle.entry_pool.specs.Contents.{Contents, with_value}
 use Rattle.entry_pool.specs.contracts.Pool.{the_row}
 

@@ -3,7 +3,7 @@ use Rattle.std.specs.Prelude.{◌≡◌, ℕ, zero, suc, ◌+◌, ◌-◌, ◌^�
 use Rattle.entry_pool.specs.Contents.{Entry, entry}
 use Rattle.entry_pool.specs.declared.Live.{Live}
 use Rattle.entry_pool.specs.declared.TheConstants.{FULL}
-use Rattle.slot_handle.specs.declared.TheConstants.{NONE}
+use Rattle.entry_pool.specs.declared.slot_handle.TheConstants.{NONE}
 
 -- from this slot on, so many free slots each name the next, and the last names none
 abbrev pub IsFreeChain : List ℕ → ℕ → ℕ → Type 0

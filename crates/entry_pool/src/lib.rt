@@ -9,11 +9,11 @@ ghost use Rattle.entry_pool.specs.Slots.{IsTold, AreAllFree};
 
 mod block;
 pub mod laws;
+mod slot_handle;
 
+use base_sequence::NoMemory;
 use block::Block;
-use sequence::NoMemory;
-pub use slot_handle::Handle;
-use slot_handle::NONE;
+pub use slot_handle::{Handle, NONE};
 use std::alloc::Global;
 use std::marker::Model;
 use std::snapshot::Snapshot;

@@ -5,9 +5,9 @@ use Rattle.std.proofs.lemmas.List.{get_or-set_same, get_or-set_other}
 use Rattle.std.proofs.lemmas.Map.Steps.{length-le_from_distinct_below}
 use Rattle.std.specs.List.{IsDistinct, list_any}
 use Rattle.expiry_order.specs.declared.Link.{Link}
-use Rattle.slot_handle.specs.declared.TheConstants.{NONE}
+use Rattle.entry_pool.specs.declared.slot_handle.TheConstants.{NONE}
 use Rattle.expiry_order.specs.Links.{link, no_link, walk, slots_from, IsLinked, with_next, with_previous, slot_or_none}
-use Rattle.slot_handle.proofs.DistinctSlots.{Off, Off-cut, distinct-push, distinct-cut, distinct-last, distinct-front, distinct-back, distinct-head}
+use Rattle.entry_pool.proofs.DistinctSlots.{Off, Off-cut, distinct-push, distinct-cut, distinct-last, distinct-front, distinct-back, distinct-head}
 
 -- a write at a slot that is none of these
 pub linked-set : (links : List Link) (at : ℕ) (w : Link) (slots : List ℕ) (before first last after : ℕ) → Off at slots → IsLinked links before first last after slots → IsLinked (set links at w) before first last after slots

@@ -1,7 +1,7 @@
 -- What is left of a list of distinct slots without one of them, and what follows it.
 use Rattle.std.proofs.Common.{◌≡◌, ℕ, List, [], ◌∷◌, ◌++◌, slice_get, refl, ap}
 use Rattle.std.proofs.lemmas.Bool.{eq-eqb}
-use Rattle.slot_handle.proofs.DistinctSlots.{Off, eqb-flip}
+use Rattle.entry_pool.proofs.DistinctSlots.{Off, eqb-flip}
 use Rattle.expiry_order.specs.Queue.{slot_after, without}
 
 without-off : (slots : List ℕ) (slot : ℕ) → Off slot slots → without slots slot ≡ slots

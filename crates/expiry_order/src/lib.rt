@@ -7,8 +7,8 @@ ghost use Rattle.std.specs.List.{Contains};
 ghost use Rattle.expiry_order.specs.Queue.{IsQueue, queue, slot_after, without};
 ghost use Rattle.expiry_order.specs.Links.{with_next, with_previous, slot_or_none};
 
-use sequence::NoMemory;
-use slot_handle::NONE;
+use base_sequence::NoMemory;
+use entry_pool::NONE;
 use std::alloc::Global;
 use std::marker::Model;
 
@@ -38,7 +38,7 @@ impl Model for Order {
     ghost coded = { queue_code };
 
     ghost use Rattle.expiry_order.specs.Links.{slots_from, IsLinked};
-    ghost use Rattle.slot_handle.specs.declared.TheConstants.{NONE};
+    ghost use Rattle.entry_pool.specs.declared.slot_handle.TheConstants.{NONE};
 
     ghost view = { λ o. queue (length o.links.items) (slots_from o.links.items o.front) };
 

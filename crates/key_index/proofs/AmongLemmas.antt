@@ -2,7 +2,7 @@
 use Rattle.std.proofs.Common.{◌≡◌, ◌≢◌, ◌⊎◌, inl, inr, ℕ, ◌||◌, Bool, true, false, true≢false, eqb, List, [], ◌∷◌, ◌++◌, refl, sym, ap, subst}
 use Rattle.std.proofs.lemmas.Bool.{eqb-true, eqb-false, ne_eqb}
 use Rattle.std.specs.List.{IsDistinct, list_any}
-use Rattle.slot_handle.proofs.DistinctSlots.{Off, Cut}
+use Rattle.entry_pool.proofs.DistinctSlots.{Off, Cut}
 use Rattle.key_index.specs.Chains.{IsAmong}
 
 pub off_from_not_among : (slot : ℕ) (slots : List ℕ) → (IsAmong slot slots → ⊥) → Off slot slots

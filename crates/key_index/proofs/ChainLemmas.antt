@@ -4,10 +4,10 @@ use Rattle.std.proofs.lemmas.Bool.{eqb-false, eq-eqb}
 use Rattle.std.proofs.lemmas.Map.Steps.{length-le_from_distinct_below}
 use Rattle.std.proofs.lemmas.Nat.{and_le_r}
 use Rattle.std.specs.List.{IsDistinct}
-use Rattle.slot_handle.proofs.DistinctSlots.{Off-cut, distinct-head}
+use Rattle.entry_pool.proofs.DistinctSlots.{Off-cut, distinct-head}
 use Rattle.key_index.specs.Chains.{hash_of, bucket_of, IsAmong, IsChain, link_at, steps_left}
 use Rattle.key_index.specs.declared.Link.{Link}
-use Rattle.slot_handle.specs.declared.TheConstants.{NONE}
+use Rattle.entry_pool.specs.declared.slot_handle.TheConstants.{NONE}
 use Rattle.key_index.proofs.AmongLemmas.{among_any}
 use Rattle.key_index.proofs.NodeLemmas.{not_none}
 

@@ -8,7 +8,7 @@ use Rattle.std.proofs.Permutation.{which}
 use Rattle.key_index.specs.Chains.{bucket_of, mark_of, HasNode, HoldsKey, LeadsTo, IsSound, IsMarked, marks_behind}
 use Rattle.key_index.specs.declared.Node.{Node}
 use Rattle.key_index.specs.declared.Link.{Link}
-use Rattle.slot_handle.specs.declared.TheConstants.{NONE}
+use Rattle.entry_pool.specs.declared.slot_handle.TheConstants.{NONE}
 use Rattle.key_index.proofs.ChainLemmas.{bucket-inside}
 use Rattle.key_index.proofs.SearchLemmas.{leads_end}
 

@@ -8,7 +8,7 @@ use Rattle.key_index.specs.Chains.{HasNode, HoldsKey, IsSound, entry_in}
 use Rattle.key_index.specs.Keys.{Entry, Keys, entry, keys, HasDistinctKeys, HasKey, IsAbsent, without_slot}
 use Rattle.key_index.specs.declared.Node.{Node}
 use Rattle.key_index.specs.declared.Link.{Link}
-use Rattle.slot_handle.specs.declared.TheConstants.{NONE}
+use Rattle.entry_pool.specs.declared.slot_handle.TheConstants.{NONE}
 
 -- within a list, what a read gives does not come from the default
 any_default : {X : Type 0} (xs : List X) (i : ℕ) (d e : X) → i < length xs → get_or xs i d ≡ get_or xs i e

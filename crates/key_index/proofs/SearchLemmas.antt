@@ -4,7 +4,7 @@ use Rattle.std.specs.List.{IsDistinct}
 use Rattle.key_index.specs.Chains.{IsAmong, HoldsKey, IsChain, IsBefore, LeadsTo, link_at, steps_left}
 use Rattle.key_index.specs.declared.Node.{Node}
 use Rattle.key_index.specs.declared.Link.{Link}
-use Rattle.slot_handle.specs.declared.TheConstants.{NONE}
+use Rattle.entry_pool.specs.declared.slot_handle.TheConstants.{NONE}
 use Rattle.key_index.proofs.AmongLemmas.{distinct-tail, among_at}
 use Rattle.key_index.proofs.ChainLemmas.{chain_inside, chain_fits, steps_are}
 

@@ -4,11 +4,11 @@ use Rattle.std.proofs.lemmas.Bool.{cases_lt}
 use Rattle.std.proofs.lemmas.List.{get_or-replicate, get_or-set_same, get_or-set_other, length-replicate, get_or_past}
 use Rattle.std.proofs.Permutation.{which}
 use Rattle.std.specs.List.{IsDistinct}
-use Rattle.slot_handle.proofs.DistinctSlots.{Off-append, distinct-cut, distinct-none}
+use Rattle.entry_pool.proofs.DistinctSlots.{Off-append, distinct-cut, distinct-none}
 use Rattle.key_index.specs.Chains.{bucket_of, IsAmong, HasNode, IsChain, Chain, IsSound, link_at, no_link}
 use Rattle.key_index.specs.declared.Node.{Node}
 use Rattle.key_index.specs.declared.Link.{Link}
-use Rattle.slot_handle.specs.declared.TheConstants.{NONE}
+use Rattle.entry_pool.specs.declared.slot_handle.TheConstants.{NONE}
 use Rattle.key_index.proofs.AmongLemmas.{off_from_not_among, among_rest, among_all, apart_from, distinct-cons}
 use Rattle.key_index.proofs.NodeLemmas.{kept_node, same_node}
 use Rattle.key_index.proofs.ChainLemmas.{chain_same}

@@ -6,7 +6,7 @@ use Rattle.std.proofs.Permutation.{which}
 use Rattle.key_index.specs.Chains.{tag_of, HasNode, HoldsKey, IsTagged, link_at, no_link, links_with_next}
 use Rattle.key_index.specs.declared.Node.{Node}
 use Rattle.key_index.specs.declared.Link.{Link}
-use Rattle.slot_handle.specs.declared.TheConstants.{NONE}
+use Rattle.entry_pool.specs.declared.slot_handle.TheConstants.{NONE}
 use Rattle.key_index.proofs.NodeLemmas.{kept_node, same_node}
 
 module _ (links : List Link) (nodes : List (Option Node)) (seed : ℕ) (t : IsTagged links nodes seed) where

@@ -2,11 +2,11 @@
 use Rattle.std.proofs.Common.{◌≡◌, ◌≢◌, ◌⊎◌, inl, inr, ℕ, ◌<◌, Bool, true, false, eqb, cond, List, [], ◌∷◌, ◌++◌, length, get_or, set, Option, None, refl, sym, ap, subst, ◌∙◌, arith, length-set, append_assoc}
 use Rattle.std.proofs.lemmas.List.{get_or-set_same, get_or-set_other}
 use Rattle.std.specs.List.{IsDistinct}
-use Rattle.slot_handle.proofs.DistinctSlots.{Off-cut, distinct-cut}
+use Rattle.entry_pool.proofs.DistinctSlots.{Off-cut, distinct-cut}
 use Rattle.key_index.specs.Chains.{bucket_of, IsAmong, HasNode, IsChain, IsBefore, IsSound, link_at, no_link, links_with_next, heads_with_next}
 use Rattle.key_index.specs.declared.Node.{Node}
 use Rattle.key_index.specs.declared.Link.{Link}
-use Rattle.slot_handle.specs.declared.TheConstants.{NONE}
+use Rattle.entry_pool.specs.declared.slot_handle.TheConstants.{NONE}
 use Rattle.key_index.proofs.AmongLemmas.{cut_among, among_at, apart_from}
 use Rattle.key_index.proofs.NodeLemmas.{not_none, same_node}
 use Rattle.key_index.proofs.ChainLemmas.{chain_inside, chain_unique, chain_same, chain_splice, chain_rest, front_empty}

@@ -7,7 +7,7 @@ use Rattle.std.specs.List.{IsDistinct}
 use Rattle.key_index.specs.Keys.{Entry, entry}
 use Rattle.key_index.specs.declared.Node.{Node}
 use Rattle.key_index.specs.declared.Link.{Link}
-use Rattle.slot_handle.specs.declared.TheConstants.{NONE}
+use Rattle.entry_pool.specs.declared.slot_handle.TheConstants.{NONE}
 
 -- SipHash-1-3 of the bytes, under the seed for both keys
 unfoldable pub hash_of : ℕ → List ℕ → ℕ

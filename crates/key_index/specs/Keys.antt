@@ -1,6 +1,6 @@
 -- What a contract sees of an `Index`: a finite map from keys to handles.
 use Rattle.std.specs.Prelude.{◌≡◌, ℕ, List, get_or, slice_set, replicate, length, Option, Some, None, refl}
-use Rattle.slot_handle.specs.declared.Handle.{Handle}
+use Rattle.entry_pool.specs.declared.slot_handle.Handle.{Handle}
 use Rattle.std.specs.Coded.{Coded, code_by, coded×, coded_list, coded_option, coded_ℕ}
 
 -- a key, and the generation of the handle that it has

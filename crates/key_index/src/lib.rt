@@ -12,11 +12,11 @@ ghost use Rattle.key_index.specs.declared.Node.{Node};
 mod sip;
 mod words;
 
+use base_sequence::NoMemory;
 use core::hash::keyed_hasher;
-use sequence::NoMemory;
+pub use entry_pool::Handle;
+use entry_pool::NONE;
 use sip::{hash_of_4, hash_of_16};
-pub use slot_handle::Handle;
-use slot_handle::NONE;
 use std::alloc::Global;
 use std::hash::Hasher;
 use std::marker::Model;

@@ -5,17 +5,17 @@ use Rattle.std.specs.Str.{IsAscii, is_utf8}
 use Rattle.std.proofs.lemmas.Bool.{false≢true}
 use Rattle.std.proofs.lemmas.Bool.Decides.{nat_tests}
 use Rattle.std.proofs.lemmas.Str.{IsUtf8-from_ascii, is_utf8-from_IsUtf8}
-use Rattle.line_text.specs.Number.{number_of}
+use Rattle.base_lines.specs.Number.{number_of}
 use Rattle.stored_data.specs.Names.{datum_of}
 use Rattle.rule_model.specs.Reading.{◌>>=◌, demand}
 use Rattle.rule_model.specs.declared.faults.Fault.{Fault}
 use Rattle.rule_model.specs.declared.faults.Fault.TheVariants.{BadCondition, BadNumber, BadSize, NotUtf8, UnknownAcl, UnknownTable, UnknownType}
-use Rattle.config_words.specs.Lines.{is_plain, lines_of, words_of}
-use Rattle.config_words.specs.Numbers.{size_of, size_unit, time_of, time_unit}
-use Rattle.config_words.specs.Table.{kind_of, table_of, with_item, with_setting}
-use Rattle.rule_terms.specs.Conditions.{criteria_of}
-use Rattle.rule_terms.specs.Names.{fetch_of, on_slot, plain_subject, slot_subject, subject_of}
-use Rattle.rule_terms.specs.Values.{operator_of, pattern_of, range_of}
+use Rattle.rule_words.specs.Lines.{is_plain, lines_of, words_of}
+use Rattle.rule_words.specs.Numbers.{size_of, size_unit, time_of, time_unit}
+use Rattle.rule_words.specs.Table.{kind_of, table_of, with_item, with_setting}
+use Rattle.rule_words.specs.Conditions.{criteria_of}
+use Rattle.rule_words.specs.TermNames.{fetch_of, on_slot, plain_subject, slot_subject, subject_of}
+use Rattle.rule_words.specs.Values.{operator_of, pattern_of, range_of}
 use Rattle.rule_config.specs.Actions.{action_of, key_of, rule_of, rule_with, table_named, track_of, tracked_slot}
 use Rattle.rule_config.specs.Config.{at_line, config_of, nothing_read, read_from, whole}
 use Rattle.rule_config.specs.Examples.{ExamplesLaw, frontend, limiting, rules_of, tables_in, with_table}

@@ -3,7 +3,7 @@ use Rattle.std.proofs.Common.{◌≡◌, ◌+◌, ◌⊎◌, inl, inr, ℕ, Opti
 use Rattle.rule_model.specs.Reading.{◌>>=◌, demand}
 use Rattle.rule_model.specs.declared.faults.Fault.{Fault}
 use Rattle.rule_model.specs.declared.faults.Fault.TheVariants.{NotUtf8, UnknownTable}
-use Rattle.config_words.specs.Lines.{is_plain, lines_of, words_of}
+use Rattle.rule_words.specs.Lines.{is_plain, lines_of, words_of}
 use Rattle.rule_config.specs.Config.{at_line, config_of, config_with, first_unmet, nothing_read, read_from, read_of, whole}
 use Rattle.rule_config.specs.Laws.{FaultLaw, IsFirstFault, IsFirstUnmet, Utf8Law}
 use Rattle.rule_config.specs.Lines.{line_says, with_line, with_statement, words_say}

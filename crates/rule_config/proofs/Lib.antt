@@ -2,3 +2,8 @@ pub mod ReadLemmas
 pub mod LawLemmas
 pub mod LimitLemmas
 pub mod ExampleLemmas
+pub mod RuleLemmas
+pub mod SaysLemmas
+pub mod KeepLemmas
+pub mod TextLemmas
+pub mod LimitExampleLemmas

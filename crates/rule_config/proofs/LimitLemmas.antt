@@ -3,7 +3,7 @@ use Rattle.std.proofs.Common.{◌≡◌, ◌+◌, ℕ, Bool, not, is_some, Optio
 use Rattle.std.proofs.lemmas.List.Elements.{All-append, All-cons, All-nil}
 use Rattle.std.specs.Prelude.{codes}
 use Rattle.std.specs.Str.{bytes_eq, is_utf8}
-use Rattle.address_text.specs.Addresses.{bind_of, server_of}
+use Rattle.rule_addresses.specs.Addresses.{bind_of, server_of}
 use Rattle.rule_model.specs.Reading.{◌>>=◌, demand}
 use Rattle.rule_model.specs.Served.{AreTables, IsTable, has_backend, has_frontend}
 use Rattle.rule_model.specs.declared.faults.Fault.{Fault}
@@ -11,12 +11,12 @@ use Rattle.rule_model.specs.declared.faults.Fault.TheVariants.{UnknownKeyword, S
 use Rattle.rule_model.specs.declared.sections.Config.{Config}
 use Rattle.rule_model.specs.declared.sections.Section.{Section}
 use Rattle.rule_model.specs.declared.sections.SectionKind.{SectionKind}
-use Rattle.config_words.specs.Lines.{first_word, is_plain, lines_of, other_words, words_of}
-use Rattle.config_words.specs.Names.{is_name}
-use Rattle.config_words.specs.Table.{found, once, table_of}
-use Rattle.rule_terms.specs.Conditions.{criterion_of}
+use Rattle.rule_words.specs.Lines.{first_word, is_plain, lines_of, other_words, words_of}
+use Rattle.rule_words.specs.Names.{is_name}
+use Rattle.rule_words.specs.Table.{found, once, table_of}
+use Rattle.rule_words.specs.Conditions.{criterion_of}
 use Rattle.rule_config.specs.Actions.{rule_of}
-use Rattle.config_words.proofs.TableLemmas.{ok_bind, ok_if, table_of-IsTable}
+use Rattle.rule_words.proofs.TableLemmas.{ok_bind, ok_if, table_of-IsTable}
 use Rattle.rule_config.specs.Config.{Answers, at_line, config_of, config_with, first_unmet, nothing_read, read_from, read_of, whole}
 use Rattle.rule_config.specs.Lines.{declared_by, declared_in, has_name, line_says, open_section, says_by, says_in, section_says, sections_of, with_line, with_statement, words_say}
 use Rattle.rule_config.specs.Statements.{acl_says, bind_says, default_backend_says, is_passed_line, is_passed_section, keyword_says, mode_says, no_more, section_kind, server_says, stick_table_says, tcp_request_says}

@@ -2,8 +2,8 @@
 use Rattle.std.proofs.Common.{◌≡◌, ◌≤◌, ◌+◌, ◌-◌, ℕ, Result, Ok, Err, List, [], ◌∷◌, ◌++◌, length, take, drop, refl, sym, ap, subst, ◌∙◌, arith, length-append, append_assoc, append-nil}
 use Rattle.std.proofs.lemmas.List.{take-append-drop}
 use Rattle.std.proofs.Math.Seq.{take-append_seam}
-use Rattle.line_text.specs.Parts.{parts, is_line_end}
-use Rattle.config_words.specs.Lines.{lines_of, without_crs}
+use Rattle.base_lines.specs.Parts.{parts, is_line_end}
+use Rattle.rule_words.specs.Lines.{lines_of, without_crs}
 use Rattle.rule_model.specs.Reading.{◌>>=◌, Fails}
 use Rattle.rule_model.specs.declared.faults.Fault.{Fault}
 use Rattle.rule_model.specs.declared.faults.ReadError.{ReadError}

@@ -2,8 +2,8 @@
 use Rattle.std.specs.Prelude.{◌≡◌, ℕ, ◌-◌, ◌^◌, ◌==◌, ◌&&◌, not, Bool, true, false, Option, Some, None, Result, Ok, Err, List, [], ◌∷◌, codes, if◌then◌else◌}
 use Rattle.std.specs.Borrow.{Bor}
 use Rattle.std.specs.Str.{bytes_eq}
-use Rattle.line_text.specs.Parentheses.{before_parenthesis, from_parenthesis, has_closing, inside}
-use Rattle.line_text.specs.Words.{is_some_text}
+use Rattle.base_lines.specs.Parentheses.{before_parenthesis, from_parenthesis, has_closing, inside}
+use Rattle.base_lines.specs.Words.{is_some_text}
 use Rattle.stored_data.specs.declared.act.Act.TheVariants.{IncGpc0, IncGpc1, SetGpt0, IncGpc, SetGpt}
 use Rattle.rule_model.specs.Reading.{◌>>=◌, demand, Fails}
 use Rattle.rule_model.specs.declared.actions.Slot.{Slot}
@@ -17,12 +17,12 @@ use Rattle.rule_model.specs.declared.rules.Rule.{Rule}
 use Rattle.rule_model.specs.declared.faults.Fault.{Fault}
 use Rattle.rule_model.specs.declared.faults.Fault.TheVariants.{UnknownKeyword, BadNumber}
 use Rattle.rule_model.specs.declared.faults.ReadError.{ReadError}
-use Rattle.config_words.specs.Lines.{first_word, other_words}
-use Rattle.config_words.specs.Numbers.{bounded_number}
-use Rattle.config_words.specs.Table.{found}
-use Rattle.rule_terms.specs.Conditions.{condition_of}
-use Rattle.rule_terms.specs.ElementNames.{element_of}
-use Rattle.rule_terms.specs.declared.elements.SlotElement.{SlotElement}
+use Rattle.rule_words.specs.Lines.{first_word, other_words}
+use Rattle.rule_words.specs.Numbers.{bounded_number}
+use Rattle.rule_words.specs.Table.{found}
+use Rattle.rule_words.specs.Conditions.{condition_of}
+use Rattle.rule_words.specs.ElementNames.{element_of}
+use Rattle.rule_words.specs.declared.elements.SlotElement.{SlotElement}
 
 -- ---- keys
 

@@ -10,7 +10,7 @@ use Rattle.rule_model.specs.declared.faults.Fault.{Fault}
 use Rattle.rule_model.specs.declared.faults.Fault.TheVariants.{UnknownTable}
 use Rattle.rule_model.specs.declared.faults.ReadError.{ReadError}
 use Rattle.rule_model.specs.declared.faults.ReadError.TheVariants.{OutOfMemory, Wrong}
-use Rattle.config_words.specs.Lines.{lines_of}
+use Rattle.rule_words.specs.Lines.{lines_of}
 use Rattle.rule_config.specs.Lines.{with_line, sections_of}
 use Rattle.rule_config.specs.declared.reading.Place.TheVariants.{Outside}
 use Rattle.rule_config.specs.declared.needs.Needed.{Needed}

@@ -3,7 +3,7 @@ use Rattle.std.specs.Prelude.{◌≡◌, ◌+◌, ◌⊎◌, ◌↔◌, ℕ, fal
 use Rattle.std.specs.Str.{is_utf8}
 use Rattle.rule_model.specs.declared.faults.Fault.{Fault}
 use Rattle.rule_model.specs.declared.faults.Fault.TheVariants.{NotUtf8, UnknownTable}
-use Rattle.config_words.specs.Lines.{lines_of}
+use Rattle.rule_words.specs.Lines.{lines_of}
 use Rattle.rule_config.specs.Config.{config_of, first_unmet, read_of}
 use Rattle.rule_config.specs.Lines.{line_says}
 use Rattle.rule_config.specs.declared.needs.Need.{Need}

@@ -4,3 +4,5 @@ pub mod Lines
 pub mod Config
 pub mod Laws
 pub mod Examples
+pub mod Text
+pub mod LimitExamples

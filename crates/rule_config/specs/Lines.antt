@@ -11,9 +11,9 @@ use Rattle.rule_model.specs.declared.sections.SectionKind.{SectionKind}
 use Rattle.rule_model.specs.declared.sections.Section.{Section}
 use Rattle.rule_model.specs.declared.faults.Fault.{Fault}
 use Rattle.rule_model.specs.declared.faults.Fault.TheVariants.{UnknownKeyword, SecondName, NotUtf8}
-use Rattle.config_words.specs.Lines.{words_of, is_plain, first_word, other_words}
-use Rattle.config_words.specs.Names.{is_name}
-use Rattle.rule_terms.specs.Conditions.{tables_of}
+use Rattle.rule_words.specs.Lines.{words_of, is_plain, first_word, other_words}
+use Rattle.rule_words.specs.Names.{is_name}
+use Rattle.rule_words.specs.Conditions.{tables_of}
 use Rattle.rule_config.specs.Statements.{no_more, keyword_says, is_passed_section, is_passed_line, section_kind}
 use Rattle.rule_config.specs.declared.statements.OpenSection.{OpenSection}
 use Rattle.rule_config.specs.declared.statements.Statement.{Statement}

@@ -1,7 +1,7 @@
 -- What a line of a section says.
 use Rattle.std.specs.Prelude.{ℕ, Bool, true, false, not, ◌||◌, Option, Some, None, is_some, Result, Ok, Err, List, [], ◌∷◌, codes, if◌then◌else◌}
 use Rattle.std.specs.Str.{bytes_eq}
-use Rattle.address_text.specs.Addresses.{bind_of, server_of}
+use Rattle.rule_addresses.specs.Addresses.{bind_of, server_of}
 use Rattle.rule_model.specs.Reading.{◌>>=◌, demand}
 use Rattle.rule_model.specs.Served.{has_frontend, has_backend}
 use Rattle.rule_model.specs.declared.sections.SectionKind.{SectionKind}
@@ -9,10 +9,10 @@ use Rattle.rule_model.specs.declared.sections.SectionKind.TheVariants.{Frontend,
 use Rattle.rule_model.specs.declared.sections.Section.{Section}
 use Rattle.rule_model.specs.declared.faults.Fault.{Fault}
 use Rattle.rule_model.specs.declared.faults.Fault.TheVariants.{UnknownKeyword, SecondName, SecondServer, ModeHttp}
-use Rattle.config_words.specs.Lines.{first_word, other_words}
-use Rattle.config_words.specs.Names.{is_name}
-use Rattle.config_words.specs.Table.{found, once, table_of}
-use Rattle.rule_terms.specs.Conditions.{criterion_of}
+use Rattle.rule_words.specs.Lines.{first_word, other_words}
+use Rattle.rule_words.specs.Names.{is_name}
+use Rattle.rule_words.specs.Table.{found, once, table_of}
+use Rattle.rule_words.specs.Conditions.{criterion_of}
 use Rattle.rule_config.specs.Actions.{rule_of}
 use Rattle.rule_config.specs.declared.statements.OpenSection.{OpenSection}
 use Rattle.rule_config.specs.declared.statements.Statement.{Statement}

@@ -1,16 +1,15 @@
 //! What a rule does, and when.
 
 ghost use Rattle.std.specs.Prelude.{◌≡◌, ◌∷◌};
-ghost use Rattle.line_text.specs.Words.{words_left};
+ghost use Rattle.base_lines.specs.Words.{words_left};
 ghost use Rattle.rule_model.specs.Reading.{Gives};
 ghost use Rattle.rule_config.specs.Actions as spec;
 ghost use Rattle.rule_config.specs.Actions.{GivesBefore, action_of, count_of, element_in, key_of, rule_of, rule_with, slot_of, table_named, track_of, with_next};
 
-use config_words::{next_or_empty, read_bounded};
-use line_text::{Words, before_parenthesis, has_closing, inside};
+use base_lines::{Words, before_parenthesis, has_closing, inside};
+use base_sequence::Sequence;
 use rule_model::{Acl, Action, Fault, KeyExpression, Name, ReadError, Rule, Slot};
-use rule_terms::{SlotElement, read_condition, read_element};
-use sequence::Sequence;
+use rule_words::{SlotElement, next_or_empty, read_bounded, read_condition, read_element};
 use std::alloc::Global;
 use stored_data::Act;
 

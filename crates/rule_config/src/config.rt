@@ -2,13 +2,13 @@
 
 ghost use Rattle.std.specs.Prelude.{◌≡◌, Ok, length, IfOk, IfErr};
 ghost use Rattle.rule_model.specs.Served.{AreTables};
-ghost use Rattle.config_words.specs.Lines.{lines_of};
+ghost use Rattle.rule_words.specs.Lines.{lines_of};
 ghost use Rattle.rule_config.specs.Config.{Answers, EndsBy, FailsAt, read_of, whole};
 
 use crate::needs::first_unmet;
 use crate::reading::Reading;
-use config_words::Lines;
 use rule_model::{Config, Fault, ReadError};
+use rule_words::Lines;
 use std::alloc::Global;
 use thiserror::Error;
 

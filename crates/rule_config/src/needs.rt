@@ -6,14 +6,14 @@ ghost use Rattle.std.specs.Option.{option_map};
 ghost use Rattle.rule_config.specs.declared.needs.Need.{Need};
 ghost use Rattle.std.specs.Str.{bytes_eq};
 ghost use Rattle.rule_model.specs.Served.{has_backend as specified_backend};
-ghost use Rattle.rule_terms.specs.Conditions.{tables_of};
+ghost use Rattle.rule_words.specs.Conditions.{tables_of};
 ghost use Rattle.rule_config.specs.Config.{is_declared as specified};
 ghost use Rattle.rule_config.specs.Lines.{action_needs, condition_needs, criteria_needs, needs_of, needs_tables, terms_needs};
 
 use crate::statements::Statement;
+use base_sequence::{NoMemory, Sequence};
 use rule_model::{Action, Condition, Criterion, Name, Section, Term};
-use rule_terms::table_read;
-use sequence::{NoMemory, Sequence};
+use rule_words::table_read;
 use std::alloc::Global;
 
 /// What a line needs of the whole file.

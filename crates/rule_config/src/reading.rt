@@ -3,7 +3,7 @@
 ghost use Rattle.std.specs.Prelude.{◌≡◌, ◌++◌, OnOk, map};
 ghost use Rattle.std.specs.List.{flat_map, list_any};
 ghost use Rattle.std.specs.Str.{bytes_eq};
-ghost use Rattle.line_text.specs.Words.{words_left};
+ghost use Rattle.base_lines.specs.Words.{words_left};
 ghost use Rattle.rule_model.specs.Reading.{Gives, Leaves};
 ghost use Rattle.rule_config.specs.Config.{nothing_read};
 ghost use Rattle.rule_config.specs.Lines as spec;
@@ -14,10 +14,10 @@ use crate::statements::{
     OpenSection, Statement, is_passed_line, is_passed_section, no_more, read_statement,
     section_kind,
 };
-use config_words::{before_comment, demand, is_name, is_plain, is_text, next_or_empty};
-use line_text::{Blanks, Words};
+use base_lines::{Blanks, Words};
+use base_sequence::{NoMemory, Sequence};
 use rule_model::{Fault, Name, ReadError, Section, SectionKind};
-use sequence::{NoMemory, Sequence};
+use rule_words::{before_comment, demand, is_name, is_plain, is_text, next_or_empty};
 use std::alloc::Global;
 use std::mem;
 

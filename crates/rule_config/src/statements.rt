@@ -1,18 +1,17 @@
 //! What a line of a section says.
 
 ghost use Rattle.std.specs.Prelude.{◌≡◌};
-ghost use Rattle.line_text.specs.Words.{words_left};
+ghost use Rattle.base_lines.specs.Words.{words_left};
 ghost use Rattle.rule_model.specs.Reading.{Gives};
 ghost use Rattle.rule_config.specs.Statements as spec;
 ghost use Rattle.rule_config.specs.Statements.{acl_says, bind_says, default_backend_says, keyword_says, mode_says, server_says, stick_table_says, tcp_request_says};
 
 use crate::actions::read_rule;
-use address_text::{Endpoint, read_bind, read_server};
-use config_words::{demand, is_name, next_or_empty, read_table};
-use line_text::Words;
+use base_lines::Words;
+use base_sequence::Sequence;
+use rule_addresses::{Endpoint, read_bind, read_server};
 use rule_model::{Acl, Fault, Name, ReadError, Rule, Section, SectionKind, TableSpec};
-use rule_terms::read_criterion;
-use sequence::Sequence;
+use rule_words::{demand, is_name, next_or_empty, read_criterion, read_table};
 use std::alloc::Global;
 
 /// What a line says.

@@ -1,6 +1,6 @@
 -- What criteria and actions ask, case by case.
 use Rattle.std.proofs.Common.{◌≡◌, ℕ, Bool, true, false, nat_lt, is_some, List, length, Option, Some, None, refl, ap, if◌then◌else◌}
-use Rattle.table_model.specs.Key.{Key}
+use Rattle.stick_model.specs.Key.{Key}
 use Rattle.rule_model.specs.declared.actions.Action.{Action}
 use Rattle.rule_model.specs.declared.actions.Action.TheVariants as actions
 use Rattle.rule_model.specs.declared.actions.KeyExpression.{KeyExpression}

@@ -9,9 +9,9 @@ use Rattle.stored_data.specs.declared.field.Field.{Field}
 use Rattle.stored_data.specs.declared.stored_set.Column.{Column}
 use Rattle.stored_data.proofs.Elements.{is_field-elements}
 use Rattle.stored_data.proofs.SameFields.{same_field-is}
-use Rattle.table_model.specs.State.{shown}
-use Rattle.table_model.specs.declared.rows.Cell.{Cell}
-use Rattle.table_model.specs.declared.rows.Record.{Record}
+use Rattle.stick_model.specs.State.{shown}
+use Rattle.stick_model.specs.declared.rows.Cell.{Cell}
+use Rattle.stick_model.specs.declared.rows.Record.{Record}
 use Rattle.rule_eval.specs.Fetched.{DatumLaw, ElementLaw}
 use Rattle.rule_eval.specs.Readings.{field_in, value_in}
 

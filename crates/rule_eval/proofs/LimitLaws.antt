@@ -2,8 +2,8 @@
 use Rattle.std.proofs.Common.{◌≡◌, ◌∙◌, ◌≤◌, ℕ, Bool, true, false, nat_lt, List, [], ◌∷◌, Option, Some, None, ap, refl}
 use Rattle.std.proofs.lemmas.Bool.{ltb-false}
 use Rattle.stored_data.specs.declared.datum.Datum.TheVariants.{ConnCur}
-use Rattle.table_model.specs.Key.{Key}
-use Rattle.table_model.specs.declared.rows.Row.{Row}
+use Rattle.stick_model.specs.Key.{Key}
+use Rattle.stick_model.specs.declared.rows.Row.{Row}
 use Rattle.rule_model.specs.declared.actions.KeyExpression.TheVariants as keys
 use Rattle.rule_model.specs.declared.actions.Slot.TheVariants.{Sc0}
 use Rattle.rule_model.specs.declared.sections.Setup.{Setup}

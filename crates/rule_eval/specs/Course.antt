@@ -1,7 +1,7 @@
 -- Where an evaluation waits, and what it still asks.
 use Rattle.std.specs.Prelude.{◌≡◌, ℕ, Bool, true, false, not, ◌&&◌, List, [], is_some, unwrap_or, Option, None, if◌then◌else◌}
 use Rattle.rule_model.specs.declared.actions.Action.{Action}
-use Rattle.table_model.specs.Key.{Key}
+use Rattle.stick_model.specs.Key.{Key}
 use Rattle.rule_model.specs.declared.actions.KeyExpression.{KeyExpression}
 use Rattle.rule_model.specs.declared.actions.KeyExpression.TheVariants as keys
 use Rattle.rule_model.specs.declared.criteria.Criterion.{Criterion}

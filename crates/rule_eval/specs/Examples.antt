@@ -3,10 +3,10 @@ use Rattle.std.specs.Prelude.{refl, ◌≡◌, ℕ, ◌^◌, false, [], ◌∷�
 use Rattle.stick_key.specs.declared.kind.KeyType.TheVariants.{Ip}
 use Rattle.stored_data.specs.Fields.{plain, same_field}
 use Rattle.stored_data.specs.declared.datum.Datum.TheVariants.{ConnCur}
-use Rattle.address_text.specs.declared.address.Address.TheVariants.{V4}
-use Rattle.table_model.specs.Key.{Key}
-use Rattle.table_model.specs.declared.rows.Row.{Row}
-use Rattle.table_model.specs.declared.specification.Spec.{Spec}
+use Rattle.rule_addresses.specs.declared.address.Address.TheVariants.{V4}
+use Rattle.stick_model.specs.Key.{Key}
+use Rattle.stick_model.specs.declared.rows.Row.{Row}
+use Rattle.stick_model.specs.declared.specification.Spec.{Spec}
 use Rattle.rule_model.specs.declared.actions.Slot.TheVariants.{Sc0}
 use Rattle.rule_model.specs.declared.sections.Setup.{Setup}
 use Rattle.rule_eval.specs.Limit.{LimitsFirst, refusing_rule, tracking_rule}

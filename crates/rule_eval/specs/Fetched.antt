@@ -5,9 +5,9 @@ use Rattle.stored_data.specs.Fields.{field_for, is_field}
 use Rattle.stored_data.specs.declared.datum.Datum.{Datum}
 use Rattle.stored_data.specs.declared.field.Field.{Field}
 use Rattle.stored_data.specs.declared.stored_set.Column.{Column}
-use Rattle.table_model.specs.Key.{Key}
-use Rattle.table_model.specs.State.{row_of}
-use Rattle.table_model.specs.declared.rows.Record.{Record}
+use Rattle.stick_model.specs.Key.{Key}
+use Rattle.stick_model.specs.State.{row_of}
+use Rattle.stick_model.specs.declared.rows.Record.{Record}
 use Rattle.rule_model.specs.declared.criteria.Fetch.TheVariants as fetches
 use Rattle.rule_eval.specs.Readings.{read}
 

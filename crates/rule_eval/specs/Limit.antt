@@ -6,9 +6,9 @@ use Rattle.stored_data.specs.Fields.{plain}
 use Rattle.stored_data.specs.Stored.{is_column}
 use Rattle.stored_data.specs.declared.datum.Datum.TheVariants.{ConnCur}
 use Rattle.stored_data.specs.declared.stored_set.Column.{Column}
-use Rattle.table_model.specs.Key.{Key}
-use Rattle.table_model.specs.State.{row_of}
-use Rattle.table_model.specs.declared.rows.Record.{Record}
+use Rattle.stick_model.specs.Key.{Key}
+use Rattle.stick_model.specs.State.{row_of}
+use Rattle.stick_model.specs.declared.rows.Record.{Record}
 use Rattle.rule_model.specs.declared.actions.Action.{Action}
 use Rattle.rule_model.specs.declared.actions.Action.TheVariants as actions
 use Rattle.rule_model.specs.declared.actions.KeyExpression.TheVariants as keys

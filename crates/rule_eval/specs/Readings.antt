@@ -5,8 +5,8 @@ use Rattle.std.specs.Option.{option_and_then, option_map, option_or}
 use Rattle.stored_data.specs.Fields.{plain, same_field, stand_in}
 use Rattle.stored_data.specs.declared.datum.Datum.{Datum}
 use Rattle.stored_data.specs.declared.field.Field.{Field}
-use Rattle.table_model.specs.declared.rows.Cell.{Cell}
-use Rattle.table_model.specs.declared.rows.Row.{Row}
+use Rattle.stick_model.specs.declared.rows.Cell.{Cell}
+use Rattle.stick_model.specs.declared.rows.Row.{Row}
 use Rattle.rule_model.specs.declared.criteria.Fetch.{Fetch}
 use Rattle.rule_model.specs.declared.criteria.Fetch.TheVariants as fetches
 use Rattle.rule_model.specs.declared.criteria.Operator.{Operator}

@@ -2,8 +2,8 @@
 use Rattle.std.specs.Prelude.{ℕ, ◌^◌, nat_lt, Bool, true, false, List, Option, Some, None, is_some, position, slice_get, if◌then◌else◌}
 use Rattle.std.specs.Option.{option_map}
 use Rattle.std.specs.Str.{bytes_eq}
-use Rattle.address_text.specs.declared.address.Address.{Address}
-use Rattle.address_text.specs.declared.address.Address.TheVariants as addresses
+use Rattle.rule_addresses.specs.declared.address.Address.{Address}
+use Rattle.rule_addresses.specs.declared.address.Address.TheVariants as addresses
 use Rattle.stick_key.specs.Convert.{converted}
 use Rattle.stick_key.specs.declared.kind.KeyType.{KeyType}
 use Rattle.stick_key.specs.declared.sample.Sample.{Sample}
@@ -11,7 +11,7 @@ use Rattle.stick_key.specs.declared.sample.Sample.TheVariants as samples
 use Rattle.stored_data.specs.Fields.{field_for, is_field}
 use Rattle.stored_data.specs.declared.datum.Datum.{Datum}
 use Rattle.stored_data.specs.declared.field.Field.{Field}
-use Rattle.table_model.specs.Key.{Key}
+use Rattle.stick_model.specs.Key.{Key}
 use Rattle.rule_model.specs.declared.actions.KeyExpression.{KeyExpression}
 use Rattle.rule_model.specs.declared.actions.KeyExpression.TheVariants as keys
 use Rattle.rule_model.specs.declared.criteria.Fetch.{Fetch}

@@ -1,8 +1,8 @@
 -- What the rules of a proxy ask next, one event at a time, after the answers so far.
 use Rattle.std.specs.Prelude.{ℕ, Bool, true, false, not, List, [], ◌∷◌, is_some, Option, Some, None, if◌then◌else◌}
 use Rattle.std.specs.List.{list_any}
-use Rattle.address_text.specs.Matching.{holds}
-use Rattle.table_model.specs.Key.{Key}
+use Rattle.rule_addresses.specs.Matching.{holds}
+use Rattle.stick_model.specs.Key.{Key}
 use Rattle.rule_model.specs.declared.actions.Action.{Action}
 use Rattle.rule_model.specs.declared.actions.Action.TheVariants as actions
 use Rattle.rule_model.specs.declared.actions.KeyExpression.{KeyExpression}

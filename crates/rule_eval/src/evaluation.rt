@@ -17,8 +17,8 @@ use crate::readings::truth;
 use crate::scan::{Place, Point, Scan, after_criterion, after_rule, scan_rules};
 use crate::tables::key_of;
 use crate::{Answer, Asked, Samples, Slots, Verdict, Want};
+use base_sequence::NoMemory;
 use rule_model::{KeyExpression, Rule, Setup};
-use sequence::NoMemory;
 use std::alloc::Global;
 use stick_key::StickKey;
 

@@ -1,7 +1,7 @@
 //! What criteria and actions come to, or ask first. Nothing here takes memory.
 ghost use Rattle.std.specs.Prelude.{◌≡◌};
 ghost use Rattle.std.specs.List.{list_any};
-ghost use Rattle.address_text.specs.Matching.{holds};
+ghost use Rattle.rule_addresses.specs.Matching.{holds};
 ghost use Rattle.rule_eval.specs.Readings.{read_of, value_of};
 ghost use Rattle.rule_eval.specs.Slots.{slot_of};
 ghost use Rattle.rule_eval.specs.Tables.{table_number};
@@ -13,7 +13,7 @@ use crate::case::Case;
 use crate::questions::{Effect, Found, Question, Request};
 use crate::readings::matches_any;
 use crate::tables::{has_key, stores, table_number};
-use address_text::{Address, Network};
+use rule_addresses::{Address, Network};
 use rule_model::{Action, Criterion, Fetch, KeyExpression, Measure, Slot};
 use stored_data::Act;
 

@@ -6,8 +6,8 @@ ghost use Rattle.rule_eval.specs.Course.{reading, truth};
 
 use crate::Answer;
 use rule_model::{Criterion, Fetch, Measure, Operator, Pattern};
+use stick_model::{Cell, Row};
 use stored_data::{Datum, Field};
-use table_model::{Cell, Row};
 
 /// The value of a field in a row, where it is shown.
 fn field_in(cells: &[Cell], field: Field) -> Option<u64>

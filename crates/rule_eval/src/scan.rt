@@ -9,8 +9,8 @@ use crate::Verdict;
 use crate::case::Case;
 use crate::measures::{effect, judge};
 use crate::questions::{Effect, Found, Question, Request};
+use base_sequence::Sequence;
 use rule_model::{Action, Criterion, Rule, Term};
-use sequence::Sequence;
 
 /// A criterion that asks, and what follows it in its condition.
 #[derive(Clone, Copy)]

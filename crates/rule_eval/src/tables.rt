@@ -7,9 +7,9 @@ ghost use Rattle.rule_eval.specs.Memory.{is_text, kind_takes_memory};
 ghost use Rattle.rule_eval.specs.Tables.{in_32_bits, table_number, kind_of, stores, sample_of, key_of, address_sample, has_datum, has_field};
 
 use crate::Samples;
-use address_text::Address;
+use base_sequence::NoMemory;
+use rule_addresses::Address;
 use rule_model::{Fetch, KeyExpression, NamedSpec, Setup};
-use sequence::NoMemory;
 use std::alloc::Global;
 use stick_key::{KeyType, Sample, StickKey, convert, unmapped};
 use stored_data::{Datum, Field};

@@ -1,10 +1,10 @@
 //! What an evaluation asks, and what it is told.
 
-use address_text::Address;
+use rule_addresses::Address;
 use rule_model::Slot;
 use stick_key::StickKey;
+use stick_model::Row;
 use stored_data::Act;
-use table_model::Row;
 
 /// What is known of a connection before any rule is looked at.
 #[derive(Clone, Copy, Debug)]

@@ -4,7 +4,7 @@ use Rattle.std.specs.List.{cons_option, count_by}
 use Rattle.std.specs.Option.{option_map}
 use Rattle.std.proofs.lemmas.List.Elements.{All-cons, All-nil, All-head, All-tail}
 use Rattle.std.proofs.lemmas.List.Sums.{sum_by-cons}
-use Rattle.table_model.specs.Limits.{IsTableSpec}
+use Rattle.stick_model.specs.Limits.{IsTableSpec}
 use Rattle.rule_model.specs.declared.sections.TableSpec.{TableSpec}
 use Rattle.rule_model.specs.declared.sections.Section.{Section}
 use Rattle.rule_model.specs.declared.sections.NamedSpec.{NamedSpec}

@@ -3,9 +3,9 @@ use Rattle.std.specs.Prelude.{ℕ, ◌^◌, ◌≤◌, ◌<◌, Bool, true, fals
 use Rattle.std.specs.List.{find, filter_map}
 use Rattle.std.specs.Option.{option_or, option_map, option_and_then}
 use Rattle.std.specs.Str.{bytes_eq}
-use Rattle.address_text.specs.declared.address.Endpoint.{Endpoint}
-use Rattle.table_model.specs.declared.specification.Spec.{Spec}
-use Rattle.table_model.specs.Limits.{IsKeyType, IsTableSpec}
+use Rattle.rule_addresses.specs.declared.address.Endpoint.{Endpoint}
+use Rattle.stick_model.specs.declared.specification.Spec.{Spec}
+use Rattle.stick_model.specs.Limits.{IsKeyType, IsTableSpec}
 use Rattle.rule_model.specs.declared.sections.SectionKind.{SectionKind}
 use Rattle.rule_model.specs.declared.sections.SectionKind.TheVariants.{Frontend, Backend, Listen}
 use Rattle.rule_model.specs.declared.sections.TableSpec.{TableSpec}

@@ -2,7 +2,7 @@
 ghost use Rattle.std.specs.Prelude.{◌≡◌, IfOk};
 
 use crate::Name;
-use sequence::{NoMemory, Sequence};
+use base_sequence::{NoMemory, Sequence};
 use stored_data::Act;
 
 /// One of the three references that a connection can hold: `sc0`, `sc1` and `sc2`.

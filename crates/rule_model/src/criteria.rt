@@ -2,8 +2,8 @@
 ghost use Rattle.std.specs.Prelude.{◌≡◌, IfOk};
 
 use crate::{Name, Slot};
-use address_text::Network;
-use sequence::{NoMemory, Sequence};
+use base_sequence::{NoMemory, Sequence};
+use rule_addresses::Network;
 use stored_data::{Act, Datum, Field};
 
 /// How an integer is compared: `eq`, `ge`, `gt`, `le`, `lt`.

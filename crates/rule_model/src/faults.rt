@@ -2,7 +2,7 @@
 ghost use Rattle.std.specs.Prelude.{◌≡◌};
 ghost use Rattle.rule_model.specs.declared.faults.ReadError.TheVariants.{OutOfMemory, Wrong};
 
-use sequence::NoMemory;
+use base_sequence::NoMemory;
 use std::alloc::AllocFailed;
 use thiserror::Error;
 

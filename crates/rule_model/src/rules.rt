@@ -2,7 +2,7 @@
 ghost use Rattle.std.specs.Prelude.{◌≡◌, IfOk};
 
 use crate::{Action, Criterion};
-use sequence::{NoMemory, Sequence};
+use base_sequence::{NoMemory, Sequence};
 use std::alloc::Global;
 
 /// An ACL's name, or a criterion in braces: it holds where one of its criteria does, and with `!` where none does.

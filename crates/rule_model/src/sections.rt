@@ -1,11 +1,11 @@
 //! Sections of a configuration, and what is served of it.
 
 use crate::Rule;
-use address_text::Endpoint;
-use sequence::Sequence;
+use base_sequence::Sequence;
+use rule_addresses::Endpoint;
 use stick_key::KeyType;
+use stick_model::Spec;
 use stored_data::StoredSet;
-use table_model::Spec;
 
 /// The name of a section, and of its table.
 pub type Name = Sequence<u8>;

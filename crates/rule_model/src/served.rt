@@ -3,16 +3,16 @@
 ghost use Rattle.std.specs.Prelude.{◌≡◌, ◌≤◌, ◌-◌, ◌^◌, ◌∷◌, [], None, All, IfNone, IfOk, is_some, length, map, min};
 ghost use Rattle.std.specs.List.{count_by, sum_by};
 ghost use Rattle.std.specs.Option.{option_map, option_and_then};
-ghost use Rattle.table_model.specs.Limits.{IsTableSpec};
+ghost use Rattle.stick_model.specs.Limits.{IsTableSpec};
 ghost use Rattle.rule_model.specs.declared.sections.Section.{Section};
 ghost use Rattle.rule_model.specs.Served as spec;
 ghost use Rattle.rule_model.specs.Served.{AreTables, AreTableSpecs, backend_named, named_with_purge, narrow_table_of, proxy_of, server_of, setup_of, spec_of, tables_of};
 
 use crate::{Config, Name, NamedSpec, Rule, Section, SectionKind, Setup, TableSpec};
-use address_text::Endpoint;
-use sequence::{NoMemory, Sequence};
+use base_sequence::{NoMemory, Sequence};
+use rule_addresses::Endpoint;
 use std::alloc::Global;
-use table_model::Spec;
+use stick_model::Spec;
 
 /// The greatest number of outstanding references of a table's shard.
 pub const MAX_REFS: u32 = 65_536;

@@ -1,20 +1,20 @@
 -- A call more keeps a book, and its record's places.
 use Rattle.std.proofs.Common.{◌≡◌, ℕ, ◌+◌, ◌≤◌, ◌^◌, List, [], ◌∷◌, ◌++◌, length, true, refl, sym, ap, ◌∙◌, subst, arith, rules}
 use Rattle.std.proofs.lemmas.List.Elements.{All-push}
-use Rattle.table_model.specs.State.{State, empty_table}
-use Rattle.table_model.specs.Step.{Step, slot_of}
-use Rattle.table_model.specs.Legal.{IsLegal}
-use Rattle.table_model.specs.Limits.{IsTableSpec, IsTableEvent}
-use Rattle.table_model.specs.Refusals.{has_life, life_taken}
-use Rattle.table_model.specs.declared.specification.Spec.{Spec}
-use Rattle.table_model.specs.declared.events.Stored.{Stored}
-use Rattle.table_model.specs.declared.events.Event.{Event}
-use Rattle.table_model.specs.declared.replies.Reply.{Reply}
-use Rattle.table_model.specs.declared.replies.Reply.TheVariants.{Tracked, Released}
-use Rattle.table_model.proofs.StepLemmas.{step_places, given_by, taken_by}
-use Rattle.table_model.proofs.RunLemmas.{lasting_run_more, stored-from-lasting, stored_run_events, stored_run_spec}
-use Rattle.table_model.specs.Run.{StoredRun}
-use Rattle.table_model.proofs.LegalLemmas.{orderly-from_legal, step_legal, step_tickets-length, empty_legal}
+use Rattle.stick_model.specs.State.{State, empty_table}
+use Rattle.stick_model.specs.Step.{Step, slot_of}
+use Rattle.stick_model.specs.Legal.{IsLegal}
+use Rattle.stick_model.specs.Limits.{IsTableSpec, IsTableEvent}
+use Rattle.stick_model.specs.Refusals.{has_life, life_taken}
+use Rattle.stick_model.specs.declared.specification.Spec.{Spec}
+use Rattle.stick_model.specs.declared.events.Stored.{Stored}
+use Rattle.stick_model.specs.declared.events.Event.{Event}
+use Rattle.stick_model.specs.declared.replies.Reply.{Reply}
+use Rattle.stick_model.specs.declared.replies.Reply.TheVariants.{Tracked, Released}
+use Rattle.stick_model.proofs.StepLemmas.{step_places, given_by, taken_by}
+use Rattle.stick_model.proofs.RunLemmas.{lasting_run_more, stored-from-lasting, stored_run_events, stored_run_spec}
+use Rattle.stick_model.specs.Run.{StoredRun}
+use Rattle.stick_model.proofs.LegalLemmas.{orderly-from_legal, step_legal, step_tickets-length, empty_legal}
 use Rattle.shard_book.specs.declared.recorded.Recorded.{Recorded}
 use Rattle.shard_book.specs.BookState.{BookState, IsBook, HasPlaces, stored_of, recorded, opened, out_after}
 

@@ -10,15 +10,15 @@ use Rattle.std.proofs.lemmas.List.{length-set}
 use Rattle.std.proofs.lemmas.Option.{slice_get-get_or, slice_get-map}
 use Rattle.std.proofs.Math.Nat.{div-add-mod, mod-lt, mul-le-mul_left}
 use Rattle.stick_key.specs.Shard.{shard_size}
-use Rattle.table_model.specs.State.{State, key_of}
-use Rattle.table_model.specs.Limits.{IsTableSpec}
-use Rattle.table_model.specs.Refusals.{has_life}
-use Rattle.table_model.specs.declared.rows.Ticket.{Ticket}
-use Rattle.table_model.specs.declared.replies.Refusal.{Refusal}
-use Rattle.table_model.specs.declared.events.Event.{Event}
-use Rattle.table_model.specs.declared.replies.Reply.{Reply}
-use Rattle.table_model.proofs.StepLemmas.{step_spec}
-use Rattle.table_model.specs.declared.specification.Spec.{Spec}
+use Rattle.stick_model.specs.State.{State, key_of}
+use Rattle.stick_model.specs.Limits.{IsTableSpec}
+use Rattle.stick_model.specs.Refusals.{has_life}
+use Rattle.stick_model.specs.declared.rows.Ticket.{Ticket}
+use Rattle.stick_model.specs.declared.replies.Refusal.{Refusal}
+use Rattle.stick_model.specs.declared.events.Event.{Event}
+use Rattle.stick_model.specs.declared.replies.Reply.{Reply}
+use Rattle.stick_model.proofs.StepLemmas.{step_spec}
+use Rattle.stick_model.specs.declared.specification.Spec.{Spec}
 use Rattle.shard_book.specs.BookState.{BookState, IsBook, Extends, IsCallRefused, opened}
 use Rattle.shard_book.specs.Keeping.{IsAnswer, part_of}
 use Rattle.shard_book.specs.BooksState.{BooksState, AreBooks, ExtendsAt, IsOutAt, IsRefusedAt, LivesAt, SizesLaw, live_states, opened_books}

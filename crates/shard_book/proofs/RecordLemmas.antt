@@ -2,13 +2,13 @@
 use Rattle.std.proofs.Common.{◌≡◌, ◌≢◌, ℕ, List, [], ◌∷◌, ◌++◌, length, nat_eq, true, false, cond, refl, sym, ap, ◌∙◌, subst, arith}
 use Rattle.std.proofs.lemmas.List.Elements.{filter-append}
 use Rattle.std.proofs.lemmas.Bool.Decides.{nat_tests}
-use Rattle.table_model.specs.State.{State}
-use Rattle.table_model.specs.Step.{slot_of}
-use Rattle.table_model.specs.Run.{StoredRun}
-use Rattle.table_model.specs.declared.events.Stored.{Stored}
-use Rattle.table_model.specs.declared.events.Event.{Event}
-use Rattle.table_model.specs.declared.replies.Reply.{Reply}
-use Rattle.table_model.proofs.RunLemmas.{lasting-law, run_determined, stored_run_length, stored_run_more}
+use Rattle.stick_model.specs.State.{State}
+use Rattle.stick_model.specs.Step.{slot_of}
+use Rattle.stick_model.specs.Run.{StoredRun}
+use Rattle.stick_model.specs.declared.events.Stored.{Stored}
+use Rattle.stick_model.specs.declared.events.Event.{Event}
+use Rattle.stick_model.specs.declared.replies.Reply.{Reply}
+use Rattle.stick_model.proofs.RunLemmas.{lasting-law, run_determined, stored_run_length, stored_run_more}
 use Rattle.shard_book.specs.declared.recorded.Recorded.{Recorded}
 use Rattle.shard_book.specs.BookState.{Answered, BookState, Extends, IsBook, answered, of_seat, recorded, stored_of}
 use Rattle.shard_book.specs.Laws.{OneRecordLaw, ReplayLaw, ToldLaw}

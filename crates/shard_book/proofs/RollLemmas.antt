@@ -2,11 +2,11 @@
 use Rattle.std.proofs.Common.{rules, ◌≡◌, ◌⊎◌, inl, inr, ⊎_elim, ℕ, zero, suc, ◌+◌, ◌≤◌, ◌<◌, List, [], ◌∷◌, ◌++◌, Some, length, map, take, drop, slice_get, refl, sym, ap, ◌∙◌, subst, arith}
 use Rattle.std.specs.Prelude.{Result, Ok, Err, OnOk, OnErr, slice_set}
 use Rattle.std.proofs.lemmas.List.Elements.{All-append}
-use Rattle.table_model.specs.State.{State}
-use Rattle.table_model.specs.Run.{LastingRun}
-use Rattle.table_model.specs.Limits.{IsTableEvent}
-use Rattle.table_model.specs.declared.events.Stored.{Stored}
-use Rattle.table_model.specs.declared.replies.Reply.{Reply}
+use Rattle.stick_model.specs.State.{State}
+use Rattle.stick_model.specs.Run.{LastingRun}
+use Rattle.stick_model.specs.Limits.{IsTableEvent}
+use Rattle.stick_model.specs.declared.events.Stored.{Stored}
+use Rattle.stick_model.specs.declared.replies.Reply.{Reply}
 use Rattle.shard_book.specs.declared.recorded.Recorded.{Recorded}
 use Rattle.shard_book.specs.BookState.{BookState, IsBook, rolled, stored_of}
 use Rattle.shard_book.specs.BooksState.{AreBooks, BooksState}

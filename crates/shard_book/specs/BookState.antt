@@ -1,19 +1,19 @@
 -- What a book is: a table's calls since a base, in the order in which they were answered, each with the seat that made it.
 use Rattle.std.specs.Prelude.{All, ◌≡◌, ℕ, ◌+◌, ◌-◌, ◌≤◌, nat_eq, Bool, true, false, List, [], ◌∷◌, ◌++◌, length, map, filter}
-use Rattle.table_model.specs.State.{State, empty_table}
-use Rattle.table_model.specs.Step.{Step, slot_of}
-use Rattle.table_model.specs.Run.{LastingRun}
-use Rattle.table_model.specs.Legal.{IsLegal}
-use Rattle.table_model.specs.Limits.{IsTableSpec, IsTableEvent}
-use Rattle.table_model.specs.Refusals.{IsRefused}
-use Rattle.table_model.specs.declared.specification.Spec.{Spec}
-use Rattle.table_model.specs.declared.events.Stored.{Stored}
-use Rattle.table_model.specs.declared.events.Event.{Event}
-use Rattle.table_model.specs.declared.events.Event.TheVariants.{Release}
-use Rattle.table_model.specs.declared.replies.Reply.{Reply}
-use Rattle.table_model.specs.declared.replies.Reply.TheVariants.{Tracked, Released}
-use Rattle.table_model.specs.declared.replies.Refusal.{Refusal}
-use Rattle.table_model.specs.declared.replies.Refusal.TheVariants.{Memory}
+use Rattle.stick_model.specs.State.{State, empty_table}
+use Rattle.stick_model.specs.Step.{Step, slot_of}
+use Rattle.stick_model.specs.Run.{LastingRun}
+use Rattle.stick_model.specs.Legal.{IsLegal}
+use Rattle.stick_model.specs.Limits.{IsTableSpec, IsTableEvent}
+use Rattle.stick_model.specs.Refusals.{IsRefused}
+use Rattle.stick_model.specs.declared.specification.Spec.{Spec}
+use Rattle.stick_model.specs.declared.events.Stored.{Stored}
+use Rattle.stick_model.specs.declared.events.Event.{Event}
+use Rattle.stick_model.specs.declared.events.Event.TheVariants.{Release}
+use Rattle.stick_model.specs.declared.replies.Reply.{Reply}
+use Rattle.stick_model.specs.declared.replies.Reply.TheVariants.{Tracked, Released}
+use Rattle.stick_model.specs.declared.replies.Refusal.{Refusal}
+use Rattle.stick_model.specs.declared.replies.Refusal.TheVariants.{Memory}
 use Rattle.shard_book.specs.declared.recorded.Recorded.{Recorded}
 
 -- what the table was, the calls recorded since, and what it is now

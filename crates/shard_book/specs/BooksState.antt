@@ -2,14 +2,14 @@
 use Rattle.std.specs.Prelude.{◌≡◌, ℕ, ◌≤◌, true, is_some, List, Some, length, map, sum_by, slice_get, slice_set}
 use Rattle.std.specs.List.{range_with_len}
 use Rattle.stick_key.specs.Shard.{shard_size}
-use Rattle.table_model.specs.State.{State, key_of}
-use Rattle.table_model.specs.Limits.{IsTableSpec}
-use Rattle.table_model.specs.Refusals.{has_life}
-use Rattle.table_model.specs.declared.specification.Spec.{Spec}
-use Rattle.table_model.specs.declared.rows.Ticket.{Ticket}
-use Rattle.table_model.specs.declared.events.Event.{Event}
-use Rattle.table_model.specs.declared.replies.Reply.{Reply}
-use Rattle.table_model.specs.declared.replies.Refusal.{Refusal}
+use Rattle.stick_model.specs.State.{State, key_of}
+use Rattle.stick_model.specs.Limits.{IsTableSpec}
+use Rattle.stick_model.specs.Refusals.{has_life}
+use Rattle.stick_model.specs.declared.specification.Spec.{Spec}
+use Rattle.stick_model.specs.declared.rows.Ticket.{Ticket}
+use Rattle.stick_model.specs.declared.events.Event.{Event}
+use Rattle.stick_model.specs.declared.replies.Reply.{Reply}
+use Rattle.stick_model.specs.declared.replies.Refusal.{Refusal}
 use Rattle.shard_book.specs.BookState.{BookState, IsBook, Extends, IsCallRefused, opened}
 use Rattle.shard_book.specs.Keeping.{part_of}
 

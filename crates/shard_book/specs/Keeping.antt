@@ -1,14 +1,14 @@
 -- What a table in shards may be asked, and what it answers.
 use Rattle.std.specs.Prelude.{◌≡◌, ℕ}
 use Rattle.stick_key.specs.Shard.{shard, shard_size}
-use Rattle.table_model.specs.State.{State}
-use Rattle.table_model.specs.Step.{Step}
-use Rattle.table_model.specs.Legal.{IsLegal}
-use Rattle.table_model.specs.Limits.{IsTableSpec}
-use Rattle.table_model.specs.declared.specification.Spec.{Spec}
-use Rattle.table_model.specs.declared.events.Event.{Event}
-use Rattle.table_model.specs.declared.events.Event.TheVariants.{Get, Track, Look, Count, Release, Put, Clear, ClearWhere, List as ListRows, Expire}
-use Rattle.table_model.specs.declared.replies.Reply.{Reply}
+use Rattle.stick_model.specs.State.{State}
+use Rattle.stick_model.specs.Step.{Step}
+use Rattle.stick_model.specs.Legal.{IsLegal}
+use Rattle.stick_model.specs.Limits.{IsTableSpec}
+use Rattle.stick_model.specs.declared.specification.Spec.{Spec}
+use Rattle.stick_model.specs.declared.events.Event.{Event}
+use Rattle.stick_model.specs.declared.events.Event.TheVariants.{Get, Track, Look, Count, Release, Put, Clear, ClearWhere, List as ListRows, Expire}
+use Rattle.stick_model.specs.declared.replies.Reply.{Reply}
 
 -- what shard `i` of a table is made with: the table's specification, with the shard's part of the size
 abbrev pub part_of : Spec → ℕ → ℕ → Spec

@@ -1,12 +1,12 @@
 -- Laws of books.
 use Rattle.std.specs.Prelude.{◌≡◌, ◌≢◌, ℕ, List, [], ◌∷◌, ◌++◌}
-use Rattle.table_model.specs.State.{State}
-use Rattle.table_model.specs.Run.{StoredRun}
-use Rattle.table_model.specs.Refusals.{IsRefused}
-use Rattle.table_model.specs.declared.events.Event.{Event}
-use Rattle.table_model.specs.declared.replies.Reply.{Reply}
-use Rattle.table_model.specs.declared.replies.Refusal.{Refusal}
-use Rattle.table_model.specs.declared.replies.Refusal.TheVariants.{Memory}
+use Rattle.stick_model.specs.State.{State}
+use Rattle.stick_model.specs.Run.{StoredRun}
+use Rattle.stick_model.specs.Refusals.{IsRefused}
+use Rattle.stick_model.specs.declared.events.Event.{Event}
+use Rattle.stick_model.specs.declared.replies.Reply.{Reply}
+use Rattle.stick_model.specs.declared.replies.Refusal.{Refusal}
+use Rattle.stick_model.specs.declared.replies.Refusal.TheVariants.{Memory}
 use Rattle.shard_book.specs.declared.recorded.Recorded.{Recorded}
 use Rattle.shard_book.specs.BookState.{BookState, IsBook, Extends, stored_of, recorded, told_to}
 

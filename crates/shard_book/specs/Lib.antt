@@ -4,3 +4,7 @@ pub mod BooksState
 pub mod Rolling
 pub mod Laws
 pub mod NamedTables
+pub mod Total
+pub mod SeatState
+pub mod Told
+pub mod SeatLaws

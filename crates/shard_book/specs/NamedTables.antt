@@ -1,6 +1,6 @@
 -- Tables in shards with their names, as contracts see them.
 use Rattle.std.specs.Prelude.{ℕ, List, map}
-use Rattle.table_model.specs.declared.specification.Spec.{Spec}
+use Rattle.stick_model.specs.declared.specification.Spec.{Spec}
 use Rattle.shard_book.specs.declared.named.Named.{Named}
 
 -- a table's name, what it was made with, in how many shards, and what they are now

@@ -1,15 +1,15 @@
 //! A table with its calls since a base.
 
 ghost use Rattle.std.specs.Prelude.{◌≡◌, ◌≤◌, ◌^◌, true, is_some, IfOk, IfErr, OnOk, OnErr, IsOk};
-ghost use Rattle.table_model.specs.State.{key_of};
-ghost use Rattle.table_model.specs.Limits.{IsTableSpec, IsTableEvent};
-ghost use Rattle.table_model.specs.Refusals.{has_life};
-ghost use Rattle.table_model.specs.declared.events.Event.TheVariants.{Release};
+ghost use Rattle.stick_model.specs.State.{key_of};
+ghost use Rattle.stick_model.specs.Limits.{IsTableSpec, IsTableEvent};
+ghost use Rattle.stick_model.specs.Refusals.{has_life};
+ghost use Rattle.stick_model.specs.declared.events.Event.TheVariants.{Release};
 ghost use Rattle.shard_book.specs.BookState.{IsBook, Extends, IsCallRefused, opened, rolled};
 
 use crate::Recorded;
 use crate::recorded::{answer, answer_twice, out_after, record_of};
-use sequence::NoMemory;
+use base_sequence::NoMemory;
 use std::alloc::Global;
 use std::marker::Model;
 use stick_table::{Event, PlainTable, Refusal, Reply, Spec, Table};

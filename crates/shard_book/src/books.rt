@@ -1,15 +1,15 @@
 //! The books of a table's shards, for callers on one thread.
 
 ghost use Rattle.std.specs.Prelude.{◌≡◌, ◌≤◌, ◌<◌, ◌^◌, ◌-◌, ℕ, min, map, sum_by, Some, length, slice_get, IfOk, IfErr, OnOk, OnErr, IsOk};
-ghost use Rattle.table_model.specs.Limits.{IsTableSpec, IsTableEvent};
-ghost use Rattle.table_model.specs.declared.events.Event.TheVariants.{Release};
+ghost use Rattle.stick_model.specs.Limits.{IsTableSpec, IsTableEvent};
+ghost use Rattle.stick_model.specs.declared.events.Event.TheVariants.{Release};
 ghost use Rattle.shard_book.specs.BooksState.{AreBooks, ExtendsAt, IsOutAt, IsRefusedAt, LivesAt, live_states, opened_books};
 ghost use Rattle.shard_book.specs.Keeping.{part_of};
 ghost use Rattle.shard_book.specs.Rolling.{RollsInPart, calls_counted, rolled_books, rolled_first};
 ghost use Rattle.shard_book.specs.BookState.{BookState, rolled};
 
 use crate::{Book, Keeper};
-use sequence::NoMemory;
+use base_sequence::NoMemory;
 use std::alloc::Global;
 use std::marker::Model;
 use stick_key::size_of_shard;

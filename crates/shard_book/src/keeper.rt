@@ -5,11 +5,11 @@ use stick_table::{Event, Refusal, Reply, Spec};
 /// A table in shards, wherever they are kept: what commands ask.
 pub trait Keeper {
     ghost use Rattle.std.specs.Prelude.{◌≡◌, ◌≤◌, ◌<◌, ℕ, IfOk, IfErr, OnErr};
-    ghost use Rattle.table_model.specs.Limits.{IsTableSpec, IsTableEvent};
-    ghost use Rattle.table_model.specs.declared.specification.Spec.{Spec as ItsSpec};
-    ghost use Rattle.table_model.specs.declared.events.Event.{Event as AnEvent};
-    ghost use Rattle.table_model.specs.declared.replies.Reply.{Reply as AReply};
-    ghost use Rattle.table_model.specs.declared.replies.Refusal.{Refusal as ARefusal};
+    ghost use Rattle.stick_model.specs.Limits.{IsTableSpec, IsTableEvent};
+    ghost use Rattle.stick_model.specs.declared.specification.Spec.{Spec as ItsSpec};
+    ghost use Rattle.stick_model.specs.declared.events.Event.{Event as AnEvent};
+    ghost use Rattle.stick_model.specs.declared.replies.Reply.{Reply as AReply};
+    ghost use Rattle.stick_model.specs.declared.replies.Refusal.{Refusal as ARefusal};
     ghost use Rattle.shard_book.specs.Keeping.{MayAsk, IsAnswer};
 
     // What the whole table was made with, and in how many shards.

@@ -1,6 +1,6 @@
 //! A table with its name.
 
-use sequence::Sequence;
+use base_sequence::Sequence;
 
 /// A table in shards, wherever they are kept, and the name that commands give it.
 #[derive(Drop)]

@@ -1,13 +1,13 @@
 //! A call as it is recorded, and the places that the record has.
 
 ghost use Rattle.std.specs.Prelude.{◌≡◌, ◌+◌, ◌≤◌, ◌<◌, ◌^◌, true, IfOk, IfErr, OnOk, OnErr, vec_len, vec_capacity};
-ghost use Rattle.table_model.specs.Step.{Step};
-ghost use Rattle.table_model.specs.Limits.{IsTableEvent};
-ghost use Rattle.table_model.specs.Refusals.{has_life, life_taken};
-ghost use Rattle.table_model.specs.declared.replies.Reply.TheVariants.{Released};
+ghost use Rattle.stick_model.specs.Step.{Step};
+ghost use Rattle.stick_model.specs.Limits.{IsTableEvent};
+ghost use Rattle.stick_model.specs.Refusals.{has_life, life_taken};
+ghost use Rattle.stick_model.specs.declared.replies.Reply.TheVariants.{Released};
 ghost use Rattle.shard_book.specs.BookState.{IsCallRefused, may_grow, out_after as specified_out, recorded as specified_record};
 
-use sequence::NoMemory;
+use base_sequence::NoMemory;
 use stick_table::{Event, Refusal, Reply, Stored, Table};
 
 /// A call that was answered, and the seat that made it.

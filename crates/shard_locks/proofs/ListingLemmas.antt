@@ -4,17 +4,17 @@ use Rattle.std.specs.List.{range_with_len}
 use Rattle.std.proofs.lemmas.List.Elements.{All-cons}
 use Rattle.std.specs.Option.{option_map_or}
 use Rattle.stored_data.specs.declared.field.Field.{Field}
-use Rattle.table_model.specs.Step.{Outcome, begun, listed}
-use Rattle.table_model.specs.Filters.{not_stored}
-use Rattle.table_model.specs.declared.filters.Filter.{Filter}
-use Rattle.table_model.specs.declared.events.Event.{Event}
-use Rattle.table_model.specs.declared.events.Event.TheVariants.{List as ListRows}
-use Rattle.table_model.specs.declared.replies.Reply.{Reply}
-use Rattle.table_model.specs.declared.replies.Reply.TheVariants.{NotStored}
-use Rattle.joined_replies.specs.Total.{IsCounted, IsShown, both, total}
-use Rattle.joined_replies.proofs.TotalLemmas.{counted}
-use Rattle.shard_seats.specs.SeatState.{SeatState}
-use Rattle.shard_seats.specs.Told.{Told}
+use Rattle.stick_model.specs.Step.{Outcome, begun, listed}
+use Rattle.stick_model.specs.Filters.{not_stored}
+use Rattle.stick_model.specs.declared.filters.Filter.{Filter}
+use Rattle.stick_model.specs.declared.events.Event.{Event}
+use Rattle.stick_model.specs.declared.events.Event.TheVariants.{List as ListRows}
+use Rattle.stick_model.specs.declared.replies.Reply.{Reply}
+use Rattle.stick_model.specs.declared.replies.Reply.TheVariants.{NotStored}
+use Rattle.shard_book.specs.Total.{IsCounted, IsShown, both, total}
+use Rattle.shard_book.proofs.TotalLemmas.{counted}
+use Rattle.shard_book.specs.SeatState.{SeatState}
+use Rattle.shard_book.specs.Told.{Told}
 use Rattle.shard_locks.specs.Listing.{IsListing, ToldByFirst, ToldInTurn}
 
 told_more : (shards : List ℕ) (old mid new : SeatState) (event : Event) (replies : List Reply) (i : ℕ) (reply : Reply)

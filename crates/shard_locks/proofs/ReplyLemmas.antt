@@ -2,20 +2,20 @@
 use Rattle.std.proofs.Common.{◌≡◌, ℕ, true, Option, Some, None, is_some, refl, sym, subst}
 use Rattle.std.specs.Prelude.{Result, Ok, Err, IfOk}
 use Rattle.std.proofs.lemmas.Bool.{false≢true}
-use Rattle.table_model.specs.Key.{Key}
-use Rattle.table_model.specs.State.{State, key_of}
-use Rattle.table_model.specs.Step.{Step, ticket_of}
-use Rattle.table_model.specs.Laws.{IsAnsweredFrom}
-use Rattle.table_model.specs.Legal.{IsLegal}
-use Rattle.table_model.specs.declared.rows.Ticket.{Ticket}
-use Rattle.table_model.specs.declared.events.Event.{Event}
-use Rattle.table_model.specs.declared.events.Event.TheVariants.{Look}
-use Rattle.table_model.specs.declared.replies.Reply.{Reply}
-use Rattle.table_model.specs.declared.replies.Refusal.{Refusal}
-use Rattle.table_model.proofs.ReferenceLemmas.{reference-law}
+use Rattle.stick_model.specs.Key.{Key}
+use Rattle.stick_model.specs.State.{State, key_of}
+use Rattle.stick_model.specs.Step.{Step, ticket_of}
+use Rattle.stick_model.specs.Laws.{IsAnsweredFrom}
+use Rattle.stick_model.specs.Legal.{IsLegal}
+use Rattle.stick_model.specs.declared.rows.Ticket.{Ticket}
+use Rattle.stick_model.specs.declared.events.Event.{Event}
+use Rattle.stick_model.specs.declared.events.Event.TheVariants.{Look}
+use Rattle.stick_model.specs.declared.replies.Reply.{Reply}
+use Rattle.stick_model.specs.declared.replies.Refusal.{Refusal}
+use Rattle.stick_model.proofs.ReferenceLemmas.{reference-law}
 use Rattle.shard_book.specs.Keeping.{IsAnswer}
-use Rattle.shard_seats.specs.SeatState.{SeatState}
-use Rattle.shard_seats.specs.Told.{Told}
+use Rattle.shard_book.specs.SeatState.{SeatState}
+use Rattle.shard_book.specs.Told.{Told}
 use Rattle.shard_locks.specs.Tracking.{IsShown}
 
 -- an event of a ticket that is out is answered from the entry of its key

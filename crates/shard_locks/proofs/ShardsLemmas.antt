@@ -3,12 +3,12 @@ use Rattle.std.proofs.Common.{◌≡◌, ℕ, ◌+◌, ◌<◌, Bool, List, [], 
 use Rattle.std.specs.Prelude.{◌++◌}
 use Rattle.std.specs.List.{range_with_len}
 use Rattle.std.proofs.lemmas.List.FromFn.{get_or-map-range_with_len, length-map-range_with_len, map-range_with_len_more}
-use Rattle.table_model.specs.Limits.{IsTableSpec}
-use Rattle.table_model.specs.declared.specification.Spec.{Spec}
+use Rattle.stick_model.specs.Limits.{IsTableSpec}
+use Rattle.stick_model.specs.declared.specification.Spec.{Spec}
 use Rattle.shard_book.specs.Keeping.{part_of}
 use Rattle.shard_book.proofs.BookLemmas.{one_behind}
 use Rattle.shard_book.proofs.BooksLemmas.{part_limits}
-use Rattle.shard_seats.specs.SeatState.{fresh}
+use Rattle.shard_book.specs.SeatState.{fresh}
 use Rattle.shard_locks.specs.ShardsState.{ShardsState, UnlockedState, AreShards, fresh_seats}
 
 -- one seat more

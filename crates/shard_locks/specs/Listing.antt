@@ -1,14 +1,14 @@
 -- What a listing of a table in shards is answered, and what its seat is told.
 use Rattle.std.specs.Prelude.{◌≡◌, ◌⊎◌, ℕ, ◌<◌, List, [], ◌∷◌}
 use Rattle.std.specs.List.{range_with_len}
-use Rattle.table_model.specs.declared.events.Event.{Event}
-use Rattle.table_model.specs.declared.replies.Reply.{Reply}
-use Rattle.table_model.specs.declared.replies.Reply.TheVariants.{Rows as ReplyRows, NotStored as ReplyNotStored}
-use Rattle.table_model.specs.declared.replies.Refusal.{Refusal}
-use Rattle.table_model.specs.declared.replies.Refusal.TheVariants.{Memory}
-use Rattle.joined_replies.specs.Total.{IsShown, total}
-use Rattle.shard_seats.specs.SeatState.{SeatState}
-use Rattle.shard_seats.specs.Told.{IsRefusedTo, Told}
+use Rattle.stick_model.specs.declared.events.Event.{Event}
+use Rattle.stick_model.specs.declared.replies.Reply.{Reply}
+use Rattle.stick_model.specs.declared.replies.Reply.TheVariants.{Rows as ReplyRows, NotStored as ReplyNotStored}
+use Rattle.stick_model.specs.declared.replies.Refusal.{Refusal}
+use Rattle.stick_model.specs.declared.replies.Refusal.TheVariants.{Memory}
+use Rattle.shard_book.specs.Total.{IsShown, total}
+use Rattle.shard_book.specs.SeatState.{SeatState}
+use Rattle.shard_book.specs.Told.{IsRefusedTo, Told}
 use Rattle.shard_locks.specs.declared.listing.Listing.{Listing}
 use Rattle.shard_locks.specs.declared.listing.Listing.TheVariants.{Rows, NotStored}
 

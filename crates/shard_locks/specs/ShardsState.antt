@@ -1,15 +1,15 @@
 -- What a table in shards is to those who share it. What its books hold is known under their locks alone.
 use Rattle.std.specs.Prelude.{◌≡◌, ℕ, ◌≤◌, Bool, List, length, map, ◌⊎◌}
 use Rattle.std.specs.List.{range_with_len}
-use Rattle.table_model.specs.Limits.{IsTableSpec}
-use Rattle.table_model.specs.declared.specification.Spec.{Spec}
-use Rattle.table_model.specs.declared.events.Event.{Event}
-use Rattle.table_model.specs.declared.replies.Refusal.{Refusal}
-use Rattle.table_model.specs.declared.replies.Refusal.TheVariants.{Stale}
+use Rattle.stick_model.specs.Limits.{IsTableSpec}
+use Rattle.stick_model.specs.declared.specification.Spec.{Spec}
+use Rattle.stick_model.specs.declared.events.Event.{Event}
+use Rattle.stick_model.specs.declared.replies.Refusal.{Refusal}
+use Rattle.stick_model.specs.declared.replies.Refusal.TheVariants.{Stale}
 use Rattle.shard_book.specs.Keeping.{part_of}
 use Rattle.shard_book.specs.BookState.{BookState}
-use Rattle.shard_seats.specs.SeatState.{SeatState, fresh}
-use Rattle.shard_seats.specs.Told.{IsRefusedTo}
+use Rattle.shard_book.specs.SeatState.{SeatState, fresh}
+use Rattle.shard_book.specs.Told.{IsRefusedTo}
 
 -- what the whole table was made with, in how many shards, and whether its seats keep receipts
 pub record ShardsState : Type 0 where

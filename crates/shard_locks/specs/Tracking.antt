@@ -1,7 +1,7 @@
 -- What tracking a key is answered, as the reply that it is.
 use Rattle.std.specs.Prelude.{◌≡◌, ℕ}
-use Rattle.table_model.specs.declared.replies.Reply.{Reply}
-use Rattle.table_model.specs.declared.replies.Reply.TheVariants.{Tracked as ReplyTracked, Full as ReplyFull, NoRefs as ReplyNoRefs, Row as ReplyRow, Value as ReplyValue}
+use Rattle.stick_model.specs.declared.replies.Reply.{Reply}
+use Rattle.stick_model.specs.declared.replies.Reply.TheVariants.{Tracked as ReplyTracked, Full as ReplyFull, NoRefs as ReplyNoRefs, Row as ReplyRow, Value as ReplyValue}
 use Rattle.shard_locks.specs.declared.tracking.Tracking.{Tracking}
 use Rattle.shard_locks.specs.declared.tracking.Tracking.TheVariants.{Tracked, Full, NoRefs}
 

@@ -1,13 +1,12 @@
 //! Listing a table in shards.
 
 ghost use Rattle.std.specs.Prelude.{◌≡◌, ◌<◌, ◌^◌, IfOk, IfErr, OnErr};
-ghost use Rattle.table_model.specs.declared.events.Event.TheVariants.{List as ListRows};
-ghost use Rattle.shard_seats.specs.Told.{IsRefusedTo, Told};
+ghost use Rattle.stick_model.specs.declared.events.Event.TheVariants.{List as ListRows};
+ghost use Rattle.shard_book.specs.Told.{IsRefusedTo, Told};
 ghost use Rattle.shard_locks.specs.Listing.{IsListed, IsListing, IsListingRefused, ToldByFirst, listing_reply};
 
 use crate::Shards;
-use joined_replies::joined;
-use shard_seats::Seat;
+use shard_book::{Seat, joined};
 use std::alloc::Global;
 use std::sync::Wait;
 use stick_table::{Event, Filter, Refusal, Reply, Rows, Table};

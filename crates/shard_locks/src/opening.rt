@@ -2,14 +2,13 @@
 
 ghost use Rattle.std.specs.Prelude.{◌≡◌, ◌≤◌, length, map, IfOk};
 ghost use Rattle.std.specs.List.{range_with_len};
-ghost use Rattle.table_model.specs.Limits.{IsTableSpec};
+ghost use Rattle.stick_model.specs.Limits.{IsTableSpec};
 ghost use Rattle.shard_book.specs.Keeping.{part_of};
 ghost use Rattle.shard_locks.specs.ShardsState.{fresh_seats};
 
+use base_sequence::NoMemory;
 use crossbeam_utils::CachePadded;
-use sequence::NoMemory;
-use shard_book::Book;
-use shard_seats::Seat;
+use shard_book::{Book, Seat};
 use std::alloc::Global;
 use std::sync::Mutex;
 use stick_key::size_of_shard;

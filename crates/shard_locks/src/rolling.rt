@@ -3,7 +3,7 @@
 ghost use Rattle.std.specs.Prelude.{◌≡◌, ◌≤◌, ◌<◌, Ok, true, false, length, OnErr};
 ghost use Rattle.shard_book.specs.BookState.{IsBook, rolled};
 
-use sequence::NoMemory;
+use base_sequence::NoMemory;
 use shard_book::Book;
 use stick_table::Table;
 

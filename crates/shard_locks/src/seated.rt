@@ -3,8 +3,7 @@
 ghost use Rattle.std.specs.Prelude.{◌≡◌};
 
 use crate::Shards;
-use shard_book::Keeper;
-use shard_seats::Seat;
+use shard_book::{Keeper, Seat};
 use std::marker::Model;
 use std::sync::Wait;
 use stick_table::{Event, Refusal, Reply, Spec, Table};
@@ -47,8 +46,8 @@ impl<'a, T: Table, R> Seated<'a, T, R> {
 }
 
 impl<'a, T: Table, R: Wait> Keeper for Seated<'a, T, R> {
-    ghost use Rattle.shard_seats.specs.SeatState.{SeatState};
-    ghost use Rattle.shard_seats.specs.Told.{Told, IsRefusedTo};
+    ghost use Rattle.shard_book.specs.SeatState.{SeatState};
+    ghost use Rattle.shard_book.specs.Told.{Told, IsRefusedTo};
 
     ghost table = { λ seated. seated.table.spec };
 

@@ -3,12 +3,12 @@
 ghost use Rattle.std.specs.Prelude.{◌≡◌, ◌≤◌, ◌<◌, ◌^◌, Ok, Err, true, false, length, IfOk, IfErr, OnOk, OnErr};
 ghost use Rattle.stick_key.specs.Shard.{shard};
 ghost use Rattle.stored_data.specs.Laws.{HasTag};
-ghost use Rattle.table_model.specs.Limits.{IsTableSpec, IsTableEvent};
-ghost use Rattle.table_model.specs.declared.events.Event.TheVariants.{Track, Look, Count, Release};
-ghost use Rattle.table_model.specs.declared.replies.Reply.TheVariants.{Row as Shown, Value, Released};
-ghost use Rattle.table_model.specs.declared.replies.Refusal.TheVariants.{Stale};
+ghost use Rattle.stick_model.specs.Limits.{IsTableSpec, IsTableEvent};
+ghost use Rattle.stick_model.specs.declared.events.Event.TheVariants.{Track, Look, Count, Release};
+ghost use Rattle.stick_model.specs.declared.replies.Reply.TheVariants.{Row as Shown, Value, Released};
+ghost use Rattle.stick_model.specs.declared.replies.Refusal.TheVariants.{Stale};
 ghost use Rattle.shard_book.specs.Keeping.{MayAsk, part_of};
-ghost use Rattle.shard_seats.specs.Told.{Told, IsRefusedTo};
+ghost use Rattle.shard_book.specs.Told.{Told, IsRefusedTo};
 ghost use Rattle.shard_locks.specs.ShardsState.{IsReferenceRefused, IsUnlocked, fresh_seats};
 ghost use Rattle.shard_locks.specs.Tracking.{IsAt, reply_of};
 
@@ -17,8 +17,8 @@ use crate::rolling::roll_long;
 use crate::tracking::{counted_value, shown_row, tracking_of};
 use crate::unlocked::{lock_all, unlock_all};
 use crate::{Tracking, Unlocked};
-use sequence::NoMemory;
-use shard_seats::{Seat, TrackRef, serve};
+use base_sequence::NoMemory;
+use shard_book::{Seat, TrackRef, serve};
 use std::alloc::Global;
 use std::marker::Model;
 use std::sync::Wait;

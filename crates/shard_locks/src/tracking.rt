@@ -1,10 +1,10 @@
 //! What an event of a reference is answered.
 
 ghost use Rattle.std.specs.Prelude.{◌≡◌};
-ghost use Rattle.table_model.specs.declared.replies.Reply.TheVariants.{Row as Shown, Value};
+ghost use Rattle.stick_model.specs.declared.replies.Reply.TheVariants.{Row as Shown, Value};
 ghost use Rattle.shard_locks.specs.Tracking.{IsAt, IsCounted, IsShown, IsTracking, reply_of};
 
-use shard_seats::TrackRef;
+use shard_book::TrackRef;
 use stick_table::{Reply, Row};
 
 /// What tracking a key is answered. It can't be dropped, as a reference can't.

@@ -2,7 +2,7 @@
 ghost use Rattle.std.specs.Prelude.{◌≡◌};
 ghost use Rattle.stick_key.specs.declared.fault.KeyFault.TheVariants.{Memory};
 
-pub use sequence::NoMemory;
+pub use base_sequence::NoMemory;
 use std::alloc::AllocFailed;
 use thiserror::Error;
 

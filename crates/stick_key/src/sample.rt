@@ -7,7 +7,7 @@ ghost use Rattle.stick_key.specs.declared.kind.KeyType.TheVariants.{Binary};
 use crate::ipv6::{mapped, print_ipv6, unmapped};
 use crate::text::{print_dotted, print_integer};
 use crate::{KeyFault, KeyType, NoMemory, StickKey};
-use sequence::Sequence;
+use base_sequence::Sequence;
 use smallvec::SmallVec;
 use std::alloc::Global;
 

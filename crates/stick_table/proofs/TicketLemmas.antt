@@ -1,23 +1,23 @@
 -- On the tickets of a key.
-use Rattle.table_model.specs.Room.{stored, stored_in}
+use Rattle.stick_model.specs.Room.{stored, stored_in}
 use Rattle.std.proofs.Common.{refl, subst, None, ◌≡◌, ℕ, ◌+◌, List, [], ◌∷◌, ◌++◌, arith, ap, sym, ◌∙◌, true, false, cond, length, ◌<◌, nat_le, Some, Option, max, filter, unwrap_or}
 use Rattle.std.specs.Option.{option_map, option_map_or}
 use Rattle.std.proofs.lemmas.Bool.Decides.{nat_tests}
-use Rattle.table_model.specs.Step.{Outcome, begun, connected, track, tracked, count, counted_at, with_ticket}
+use Rattle.stick_model.specs.Step.{Outcome, begun, connected, track, tracked, count, counted_at, with_ticket}
 use Rattle.stick_table.specs.References.{entered}
-use Rattle.table_model.specs.declared.rows.Row.{Row}
-use Rattle.table_model.specs.declared.rows.Record.{Record}
-use Rattle.table_model.specs.declared.replies.Reply.TheVariants.{NoRefs, Full, Tracked, Absent, Value}
+use Rattle.stick_model.specs.declared.rows.Row.{Row}
+use Rattle.stick_model.specs.declared.rows.Record.{Record}
+use Rattle.stick_model.specs.declared.replies.Reply.TheVariants.{NoRefs, Full, Tracked, Absent, Value}
 use Rattle.std.specs.Cmp.{eq_by_cmp_equiv}
 use Rattle.std.specs.Cmp.Lexicographic.{nat_list_cmp_total}
 use Rattle.std.proofs.lemmas.List.Sums.{sum_by-append, sum_by-cons}
-use Rattle.table_model.specs.Key.{Key, same_key}
+use Rattle.stick_model.specs.Key.{Key, same_key}
 use Rattle.std.specs.Option.{option_and_then}
 use Rattle.std.specs.Map.{set_value}
 use Rattle.stored_data.specs.Acts.{acted, answer}
 use Rattle.stored_data.specs.declared.act.Act.{Act}
-use Rattle.table_model.specs.State.{State, key_of, record_at, stays, zero_record, refs, row_of}
-use Rattle.table_model.specs.declared.rows.Ticket.{Ticket}
+use Rattle.stick_model.specs.State.{State, key_of, record_at, stays, zero_record, refs, row_of}
+use Rattle.stick_model.specs.declared.rows.Ticket.{Ticket}
 
 pub same_key_refl : (key : Key) → same_key key key ≡ true
 same_key_refl key = (eq_by_cmp_equiv nat_list_cmp_total).refl key

@@ -1,12 +1,12 @@
 -- A reference that is made.
 use Rattle.std.specs.Prelude.{ℕ, Option, Some, None}
 use Rattle.std.specs.Option.{option_map_or}
-use Rattle.table_model.specs.Key.{Key}
-use Rattle.table_model.specs.State.{State}
-use Rattle.table_model.specs.Room.{stored}
-use Rattle.table_model.specs.Step.{with_ticket}
-use Rattle.table_model.specs.declared.rows.Ticket.{Ticket}
-use Rattle.table_model.specs.declared.rows.Record.{Record}
+use Rattle.stick_model.specs.Key.{Key}
+use Rattle.stick_model.specs.State.{State}
+use Rattle.stick_model.specs.Room.{stored}
+use Rattle.stick_model.specs.Step.{with_ticket}
+use Rattle.stick_model.specs.declared.rows.Ticket.{Ticket}
+use Rattle.stick_model.specs.declared.rows.Record.{Record}
 
 -- with this record at the key, and a reference to it that has this slot, where there is room; and the reference's ticket
 abbrev pub entered : State → Key → ℕ → Record → Option Ticket × State

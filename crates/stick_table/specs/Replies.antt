@@ -2,15 +2,15 @@
 use Rattle.std.specs.Prelude.{ℕ, List, map, filter, length}
 use Rattle.std.specs.Option.{option_map_or}
 use Rattle.stored_data.specs.declared.stored_set.Column.{Column}
-use Rattle.table_model.specs.Key.{Key}
-use Rattle.table_model.specs.State.{State, refs, record_at, row_of, stays, key_of}
-use Rattle.table_model.specs.Filters.{passes, not_stored}
-use Rattle.table_model.specs.declared.rows.Ticket.{Ticket}
-use Rattle.table_model.specs.declared.rows.Record.{Record}
-use Rattle.table_model.specs.declared.rows.Row.{Row}
-use Rattle.table_model.specs.declared.filters.Filter.{Filter}
-use Rattle.table_model.specs.declared.replies.Reply.{Reply}
-use Rattle.table_model.specs.declared.replies.Reply.TheVariants.{Absent, Row as ARow, NotStored, Rows}
+use Rattle.stick_model.specs.Key.{Key}
+use Rattle.stick_model.specs.State.{State, refs, record_at, row_of, stays, key_of}
+use Rattle.stick_model.specs.Filters.{passes, not_stored}
+use Rattle.stick_model.specs.declared.rows.Ticket.{Ticket}
+use Rattle.stick_model.specs.declared.rows.Record.{Record}
+use Rattle.stick_model.specs.declared.rows.Row.{Row}
+use Rattle.stick_model.specs.declared.filters.Filter.{Filter}
+use Rattle.stick_model.specs.declared.replies.Reply.{Reply}
+use Rattle.stick_model.specs.declared.replies.Reply.TheVariants.{Absent, Row as ARow, NotStored, Rows}
 
 -- a look at a key
 abbrev pub shown_reply : State → ℕ → Key → Reply

@@ -1,5 +1,5 @@
 //! Stick tables: what every table does, and the plain one, which goes over all its records at each event.
-//! The types and the definitions are those of `table_model`.
+//! The types and the definitions are those of `stick_model`.
 #![tactic(auto)]
 
 mod plain;
@@ -10,7 +10,7 @@ mod tables;
 pub use plain::PlainTable;
 pub use redoing::redo_all;
 pub use running::run;
-pub use table_model::{
+pub use stick_model::{
     Cell, Cells, Event, Filter, Op, Record, Refusal, Reply, Row, Rows, Spec, Stored, Ticket, laws,
 };
 pub use tables::Table;

@@ -14,12 +14,12 @@ ghost use Rattle.std.specs.Prelude.{◌≡◌, ◌+◌, ◌<◌, ◌^◌};
 ghost use Rattle.std.specs.Option.{option_map};
 
 use crate::Table;
+use base_sequence::NoMemory;
 use records::copy_records;
-use sequence::NoMemory;
 use std::alloc::Global;
 use std::marker::Model;
 use stick_key::StickKey;
-use table_model::{Event, Record, Refusal, Reply, Spec, Stored, Ticket};
+use stick_model::{Event, Record, Refusal, Reply, Spec, Stored, Ticket};
 use tickets::{copy_tickets, find_key, free_slot};
 
 /// A table that goes over all its records at each event.
@@ -34,7 +34,7 @@ pub struct PlainTable {
 }
 
 impl Model for PlainTable {
-    ghost use Rattle.table_model.specs.State.{State};
+    ghost use Rattle.stick_model.specs.State.{State};
     ghost use Rattle.stick_table.specs.Invariant.{IsBounded};
 
     ghost Value = { State };
@@ -46,12 +46,12 @@ impl Model for PlainTable {
 
 impl PlainTable {
     ghost use Rattle.std.specs.Prelude.{◌≡◌, ◌≤◌, ◌^◌, ◌↔◌, IsTrue, IfOk, IsOk, IfErr, OnOk, OnErr, MatchOption, true, false};
-    ghost use Rattle.table_model.specs.State.{empty_table};
+    ghost use Rattle.stick_model.specs.State.{empty_table};
     ghost use Rattle.stick_table.specs.Invariant.{IsBounded};
-    ghost use Rattle.table_model.specs.Limits.{IsTableEvent};
-    ghost use Rattle.table_model.specs.Refusals.{IsRefused, has_life as has_life_for, takes_memory};
-    ghost use Rattle.table_model.specs.Run.{CanRedo, redone};
-    ghost use Rattle.table_model.specs.Step.{Step, MayTrack, is_out as is_event_out, is_free_slot, after};
+    ghost use Rattle.stick_model.specs.Limits.{IsTableEvent};
+    ghost use Rattle.stick_model.specs.Refusals.{IsRefused, has_life as has_life_for, takes_memory};
+    ghost use Rattle.stick_model.specs.Run.{CanRedo, redone};
+    ghost use Rattle.stick_model.specs.Step.{Step, MayTrack, is_out as is_event_out, is_free_slot, after};
 
     /// A table of these parts: its records in the order of their keys, and its outstanding references, the oldest first.
     pub fn from_parts(

@@ -1,14 +1,14 @@
 //! Stored calls, made again on a plain table.
 
 ghost use Rattle.std.specs.Prelude.{◌≡◌, All, IfOk, IfErr, List};
-ghost use Rattle.table_model.specs.State.{State};
-ghost use Rattle.table_model.specs.Run.{LastingRun, RedoStops, CanRedoAll, redone_all};
-ghost use Rattle.table_model.specs.Limits.{IsTableEvent};
+ghost use Rattle.stick_model.specs.State.{State};
+ghost use Rattle.stick_model.specs.Run.{LastingRun, RedoStops, CanRedoAll, redone_all};
+ghost use Rattle.stick_model.specs.Limits.{IsTableEvent};
 
 use crate::PlainTable;
-use sequence::Sequence;
+use base_sequence::Sequence;
 use std::alloc::Global;
-use table_model::{Refusal, Reply, Stored};
+use stick_model::{Refusal, Reply, Stored};
 
 /// The replies to stored calls, made again one after another: a reference that one makes gets the slot that it names.
 /// Room for all replies is taken first: where it is refused, no call is made. It ends at the first refusal; the calls

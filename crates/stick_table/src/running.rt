@@ -1,13 +1,13 @@
 //! A list of events on any table.
 
 ghost use Rattle.std.specs.Prelude.{All, IfOk, IfErr};
-ghost use Rattle.table_model.specs.Run.{Run, RunStops};
-ghost use Rattle.table_model.specs.Limits.{IsTableEvent};
+ghost use Rattle.stick_model.specs.Run.{Run, RunStops};
+ghost use Rattle.stick_model.specs.Limits.{IsTableEvent};
 
 use crate::Table;
-use sequence::Sequence;
+use base_sequence::Sequence;
 use std::alloc::Global;
-use table_model::{Event, Refusal, Reply};
+use stick_model::{Event, Refusal, Reply};
 
 /// The replies to events, one after another. Room for all replies is taken first: where it is refused, no event is
 /// made. It ends at the first refusal; the events before it stand.

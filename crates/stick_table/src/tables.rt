@@ -1,15 +1,15 @@
 //! What every stick table does, however it is kept.
 
 ghost use Rattle.std.specs.Prelude.{◌≡◌, IfOk, OnErr, OnOk, IfErr, true};
-ghost use Rattle.table_model.specs.State.{State, empty_table};
-ghost use Rattle.table_model.specs.Step.{Step};
-ghost use Rattle.table_model.specs.Refusals.{IsRefused, has_life};
-ghost use Rattle.table_model.specs.Limits.{IsTableSpec, IsTableEvent};
+ghost use Rattle.stick_model.specs.State.{State, empty_table};
+ghost use Rattle.stick_model.specs.Step.{Step};
+ghost use Rattle.stick_model.specs.Refusals.{IsRefused, has_life};
+ghost use Rattle.stick_model.specs.Limits.{IsTableSpec, IsTableEvent};
 
 use crate::PlainTable;
-use sequence::NoMemory;
+use base_sequence::NoMemory;
 use std::alloc::Global;
-use table_model::{Event, Refusal, Reply, Spec};
+use stick_model::{Event, Refusal, Reply, Spec};
 
 /// A stick table.
 pub trait Table: Drop {

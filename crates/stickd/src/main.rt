@@ -5,18 +5,12 @@ ghost use Rattle.std.specs.Prelude.{◌≤◌};
 
 mod run_plan;
 
-use adopt::{Asked, adopt_file};
-use adopt_plan::Wishes;
-use adopt_words::text_of;
+use adopt::{Asked, Wishes, adopt_file, text_of};
+use base_sequence::NoMemory;
 use byte_ports::{StreamSink, StreamSource};
 use clap::ArgMatches;
-use command_line::{Keeping, read_command_line, read_keeping};
-use configuration_file::{Detail, open_setup, read_file};
 use log::Log;
-use proxy::{ProxyRuntime, run_pooled};
 use run_plan::read_plan;
-use script::{BadLines, FaultKind, ReplayFault, replay_script};
-use sequence::NoMemory;
 use std::alloc::Global;
 use std::net::{Net, TcpListener, TcpStream};
 use std::process::ExitCode;
@@ -26,6 +20,9 @@ use std::sync::Wait;
 use std::thread::Threads;
 use std::time::Clock;
 use std::{env, io};
+use stickd_input::{Detail, Keeping, open_setup, read_command_line, read_file, read_keeping};
+use stickd_script::{BadLines, FaultKind, ReplayFault, replay_script};
+use tcp_proxy::{ProxyRuntime, run_pooled};
 
 /// The status of a bad command line.
 const BAD_COMMAND_LINE: u8 = 2;

@@ -3,11 +3,11 @@
 ghost use Rattle.std.specs.Prelude.{◌≤◌, IfOk};
 
 use clap::ArgMatches;
-use command_line::{CLIENT, CONNECT, FIN, KEEPALIVE, SERVER, SOCKET};
-use command_socket::read_mode;
-use config_words::read_time;
-use proxy::{Plan, SocketPlan};
-use socket_link::{Keepalive, Timeouts};
+use rule_words::read_time;
+use stickd_input::{CLIENT, CONNECT, FIN, KEEPALIVE, SERVER, SOCKET};
+use table_socket::read_mode;
+use tcp_link::{Keepalive, Timeouts};
+use tcp_proxy::{Plan, SocketPlan};
 use tcp_relay::Limits;
 
 /// How long a server may take to accept a connection where that isn't said, in ms.

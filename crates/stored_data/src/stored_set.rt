@@ -2,7 +2,7 @@
 ghost use Rattle.std.specs.Prelude.{◌≡◌, ◌↔◌, ◌++◌, List, map, IfOk, OnOk};
 
 use crate::{Datum, Field};
-use sequence::NoMemory;
+use base_sequence::NoMemory;
 use std::alloc::Global;
 use std::marker::Model;
 

@@ -3,8 +3,8 @@ ghost use Rattle.std.specs.Prelude.{List};
 
 use crate::act::{Act, Change};
 use crate::{Column, Datum, Field, StoredSet};
+use base_sequence::NoMemory;
 use rate_window::Meter;
-use sequence::NoMemory;
 use std::alloc::Global;
 use std::marker::Model;
 

@@ -11,8 +11,8 @@ ghost use Rattle.stored_data.specs.declared.stored_set.Column.{Column};
 use crate::act::{Act, Change};
 use crate::values::{Content, StoredValue, Values};
 use crate::{Column, Datum, Field};
+use base_sequence::NoMemory;
 use rate_window::Meter;
-use sequence::NoMemory;
 use std::alloc::Global;
 
 /// What is done to each field of a row.

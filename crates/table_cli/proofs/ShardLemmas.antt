@@ -2,19 +2,19 @@
 use Rattle.std.proofs.Common.{◌≡◌, ◌∙◌, ◌<◌, ◌≤◌, ◌+◌, ◌-◌, ℕ, suc, Bool, true, false, unwrap_or, Option, Some, None, Ok, IfSome, List, [], ◌∷◌, ◌++◌, append_assoc, refl, sym, ap, subst, inl, rules, arith}
 use Rattle.std.specs.Option.{option_map_or}
 use Rattle.std.specs.List.{range_with_len}
-use Rattle.table_model.specs.Step.{Outcome, asks_rows, shows_rows, slot_of}
-use Rattle.table_model.proofs.ReplyLemmas.{rows_told}
+use Rattle.stick_model.specs.Step.{Outcome, asks_rows, shows_rows, slot_of}
+use Rattle.stick_model.proofs.ReplyLemmas.{rows_told}
 use Rattle.std.proofs.lemmas.Bool.{false≢true}
-use Rattle.table_model.specs.declared.events.Event.{Event}
-use Rattle.table_model.specs.declared.replies.Reply.{Reply}
+use Rattle.stick_model.specs.declared.events.Event.{Event}
+use Rattle.stick_model.specs.declared.replies.Reply.{Reply}
 use Rattle.stick_key.specs.declared.kind.KeyType.{KeyType}
-use Rattle.command_text.specs.Form.{Request, Everything, OneKey, Compare, Show, Clear as Clearing, Set}
-use Rattle.command_text.specs.Request.{Asks}
+use Rattle.table_texts.specs.Form.{Request, Everything, OneKey, Compare, Show, Clear as Clearing, Set}
+use Rattle.table_texts.specs.Request.{Asks}
 use Rattle.shard_book.specs.Keeping.{IsAnswer}
-use Rattle.joined_replies.specs.Total.{both, together}
+use Rattle.shard_book.specs.Total.{both, together}
 use Rattle.table_cli.specs.Shards.{Answering, AsksInTurn, AsksWhatIsShown, Ends, IsCommand, Refusing, key_shard, shards_of}
-use Rattle.command_text.specs.declared.message.Message.{Message}
-use Rattle.command_text.specs.declared.message.Message.TheVariants.{OutOfMemory}
+use Rattle.table_texts.specs.declared.message.Message.{Message}
+use Rattle.table_texts.specs.declared.message.Message.TheVariants.{OutOfMemory}
 
 -- what is asked is an event of a command
 pub is_command : (kind : KeyType) (moment : ℕ) (request : Request) (event : Event) → Asks kind moment request (Ok event) → IsCommand event

@@ -3,25 +3,25 @@ use Rattle.std.proofs.Common.{◌≡◌, ℕ, zero, suc, ◌+◌, ◌-◌, ◌<�
 use Rattle.std.specs.List.{position_or_len, range_with_len}
 use Rattle.std.specs.Str.{bytes_eq}
 use Rattle.std.proofs.lemmas.List.{get_or-map, length-map, length-take-le, map-set}
-use Rattle.line_text.specs.Line.{without_cr}
-use Rattle.table_model.specs.declared.specification.Spec.{Spec}
-use Rattle.line_text.specs.Chain.{Chain}
-use Rattle.table_text.specs.Text.{header_text}
-use Rattle.line_text.proofs.ChainLemmas.{Chain-more}
+use Rattle.base_lines.specs.Line.{without_cr}
+use Rattle.stick_model.specs.declared.specification.Spec.{Spec}
+use Rattle.base_lines.specs.Chain.{Chain}
+use Rattle.table_texts.specs.Text.{header_text}
+use Rattle.base_lines.proofs.ChainLemmas.{Chain-more}
 use Rattle.table_cli.specs.Answers.{AsksOf, Does, HeadAt, HeadsOf, IsHead, place_of, used_of}
-use Rattle.command_text.specs.Form.{Request}
-use Rattle.command_text.specs.Request.{Asks}
+use Rattle.table_texts.specs.Form.{Request}
+use Rattle.table_texts.specs.Request.{Asks}
 use Rattle.shard_book.specs.NamedTables.{NamedState, state_of, states_of}
-use Rattle.joined_replies.specs.Total.{total}
+use Rattle.shard_book.specs.Total.{total}
 use Rattle.table_cli.specs.Shards.{Answering, AsksInTurn, Refusing}
-use Rattle.command_text.specs.Texts.{message_text}
-use Rattle.command_text.specs.declared.message.Message.{Message}
-use Rattle.command_text.specs.declared.message.Message.TheVariants.{NoSuchTable}
+use Rattle.table_texts.specs.Texts.{message_text}
+use Rattle.table_texts.specs.declared.message.Message.{Message}
+use Rattle.table_texts.specs.declared.message.Message.TheVariants.{NoSuchTable}
 use Rattle.shard_book.specs.declared.named.Named.{Named}
-use Rattle.table_model.specs.declared.events.Event.{Event}
-use Rattle.table_model.specs.declared.events.Event.TheVariants.{List as ListRows}
-use Rattle.table_model.specs.declared.filters.Filter.TheVariants as filters
-use Rattle.table_model.specs.declared.replies.Reply.{Reply}
+use Rattle.stick_model.specs.declared.events.Event.{Event}
+use Rattle.stick_model.specs.declared.events.Event.TheVariants.{List as ListRows}
+use Rattle.stick_model.specs.declared.filters.Filter.TheVariants as filters
+use Rattle.stick_model.specs.declared.replies.Reply.{Reply}
 
 position_or_len-map : {X Y : Type 0} (p : Y → Bool) (f : X → Y) (xs : List X) → position_or_len p (map f xs) ≡ position_or_len (λ x. p (f x)) xs
 position_or_len-map p f [] = refl

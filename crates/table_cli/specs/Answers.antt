@@ -2,26 +2,26 @@
 use Rattle.std.specs.Prelude.{◌≡◌, ◌⊎◌, ◌<◌, ℕ, Bool, true, false, Option, Some, None, Result, Ok, Err, List, [], ◌∷◌, ◌++◌, length, filter, codes, slice_index_or, slice_set, position}
 use Rattle.std.specs.List.{range_with_len}
 use Rattle.std.specs.Str.{bytes_eq}
-use Rattle.line_text.specs.Parts.{parts, is_semicolon}
-use Rattle.line_text.specs.Line.{without_cr}
-use Rattle.line_text.specs.Chain.{Chain}
-use Rattle.table_text.specs.Text.{header_text}
-use Rattle.table_model.specs.declared.specification.Spec.{Spec}
-use Rattle.table_model.specs.declared.events.Event.{Event}
-use Rattle.table_model.specs.declared.events.Event.TheVariants.{List as ListRows}
-use Rattle.table_model.specs.declared.filters.Filter.TheVariants as filters
-use Rattle.table_model.specs.declared.replies.Reply.{Reply}
-use Rattle.table_model.specs.declared.replies.Reply.TheVariants.{Rows}
-use Rattle.command_text.specs.Form.{Form, Request, Nothing, Unknown, Tables, Of, form_of}
-use Rattle.command_text.specs.Request.{Asks}
-use Rattle.command_text.specs.Seen.{words_of}
-use Rattle.joined_replies.specs.Total.{IsShown, total}
+use Rattle.base_lines.specs.Parts.{parts, is_semicolon}
+use Rattle.base_lines.specs.Line.{without_cr}
+use Rattle.base_lines.specs.Chain.{Chain}
+use Rattle.table_texts.specs.Text.{header_text}
+use Rattle.stick_model.specs.declared.specification.Spec.{Spec}
+use Rattle.stick_model.specs.declared.events.Event.{Event}
+use Rattle.stick_model.specs.declared.events.Event.TheVariants.{List as ListRows}
+use Rattle.stick_model.specs.declared.filters.Filter.TheVariants as filters
+use Rattle.stick_model.specs.declared.replies.Reply.{Reply}
+use Rattle.stick_model.specs.declared.replies.Reply.TheVariants.{Rows}
+use Rattle.table_texts.specs.Form.{Form, Request, Nothing, Unknown, Tables, Of, form_of}
+use Rattle.table_texts.specs.Request.{Asks}
+use Rattle.table_texts.specs.Seen.{words_of}
+use Rattle.shard_book.specs.Total.{IsShown, total}
 use Rattle.table_cli.specs.Shards.{Answering, AsksInTurn, Refusing, shards_of}
 use Rattle.shard_book.specs.NamedTables.{NamedState}
 use Rattle.table_cli.specs.States.{CommandState, Showing}
-use Rattle.command_text.specs.Texts.{message_text, reply_text}
-use Rattle.command_text.specs.declared.message.Message.{Message}
-use Rattle.command_text.specs.declared.message.Message.TheVariants.{UnknownCommand, NoSuchTable, OutOfMemory}
+use Rattle.table_texts.specs.Texts.{message_text, reply_text}
+use Rattle.table_texts.specs.declared.message.Message.{Message}
+use Rattle.table_texts.specs.declared.message.Message.TheVariants.{UnknownCommand, NoSuchTable, OutOfMemory}
 
 -- the place of the first table of a name
 abbrev pub place_of : {S : Type 0} → List ℕ → List (NamedState S) → Option ℕ

@@ -1,9 +1,9 @@
 -- What a service of commands writes.
 use Rattle.std.specs.Prelude.{◌≡◌, ℕ, Option, Some, None, List, length}
 use Rattle.byte_ports.specs.Bytes.{IsPrefix}
-use Rattle.command_text.specs.Texts.{message_text}
-use Rattle.command_text.specs.declared.message.Message.TheVariants.{UnknownCommand}
-use Rattle.line_text.specs.Chain.{StopsIn}
+use Rattle.table_texts.specs.Texts.{message_text}
+use Rattle.table_texts.specs.declared.message.Message.TheVariants.{UnknownCommand}
+use Rattle.base_lines.specs.Chain.{StopsIn}
 use Rattle.table_cli.specs.Answers.{Answers, AnswersLine, commands_of}
 use Rattle.table_cli.specs.Shards.{Answering, Refusing}
 use Rattle.table_cli.specs.States.{ServiceState, Showing, more}

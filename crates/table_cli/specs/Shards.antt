@@ -3,14 +3,14 @@ use Rattle.std.specs.Prelude.{◌≡◌, ◌⊎◌, ℕ, true, Option, Some, Non
 use Rattle.std.specs.Option.{option_map_or}
 use Rattle.std.specs.List.{range_with_len}
 use Rattle.stick_key.specs.Shard.{shard}
-use Rattle.table_model.specs.Step.{asks_rows, shows_rows}
-use Rattle.table_model.specs.declared.events.Event.{Event}
-use Rattle.table_model.specs.declared.events.Event.TheVariants.{Put, Clear, ClearWhere, List as ListRows}
-use Rattle.table_model.specs.declared.replies.Reply.{Reply}
-use Rattle.table_model.specs.declared.replies.Refusal.{Refusal}
-use Rattle.command_text.specs.Texts.{refusal_message}
-use Rattle.command_text.specs.declared.message.Message.{Message}
-use Rattle.command_text.specs.declared.message.Message.TheVariants.{OutOfMemory}
+use Rattle.stick_model.specs.Step.{asks_rows, shows_rows}
+use Rattle.stick_model.specs.declared.events.Event.{Event}
+use Rattle.stick_model.specs.declared.events.Event.TheVariants.{Put, Clear, ClearWhere, List as ListRows}
+use Rattle.stick_model.specs.declared.replies.Reply.{Reply}
+use Rattle.stick_model.specs.declared.replies.Refusal.{Refusal}
+use Rattle.table_texts.specs.Texts.{refusal_message}
+use Rattle.table_texts.specs.declared.message.Message.{Message}
+use Rattle.table_texts.specs.declared.message.Message.TheVariants.{OutOfMemory}
 
 -- an event that a command makes
 abbrev pub IsCommand : Event → Type 0

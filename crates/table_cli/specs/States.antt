@@ -1,6 +1,6 @@
 -- What commands work on: tables, and a clock.
 use Rattle.std.specs.Prelude.{ℕ, ◌+◌, ◌-◌, ◌^◌, min, List}
-use Rattle.table_model.specs.declared.specification.Spec.{Spec}
+use Rattle.stick_model.specs.declared.specification.Spec.{Spec}
 use Rattle.shard_book.specs.NamedTables.{NamedState, states_of}
 use Rattle.shard_book.specs.declared.named.Named.{Named}
 

@@ -3,29 +3,29 @@
 ghost use Rattle.std.specs.Prelude.{◌≡◌, ◌<◌, ◌^◌, ℕ, List, Result, MatchResult, IfOk, IfErr, OnOk, OnErr, IfSome, length, position};
 ghost use Rattle.std.specs.Str.{bytes_eq};
 ghost use Rattle.byte_ports.specs.Bytes.{Grows, GrowsInPart, IsOneMore};
-ghost use Rattle.table_model.specs.Limits.{IsTableEvent};
-ghost use Rattle.table_model.specs.declared.events.Event.{Event};
+ghost use Rattle.stick_model.specs.Limits.{IsTableEvent};
+ghost use Rattle.stick_model.specs.declared.events.Event.{Event};
 ghost use Rattle.table_cli.specs.Answers.{Answers, AnswersLine, AsksOf, Does, AnswersForm, AnswersEvent, commands_of, has_words as specified_words, place_of as specified_place};
-ghost use Rattle.line_text.specs.Chain.{StopsIn};
+ghost use Rattle.base_lines.specs.Chain.{StopsIn};
 ghost use Rattle.table_cli.specs.Shards.{IsCommand};
 ghost use Rattle.shard_book.specs.NamedTables.{state_of, states_of};
 ghost use Rattle.table_cli.specs.States.{CommandState};
-ghost use Rattle.command_text.specs.declared.message.Message.{Message};
-ghost use Rattle.command_text.specs.Request.{Asks};
-ghost use Rattle.command_text.specs.Bytes.{bytes_of};
-ghost use Rattle.command_text.specs.Form.{form_of};
-ghost use Rattle.command_text.specs.Seen.{seen_request, words_of};
+ghost use Rattle.table_texts.specs.declared.message.Message.{Message};
+ghost use Rattle.table_texts.specs.Request.{Asks};
+ghost use Rattle.table_texts.specs.Bytes.{bytes_of};
+ghost use Rattle.table_texts.specs.Form.{form_of};
+ghost use Rattle.table_texts.specs.Seen.{seen_request, words_of};
 
 use crate::shards::ask;
 use crate::tables::show_tables;
 use crate::{CliFault, CliFaultKind};
+use base_clock::Clock;
+use base_lines::{Blanks, Parts, Words, without_cr};
 use byte_ports::{Failed, Sink, write_all};
-use command_text::{Answer, Form, Message, Request, read_event, read_form};
-use line_text::{Blanks, Parts, Words, without_cr};
-use moments::Clock;
 use shard_book::{Keeper, Named};
 use std::alloc::Global;
-use table_model::Event;
+use stick_model::Event;
+use table_texts::{Answer, Form, Message, Request, read_event, read_form};
 
 /// The place of the first table of a name.
 fn place_of<K: Keeper>(tables: &[Named<K>], name: &[u8]) -> Option<usize>

@@ -2,20 +2,20 @@
 
 ghost use Rattle.std.specs.Prelude.{◌≡◌, ◌≤◌, ◌⊎◌, ℕ, Some, List, length, IfOk, IfErr, MatchResult, OnErr, OnOk};
 ghost use Rattle.byte_ports.specs.Bytes.{Grows, GrowsInPart, IsAtEnd, IsOneMore, Takes};
-ghost use Rattle.command_text.specs.Texts.{message_text};
-ghost use Rattle.command_text.specs.declared.message.Message.{Message as ItsMessage};
-ghost use Rattle.line_service.specs.Service.{ServesAll, StopsAfter};
-ghost use Rattle.line_service.specs.Service.{most_turns};
+ghost use Rattle.table_texts.specs.Texts.{message_text};
+ghost use Rattle.table_texts.specs.declared.message.Message.{Message as ItsMessage};
+ghost use Rattle.base_lines.specs.Service.{ServesAll, StopsAfter};
+ghost use Rattle.base_lines.specs.Service.{most_turns};
 ghost use Rattle.table_cli.specs.Service.{SaysLine, StopsLine};
 ghost use Rattle.table_cli.specs.States.{more, service_state};
 
 use crate::{CliFault, CliFaultKind, answer};
+use base_clock::Clock;
+use base_lines::{LineFaultKind, LineServer, serve_lines};
 use byte_ports::{Failed, Sink, Source, write_all};
-use command_text::Message;
-use line_service::{LineFaultKind, LineServer, serve_lines};
-use moments::Clock;
 use shard_book::{Keeper, Named};
 use std::alloc::Global;
+use table_texts::Message;
 
 /// What serves commands: named tables, in order of declaration, and a clock.
 #[derive(Drop)]

@@ -2,18 +2,17 @@
 
 ghost use Rattle.std.specs.Prelude.{◌≡◌, ◌≤◌, ◌<◌, List, Option, Some, None, IfOk, IfErr, OnErr, MatchResult};
 ghost use Rattle.std.specs.List.{range_with_len};
-ghost use Rattle.table_model.specs.Limits.{IsTableEvent};
-ghost use Rattle.table_model.specs.declared.replies.Reply.{Reply as ItsReply};
+ghost use Rattle.stick_model.specs.Limits.{IsTableEvent};
+ghost use Rattle.stick_model.specs.declared.replies.Reply.{Reply as ItsReply};
 ghost use Rattle.shard_book.specs.Keeping.{IsAnswer, MayAsk};
-ghost use Rattle.joined_replies.specs.Total.{IsAsked, IsShown, total};
+ghost use Rattle.shard_book.specs.Total.{IsAsked, IsShown, total};
 ghost use Rattle.table_cli.specs.Shards.{AsksInTurn, AsksWhatIsShown, Ends, IsCommand, key_shard as specified_shard, shards_of};
-ghost use Rattle.command_text.specs.declared.message.Message.{Message as ItsMessage};
+ghost use Rattle.table_texts.specs.declared.message.Message.{Message as ItsMessage};
 
-use command_text::Message;
-use joined_replies::{added, in_key_order};
-use shard_book::Keeper;
+use shard_book::{Keeper, added, in_key_order};
 use stick_key::shard_of;
-use table_model::{Event, Reply};
+use stick_model::{Event, Reply};
+use table_texts::Message;
 
 /// The shard on which an event's key lies: none, where it is asked of all shards.
 fn key_shard(event: &Event, shards: u32) -> Option<u32>

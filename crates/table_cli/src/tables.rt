@@ -2,23 +2,22 @@
 
 ghost use Rattle.std.specs.Prelude.{◌≡◌, ◌<◌, ◌^◌, ◌++◌, List, Option, Some, None, MatchResult};
 ghost use Rattle.std.specs.List.{range_with_len};
-ghost use Rattle.table_text.specs.Text.{header_text};
-ghost use Rattle.table_model.specs.declared.events.Event.TheVariants.{List as ListRows};
-ghost use Rattle.table_model.specs.declared.filters.Filter.TheVariants as filters;
-ghost use Rattle.table_model.specs.declared.replies.Reply.{Reply as ItsReply};
+ghost use Rattle.table_texts.specs.Text.{header_text};
+ghost use Rattle.stick_model.specs.declared.events.Event.TheVariants.{List as ListRows};
+ghost use Rattle.stick_model.specs.declared.filters.Filter.TheVariants as filters;
+ghost use Rattle.stick_model.specs.declared.replies.Reply.{Reply as ItsReply};
 ghost use Rattle.table_cli.specs.Answers.{ShowsTables, used_of as specified_used};
-ghost use Rattle.joined_replies.specs.Total.{total};
+ghost use Rattle.shard_book.specs.Total.{total};
 ghost use Rattle.table_cli.specs.Shards.{AsksInTurn};
 ghost use Rattle.shard_book.specs.NamedTables.{states_of};
-ghost use Rattle.command_text.specs.Bytes.{bytes_of};
-ghost use Rattle.command_text.specs.declared.message.Message.{Message as ItsMessage};
+ghost use Rattle.table_texts.specs.Bytes.{bytes_of};
+ghost use Rattle.table_texts.specs.declared.message.Message.{Message as ItsMessage};
 
 use crate::shards::ask;
-use command_text::{Answer, Message};
 use shard_book::{Keeper, Named};
 use std::alloc::Global;
-use table_model::{Event, Filter, Reply};
-use table_text::push_header;
+use stick_model::{Event, Filter, Reply};
+use table_texts::{Answer, Message, push_header};
 
 /// How many entries a listing tells.
 fn used_of(reply: &Reply) -> u64

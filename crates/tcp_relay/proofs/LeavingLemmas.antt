@@ -1,8 +1,8 @@
 -- What connections leave, place by place.
 use Rattle.std.proofs.Common.{◌≡◌, ◌++◌, ◌∷◌, [], refl, ap, arith, List, Option, length, map}
-use Rattle.shard_seats.specs.SeatState.{RefState}
+use Rattle.shard_book.specs.SeatState.{RefState}
 use Rattle.admit_core.specs.declared.conn.Conn.{Conn}
-use Rattle.tcp_relay.specs.Visitors.{left_by_all, left_if}
+use Rattle.tcp_relay.specs.Connections.{left_by_all, left_if}
 
 module _ {V : Type 0} (conn_of : V → Option (Conn RefState)) where
   -- the last one first

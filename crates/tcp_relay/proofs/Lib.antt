@@ -1,5 +1,5 @@
 mod LeavingLemmas
-pub mod VisitorLemmas
+pub mod ConnectionLemmas
 pub mod SeatingLemmas
 pub mod ServingLemmas
 mod LookLemmas

@@ -3,7 +3,7 @@ use Rattle.std.proofs.Common.{◌≡◌, ℕ, Bool, true, false, sym, subst, Res
 use Rattle.std.specs.Prelude.{IfOk, IfErr}
 use Rattle.std.specs.declared.vec.Vec.{Vec}
 use Rattle.std.specs.declared.alloc.Global.{Global}
-use Rattle.shard_seats.specs.SeatState.{SeatState}
+use Rattle.shard_book.specs.SeatState.{SeatState}
 use Rattle.tcp_relay.specs.Serving.{AreLeft, AreSeats, IsCause, IsFault, IsFaultOf, IsServed}
 use Rattle.tcp_relay.specs.declared.served.FaultKind.{FaultKind}
 use Rattle.tcp_relay.specs.declared.served.FaultKind.TheVariants.{Waiting, Thread, NoMemory}

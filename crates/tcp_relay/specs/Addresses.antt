@@ -5,9 +5,9 @@ use Rattle.std.specs.declared.net.ip_addr.IpAddr.TheVariants as ips
 use Rattle.std.specs.declared.net.socket_addr.SocketAddr.{SocketAddr}
 use Rattle.std.specs.Net.Addr.{ipv4_octets, ipv6_octets, ipv6_segments, segments_of}
 use Rattle.std.specs.Net.Socket.{socket_ip, socket_port}
-use Rattle.address_text.specs.declared.address.Address.{Address}
-use Rattle.address_text.specs.declared.address.Address.TheVariants.{V4, V6}
-use Rattle.address_text.specs.declared.address.Endpoint.{Endpoint}
+use Rattle.rule_addresses.specs.declared.address.Address.{Address}
+use Rattle.rule_addresses.specs.declared.address.Address.TheVariants.{V4, V6}
+use Rattle.rule_addresses.specs.declared.address.Endpoint.{Endpoint}
 use Rattle.rule_model.specs.declared.sections.Setup.{Setup}
 use Rattle.rule_eval.specs.declared.wants.Samples.{Samples}
 

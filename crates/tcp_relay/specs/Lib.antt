@@ -1,9 +1,9 @@
 pub mod Accepting
 pub mod Addresses
 pub mod Counts
-pub mod Lookouts
+pub mod ListenerTurns
 pub mod Numbers
 pub mod Seating
 pub mod Serving
 pub mod Sweeps
-pub mod Visitors
+pub mod Connections

@@ -3,7 +3,7 @@ use Rattle.std.specs.Prelude.{◌≡◌, ◌≤◌, ◌*◌, ℕ, Bool, true, fa
 use Rattle.std.specs.declared.vec.Vec.{Vec}
 use Rattle.std.specs.declared.alloc.Global.{Global}
 use Rattle.rule_model.specs.declared.sections.Setup.{Setup}
-use Rattle.shard_seats.specs.SeatState.{SeatState}
+use Rattle.shard_book.specs.SeatState.{SeatState}
 use Rattle.shard_locks.specs.ShardsState.{ShardsState}
 use Rattle.tcp_relay.specs.declared.served.FaultKind.{FaultKind}
 use Rattle.tcp_relay.specs.declared.served.FaultKind.TheVariants.{Waiting, Thread, NoMemory}

@@ -4,10 +4,10 @@ ghost use Rattle.std.specs.Prelude.{◌≡◌, ◌≢◌, ◌&&◌, true, false,
 ghost use Rattle.tcp_relay.specs.Accepting.{can_accept, pause_of};
 
 use crate::accept_errors::AcceptFault;
-use crate::door::Door;
-use socket_link::{Keepalive, ServerSocket};
+use crate::connection_counter::ConnectionCounter;
 use std::net::{Net, SocketAddr};
 use std::sync::Wait;
+use tcp_link::{Keepalive, ServerSocket};
 
 /// How long a worker waits until something is ready.
 #[derive(Clone, Copy, Debug, PartialEq, Eq)]
@@ -48,12 +48,12 @@ impl Acceptor {
 
     /// Draws the number of the next connection, if that isn't done and there is one more. Where references are left that can't be
     /// given back, none is drawn any more.
-    pub(crate) fn draw(&mut self, door: &Door, rt: &impl Wait, has_left: bool) {
+    pub(crate) fn draw(&mut self, counter: &ConnectionCounter, rt: &impl Wait, has_left: bool) {
         if self.number.is_some() || self.is_closed {
             return;
         }
         if !has_left {
-            self.number = door.draw(rt);
+            self.number = counter.draw(rt);
         }
         self.is_closed = self.number.is_none();
     }

@@ -4,7 +4,7 @@ ghost use Rattle.std.specs.Prelude.{◌≡◌};
 ghost use Rattle.std.specs.Net.Socket.{socket_ip, socket_port, IsPlainSocket};
 ghost use Rattle.tcp_relay.specs.Addresses.{IsAddress, address_of, port_of, samples_of};
 
-use address_text::{Address, Endpoint};
+use rule_addresses::{Address, Endpoint};
 use rule_eval::Samples;
 use rule_model::Setup;
 use std::net::{IpAddr, Ipv4Addr, Ipv6Addr, SocketAddr};

@@ -6,14 +6,14 @@ ghost use Rattle.tcp_relay.specs.Seating.{HaveEach};
 ghost use Rattle.tcp_relay.specs.Serving.{AreLeft, AreSeats};
 
 use crate::Served;
-use crate::gear::Gear;
+use crate::buffers::Buffers;
+use crate::connection::Connection;
 use crate::places::Places;
 use crate::seating::take_row;
 use crate::shares::share_of;
-use crate::visitor::Visitor;
 use crate::width::Width;
 use crate::worker::{Tally, Worker};
-use shard_seats::{Seat, TrackRef};
+use shard_book::{Seat, TrackRef};
 
 /// As many workers as there are rows for their seats, each with a seat of each table and its share of the places for so many
 /// connections.
@@ -21,40 +21,40 @@ pub(crate) fn seat_workers<'a, W: Width>(
     seats: &mut Vec<Vec<Seat>>,
     workers: &mut Vec<Worker<'a, W>>,
     mut rows: Vec<Vec<Seat>>,
-    mut visitors: Vec<Vec<Option<Visitor<'a, W>>>>,
+    mut held: Vec<Vec<Option<Connection<'a, W>>>>,
     mut free: Vec<Vec<usize>>,
-    mut gears: Vec<Gear>,
+    mut all_buffers: Vec<Buffers>,
     connections: usize,
 )
     requires most { most_of connections (length rows.items) ≡ W.most }
     requires connections { connections ≤ 2 ^ 32 }
     requires seats { AreSeats (length W.tables) (length rows.items) seats.old }
     requires rows { HaveEach 0 (length W.tables) rows.items }
-    requires visitors { (length visitors.items ≡ length rows.items) × HaveEach 0 W.most visitors.items }
+    requires held { (length held.items ≡ length rows.items) × HaveEach 0 W.most held.items }
     requires free { length free.items ≡ length rows.items }
-    requires gears { length gears.items ≡ length rows.items }
+    requires all_buffers { length all_buffers.items ≡ length rows.items }
     requires workers { (vec_len workers.old ≡ 0) × (length rows.items ≤ vec_capacity workers.old) }
     ensures workers { length workers.new.items ≡ length rows.items }
     ensures tables { length seats.new.items ≡ length W.tables }
     ensures seats { HaveEach 0 (length rows.items) seats.new.items }
 {
     let count = rows.as_slice().len();
-    while let Some(places) = visitors.pop() {
+    while let Some(places) = held.pop() {
         let Some(row) = rows.pop() else {
             unreachable!();
         };
         let Some(spare) = free.pop() else {
             unreachable!();
         };
-        let Some(gear) = gears.pop() else {
+        let Some(buffers) = all_buffers.pop() else {
             unreachable!();
         };
         let row = take_row(seats, row);
         let most = share_of(connections, count, rows.as_slice().len());
         let places = Places::new(places, spare, most);
-        workers.push_reserved(Worker::new(row, places, gear));
+        workers.push_reserved(Worker::new(row, places, buffers));
     }
-    visitors.destroy_empty();
+    held.destroy_empty();
 }
 
 /// What workers have done together, with their seats and the references that their connections still hold; and whether one

@@ -5,14 +5,14 @@ ghost use Rattle.rule_model.specs.declared.actions.Slot.TheVariants.{Sc0, Sc1, S
 ghost use Rattle.admit_core.specs.Conn.{progress_of};
 ghost use Rattle.admit_core.specs.Held.{held_at};
 ghost use Rattle.tcp_relay.specs.Seating.{HaveFew, HaveRoom, held_in, put_in_if};
-ghost use Rattle.tcp_relay.specs.Visitors.{left_by, left_by_all, left_if};
+ghost use Rattle.tcp_relay.specs.Connections.{left_by, left_by_all, left_if};
 
+use crate::connection::Connection;
 use crate::seating::put_aside;
-use crate::visitor::Visitor;
 use crate::width::Width;
 use admit_core::Conn;
 use rule_model::Slot;
-use shard_seats::TrackRef;
+use shard_book::TrackRef;
 
 /// How many references a connection holds at most.
 pub(crate) const MOST_HELD: usize = 3;
@@ -63,19 +63,19 @@ fn put_held(refs: &mut Vec<Vec<TrackRef>>, held: Option<Entry>)
 }
 
 /// Puts the references that a connection still holds to the others of their tables, and closes its sockets.
-fn put_visitor<W: Width>(refs: &mut Vec<Vec<TrackRef>>, visitor: Visitor<'_, W>)
+fn put_connection<W: Width>(refs: &mut Vec<Vec<TrackRef>>, connection: Connection<'_, W>)
     requires tables { length refs.old.items ≡ length W.tables }
     requires room { HaveRoom 3 refs.old.items }
-    ensures kept { held_in refs.new.items ≡ left_by visitor.entry.conn (held_in refs.old.items) }
+    ensures kept { held_in refs.new.items ≡ left_by connection.entry.conn (held_in refs.old.items) }
     ensures tables { length refs.new.items ≡ length refs.old.items }
     ensures more { (most places : ℕ) → HaveFew most places refs.old.items → HaveFew (most + 3) places refs.new.items }
     ensures room { (spare : ℕ) → HaveRoom (spare + 3) refs.old.items → HaveRoom spare refs.new.items }
 {
-    let Visitor {
+    let Connection {
         conn,
         link: _link,
         of: _,
-    } = visitor;
+    } = connection;
     let (first, second, third) = conn.end();
     put_held(refs, first);
     put_held(refs, second);
@@ -83,34 +83,34 @@ fn put_visitor<W: Width>(refs: &mut Vec<Vec<TrackRef>>, visitor: Visitor<'_, W>)
 }
 
 /// The same of a place, in which there may be none.
-fn put_place<W: Width>(refs: &mut Vec<Vec<TrackRef>>, place: Option<Visitor<'_, W>>)
+fn put_place<W: Width>(refs: &mut Vec<Vec<TrackRef>>, place: Option<Connection<'_, W>>)
     requires tables { length refs.old.items ≡ length W.tables }
     requires room { HaveRoom 3 refs.old.items }
-    ensures kept { held_in refs.new.items ≡ left_if (option_map (λ visitor. visitor.conn) place.entry) (held_in refs.old.items) }
+    ensures kept { held_in refs.new.items ≡ left_if (option_map (λ connection. connection.conn) place.entry) (held_in refs.old.items) }
     ensures tables { length refs.new.items ≡ length refs.old.items }
     ensures more { (most places : ℕ) → HaveFew most places refs.old.items → HaveFew (most + 3) places refs.new.items }
     ensures room { (spare : ℕ) → HaveRoom (spare + 3) refs.old.items → HaveRoom spare refs.new.items }
 {
     match place {
-        Some(visitor) => put_visitor(refs, visitor),
+        Some(connection) => put_connection(refs, connection),
         None => {}
     }
 }
 
 /// Puts the references that connections still hold to the others of their tables.
-pub(crate) fn put_visitors<W: Width>(
+pub(crate) fn put_connections<W: Width>(
     refs: &mut Vec<Vec<TrackRef>>,
-    mut visitors: Vec<Option<Visitor<'_, W>>>,
+    mut held: Vec<Option<Connection<'_, W>>>,
 )
-    requires few { vec_len visitors ≤ W.most }
+    requires few { vec_len held ≤ W.most }
     requires tables { length refs.old.items ≡ length W.tables }
     requires room { HaveRoom (W.most * 3) refs.old.items }
-    ensures kept { held_in refs.new.items ≡ left_by_all (map (option_map (λ visitor. visitor.conn)) visitors.entry.items) (held_in refs.old.items) }
+    ensures kept { held_in refs.new.items ≡ left_by_all (map (option_map (λ connection. connection.conn)) held.entry.items) (held_in refs.old.items) }
     ensures tables { length refs.new.items ≡ length refs.old.items }
     ensures more { (most places : ℕ) → HaveFew most places refs.old.items → HaveFew (most + W.most * 3) places refs.new.items }
 {
-    while let Some(place) = visitors.pop() {
+    while let Some(place) = held.pop() {
         put_place(refs, place);
     }
-    visitors.destroy_empty();
+    held.destroy_empty();
 }

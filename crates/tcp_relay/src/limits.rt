@@ -1,6 +1,6 @@
 //! How much is served at once, and how long.
 
-use socket_link::{Keepalive, Timeouts};
+use tcp_link::{Keepalive, Timeouts};
 
 /// How many connections are open at once, how long each may be silent, and how peers are asked whether they are still there.
 #[derive(Clone, Copy, Debug, PartialEq, Eq)]

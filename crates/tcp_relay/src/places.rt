@@ -3,20 +3,20 @@
 ghost use Rattle.std.specs.Prelude.{◌≡◌, ◌≤◌, ◌==◌, ◌||◌, not, nat_lt, length, IfSome, None, Some, slice_get, vec_capacity, vec_len};
 ghost use Rattle.admit_core.specs.Conn.{needed};
 ghost use Rattle.admit_core.specs.declared.need.Need.TheVariants.{Rest};
-ghost use Rattle.tcp_relay.specs.Visitors.{IsVisitor};
+ghost use Rattle.tcp_relay.specs.Connections.{IsConnection};
 
-use crate::visitor::Visitor;
+use crate::connection::Connection;
 use crate::width::Width;
 use admit_core::Conn;
 use mio::Registry;
-use shard_seats::TrackRef;
-use socket_link::{Buffer, Link, Ready, Timeouts};
+use shard_book::TrackRef;
 use std::mem;
+use tcp_link::{Buffer, Link, Ready, Timeouts};
 
 /// The connections that a worker holds, by the numbers of their places: what is reported of a socket names its place. A
 /// connection whose references can't be given back keeps its place, so that no memory is needed for them.
 pub(crate) struct Places<'a, W: Width> {
-    visitors: Vec<Option<Visitor<'a, W>>>,
+    held: Vec<Option<Connection<'a, W>>>,
     /// Places that are free again.
     free: Vec<usize>,
     /// How many places there are at most.
@@ -24,24 +24,24 @@ pub(crate) struct Places<'a, W: Width> {
     /// How many connections are open.
     open: usize,
     ghost limit: { most ≤ W.most },
-    ghost few: { vec_len visitors ≤ most },
-    ghost room: { W.most ≤ vec_capacity visitors },
+    ghost few: { vec_len held ≤ most },
+    ghost room: { W.most ≤ vec_capacity held },
 }
 
 impl<'a, W: Width> Places<'a, W> {
     /// No connection, and so many places at most.
     pub(crate) fn new(
-        visitors: Vec<Option<Visitor<'a, W>>>,
+        held: Vec<Option<Connection<'a, W>>>,
         free: Vec<usize>,
         most: usize,
     ) -> Places<'a, W>
         requires most { most ≤ W.most }
-        requires empty { vec_len visitors ≡ 0 }
-        requires room { W.most ≤ vec_capacity visitors }
+        requires empty { vec_len held ≡ 0 }
+        requires room { W.most ≤ vec_capacity held }
         ensures most { result.most ≡ most }
     {
         Places {
-            visitors,
+            held,
             free,
             most,
             open: 0,
@@ -60,19 +60,19 @@ impl<'a, W: Width> Places<'a, W> {
 
     /// How many places have been in use.
     pub(crate) fn count(&self) -> usize {
-        self.visitors.as_slice().len()
+        self.held.as_slice().len()
     }
 
     /// Whether there is a place for one more connection.
     pub(crate) fn has_room(&self) -> bool
-        ensures { result ≡ (not (length self.now.free.items == 0) || nat_lt (vec_len self.now.visitors) self.now.most) }
+        ensures { result ≡ (not (length self.now.free.items == 0) || nat_lt (vec_len self.now.held) self.now.most) }
     {
-        !self.free.is_empty() || self.visitors.as_slice().len() < self.most
+        !self.free.is_empty() || self.held.as_slice().len() < self.most
     }
 
     /// A place for one more connection. None where all are taken.
     pub(crate) fn claim(&mut self) -> Option<usize>
-        ensures free { IfSome result (λ place. slice_get self.new.visitors.items place ≡ Some None) }
+        ensures free { IfSome result (λ place. slice_get self.new.held.items place ≡ Some None) }
     {
         match self.free.pop() {
             Some(place) => self.if_free(place),
@@ -82,9 +82,9 @@ impl<'a, W: Width> Places<'a, W> {
 
     /// This place, if it is free.
     fn if_free(&self, place: usize) -> Option<usize>
-        ensures free { IfSome result (λ free. slice_get self.now.visitors.items free ≡ Some None) }
+        ensures free { IfSome result (λ free. slice_get self.now.held.items free ≡ Some None) }
     {
-        match self.visitors.get(place) {
+        match self.held.get(place) {
             Some(None) => Some(place),
             _ => None,
         }
@@ -92,13 +92,13 @@ impl<'a, W: Width> Places<'a, W> {
 
     /// A place that was never in use.
     fn claim_new(&mut self) -> Option<usize>
-        ensures free { IfSome result (λ place. slice_get self.new.visitors.items place ≡ Some None) }
+        ensures free { IfSome result (λ place. slice_get self.new.held.items place ≡ Some None) }
     {
-        let place = self.visitors.as_slice().len();
+        let place = self.held.as_slice().len();
         if place >= self.most {
             return None;
         }
-        self.visitors.push_reserved(None);
+        self.held.push_reserved(None);
         Some(place)
     }
 
@@ -109,11 +109,11 @@ impl<'a, W: Width> Places<'a, W> {
     }
 
     /// Puts a connection in its place.
-    fn put(&mut self, place: usize, visitor: Visitor<'a, W>)
-        requires free { slice_get self.old.visitors.items place ≡ Some None }
+    fn put(&mut self, place: usize, connection: Connection<'a, W>)
+        requires free { slice_get self.old.held.items place ≡ Some None }
     {
-        let slot = &mut self.visitors[place];
-        match mem::replace(slot, Some(visitor)) {
+        let slot = &mut self.held[place];
+        match mem::replace(slot, Some(connection)) {
             None => {}
             Some(_old) => unreachable!(),
         }
@@ -121,20 +121,20 @@ impl<'a, W: Width> Places<'a, W> {
 
     /// Puts a connection that is open in its place.
     pub(crate) fn put_open(&mut self, place: usize, conn: Conn<'a, TrackRef>, link: Link)
-        requires free { slice_get self.old.visitors.items place ≡ Some None }
-        requires visitor { IsVisitor W.tables conn }
+        requires free { slice_get self.old.held.items place ≡ Some None }
+        requires connection { IsConnection W.tables conn }
         requires rests { needed conn ≡ Rest }
     {
         self.open = self.open.saturating_add(1);
-        self.put(place, Visitor::open(conn, link));
+        self.put(place, Connection::open(conn, link));
     }
 
     /// Puts a connection that still holds references in its place.
     pub(crate) fn put_kept(&mut self, place: usize, conn: Conn<'a, TrackRef>)
-        requires free { slice_get self.old.visitors.items place ≡ Some None }
-        requires visitor { IsVisitor W.tables conn }
+        requires free { slice_get self.old.held.items place ≡ Some None }
+        requires connection { IsConnection W.tables conn }
     {
-        self.put(place, Visitor::kept(conn));
+        self.put(place, Connection::kept(conn));
     }
 
     /// Gives the connection in a place its turn, of which a socket is ready. Whether it is over now.
@@ -145,13 +145,7 @@ impl<'a, W: Width> Places<'a, W> {
         moment: u64,
         buffer: &mut Buffer,
     ) -> bool {
-        turn_at(
-            self.visitors.as_mut_slice(),
-            registry,
-            ready,
-            moment,
-            buffer,
-        )
+        turn_at(self.held.as_mut_slice(), registry, ready, moment, buffer)
     }
 
     /// Whether the connection in a place is open, and a peer of it has been silent for longer than it may, at a moment in ms.
@@ -163,18 +157,18 @@ impl<'a, W: Width> Places<'a, W> {
         since: u64,
         timeouts: &Timeouts,
     ) -> bool {
-        is_late_at(self.visitors.as_mut_slice(), place, moment, since, timeouts)
+        is_late_at(self.held.as_mut_slice(), place, moment, since, timeouts)
     }
 
     /// Takes the connection in a place, if it is open. The place stays claimed.
     pub(crate) fn take(&mut self, place: usize) -> Option<(Conn<'a, TrackRef>, Link)>
-        ensures free { IfSome result (λ _. slice_get self.new.visitors.items place ≡ Some None) }
-        ensures visitor { IfSome result (λ taken. IsVisitor W.tables taken.0) }
+        ensures free { IfSome result (λ _. slice_get self.new.held.items place ≡ Some None) }
+        ensures connection { IfSome result (λ taken. IsConnection W.tables taken.0) }
         ensures rests { IfSome result (λ taken. needed taken.0 ≡ Rest) }
     {
-        let slot = self.visitors.get_mut(place)?;
-        let visitor = slot.take()?;
-        match visitor.parts() {
+        let slot = self.held.get_mut(place)?;
+        let connection = slot.take()?;
+        match connection.parts() {
             Ok((conn, link)) => {
                 self.open = self.open.saturating_sub(1);
                 Some((conn, link))
@@ -187,44 +181,44 @@ impl<'a, W: Width> Places<'a, W> {
     }
 
     /// All connections that are left.
-    pub(crate) fn into_visitors(self) -> Vec<Option<Visitor<'a, W>>>
-        ensures all { result ≡ self.entry.visitors }
+    pub(crate) fn into_connections(self) -> Vec<Option<Connection<'a, W>>>
+        ensures all { result ≡ self.entry.held }
         ensures few { vec_len result ≤ W.most }
     {
         let Places {
-            visitors,
+            held,
             free: _,
             most: _,
             open: _,
         } = self;
-        visitors
+        held
     }
 }
 
 /// Gives the connection in a place its turn. Whether it is over now.
 fn turn_at<W: Width>(
-    visitors: &mut [Option<Visitor<'_, W>>],
+    held: &mut [Option<Connection<'_, W>>],
     registry: &Registry,
     ready: Ready,
     moment: u64,
     buffer: &mut Buffer,
 ) -> bool {
-    match visitors.get_mut(ready.number) {
-        Some(Some(visitor)) => visitor.turn(registry, ready, moment, buffer),
+    match held.get_mut(ready.number) {
+        Some(Some(connection)) => connection.turn(registry, ready, moment, buffer),
         _ => false,
     }
 }
 
 /// Whether the connection in a place is late.
 fn is_late_at<W: Width>(
-    visitors: &mut [Option<Visitor<'_, W>>],
+    held: &mut [Option<Connection<'_, W>>],
     place: usize,
     moment: u64,
     since: u64,
     timeouts: &Timeouts,
 ) -> bool {
-    match visitors.get_mut(place) {
-        Some(Some(visitor)) => visitor.is_late(moment, since, timeouts),
+    match held.get_mut(place) {
+        Some(Some(connection)) => connection.is_late(moment, since, timeouts),
         _ => false,
     }
 }

@@ -3,8 +3,8 @@
 ghost use Rattle.std.specs.Prelude.{◌≡◌, ◌+◌, ◌≤◌, ◌<◌, ℕ, All, IfOk, length, slice_index, vec_capacity, vec_len};
 ghost use Rattle.tcp_relay.specs.Seating.{HaveEach, HaveFew, HaveRoom, held_in, put_in};
 
-use sequence::NoMemory;
-use shard_seats::{Seat, TrackRef};
+use base_sequence::NoMemory;
+use shard_book::{Seat, TrackRef};
 use std::alloc::Global;
 
 /// So many empty lists, each with so many places.

@@ -1,6 +1,6 @@
 //! What serving comes to.
 
-use shard_seats::{Seat, TrackRef};
+use shard_book::{Seat, TrackRef};
 
 /// What was served: how many connections were admitted, rejected, and not accepted as the system hadn't what that takes, each
 /// count stopping at 2^64 - 1; the seats of each table, with their calls; and the references of each table that couldn't be

@@ -7,23 +7,22 @@ ghost use Rattle.tcp_relay.specs.declared.served.FaultKind.TheVariants.{NoMemory
 
 use crate::acceptor::Acceptor;
 use crate::addresses::socket_address;
-use crate::door::Door;
+use crate::connection_counter::ConnectionCounter;
 use crate::gathering::{gather, seat_workers};
-use crate::house::House;
-use crate::lookout::{Crew, Lookout, Post};
-use crate::room::{Room, reserve};
+use crate::listener_turn::{ListenerTurn, TurnParts, WorkerTurn};
+use crate::reserved::{Reserved, reserve};
+use crate::shared::Shared;
 use crate::shares::share_of;
 use crate::sweep::Sweep;
-use crate::turning::{Shift, turn_all};
+use crate::turning::{EventLoop, turn_all};
 use crate::watch::Watch;
 use crate::width::Width;
 use crate::worker::Worker;
 use crate::{FaultKind, Gate, Limits, ServeFault, ServeRuntime, Served};
-use moments::Clock;
+use base_clock::{Clock, RunningClock};
 use rule_model::Setup;
-use running_clock::RunningClock;
+use shard_book::Seat;
 use shard_locks::Shards;
-use shard_seats::Seat;
 use std::alloc::Global;
 use std::marker::{Brand, PhantomData};
 use std::net::{Net, TcpListener};
@@ -31,42 +30,49 @@ use std::thread;
 use std::time::Instant;
 use stick_table::Table;
 
-/// One worker's connections: until the door's last number is drawn and all its connections have ended, or it can't wait for
+/// One worker's connections: until the last number is drawn and all its connections have ended, or it can't wait for
 /// them.
 fn serve_each<'a, T: Table, R: ServeRuntime, G: Gate, W: Width>(
-    house: &House<'a, T, R, G, W>,
+    shared: &Shared<'a, T, R, G, W>,
     worker: &mut Worker<'a, W>,
 ) {
-    let (Some(mut gear), Some(watch)) = (worker.gear.take(), worker.watch.take()) else {
+    let (Some(mut buffers), Some(watch)) = (worker.buffers.take(), worker.watch.take()) else {
         worker.tally.has_failed = true;
         return;
     };
-    let mut clock = RunningClock::new(house.rt, house.start);
+    let mut clock = RunningClock::new(shared.rt, shared.start);
     let sweep = Sweep::new(clock.now());
-    let mut shift = Shift {
-        post: Post::new(&house.door.lookout, watch.worker()),
+    let mut event_loop = EventLoop {
+        turn: WorkerTurn::new(&shared.counter.listener_turn, watch.worker()),
         watch,
         acceptor: Acceptor::new(),
         clock,
         sweep,
     };
-    for _turn in house.rt.forever() {
-        shift.acceptor.draw(house.door, house.rt, worker.keeps);
-        if shift.acceptor.number().is_none() && worker.places.is_idle() {
+    for _turn in shared.rt.forever() {
+        event_loop
+            .acceptor
+            .draw(shared.counter, shared.rt, worker.keeps);
+        if event_loop.acceptor.number().is_none() && worker.places.is_idle() {
             return;
         }
-        if !turn_all(house, worker, &mut shift, &mut gear) {
+        if !turn_all(shared, worker, &mut event_loop, &mut buffers) {
             worker.tally.has_failed = true;
             return;
         }
     }
 }
 
-/// A watch of the listener for the next of a crew, of this number. None where the system refuses it.
-fn watch_one(rt: &impl Net, listener: &TcpListener, number: u32, crew: &mut Crew) -> Option<Watch> {
+/// A watch of the listener for the next worker, of this number. None where the system refuses it.
+fn watch_one(
+    rt: &impl Net,
+    listener: &TcpListener,
+    number: u32,
+    parts: &mut TurnParts,
+) -> Option<Watch> {
     let watch = Watch::new(rt, listener, number).ok()?;
     let registry = watch.registry().try_clone().ok()?;
-    if crew.add(registry) {
+    if parts.add(registry) {
         Some(watch)
     } else {
         None
@@ -79,11 +85,11 @@ fn watch_each<W: Width>(
     rt: &impl Net,
     listener: &TcpListener,
     workers: &mut [Worker<'_, W>],
-    crew: &mut Crew,
+    parts: &mut TurnParts,
 ) {
     let mut number = 0u32;
     for worker in workers.iter_mut() {
-        worker.watch = watch_one(rt, listener, number, crew);
+        worker.watch = watch_one(rt, listener, number, parts);
         if worker.watch.is_none() {
             worker.tally.has_failed = true;
         }
@@ -96,11 +102,11 @@ fn watch_all<W: Width>(
     rt: &impl Net,
     listener: &TcpListener,
     workers: &mut Vec<Worker<'_, W>>,
-    crew: &mut Crew,
+    parts: &mut TurnParts,
 )
     ensures workers { vec_len workers.new ≡ vec_len workers.old }
 {
-    watch_each(rt, listener, workers.as_mut_slice(), crew);
+    watch_each(rt, listener, workers.as_mut_slice(), parts);
 }
 
 /// Whether a worker has failed.
@@ -116,17 +122,17 @@ fn has_failed<W: Width>(workers: &[Worker<'_, W>]) -> bool {
 /// Starts a thread for each worker, and waits until all have ended. Answers whether all could be started; behind the first
 /// that can't, none is started. Nor is any where one can't watch the listener, which has failed then.
 fn run_each<'a, T: Table + Send, R: ServeRuntime, G: Gate + Sync, W: Width + Send + Sync>(
-    house: &House<'a, T, R, G, W>,
+    shared: &Shared<'a, T, R, G, W>,
     workers: &mut [Worker<'a, W>],
 ) -> bool {
     if has_failed(workers) {
         return true;
     }
-    thread::scope(thread::scope_env(), house.rt, |scope| {
+    thread::scope(thread::scope_env(), shared.rt, |scope| {
         let mut all = true;
         let each = workers.iter_mut();
         for worker in each {
-            let started = scope.spawn(move || serve_each(house, worker));
+            let started = scope.spawn(move || serve_each(shared, worker));
             if started.is_err() {
                 all = false;
                 break;
@@ -138,12 +144,12 @@ fn run_each<'a, T: Table + Send, R: ServeRuntime, G: Gate + Sync, W: Width + Sen
 
 /// The same. There are as many workers afterwards.
 fn run_all<'a, T: Table + Send, R: ServeRuntime, G: Gate + Sync, W: Width + Send + Sync>(
-    house: &House<'a, T, R, G, W>,
+    shared: &Shared<'a, T, R, G, W>,
     workers: &mut Vec<Worker<'a, W>>,
 ) -> bool
     ensures workers { vec_len workers.new ≡ vec_len workers.old }
 {
-    run_each(house, workers.as_mut_slice())
+    run_each(shared, workers.as_mut_slice())
 }
 
 /// What serving comes to: a fault where a thread couldn't be started, which is told first, or couldn't wait for
@@ -198,12 +204,12 @@ fn serve_wide<W: Width + Send + Sync, T: Table + Send, R: ServeRuntime, G: Gate 
     let Ok(room) = reserve::<W>(alloc, threads as usize, tables.len(), most) else {
         return Err(without_memory(alloc, seats));
     };
-    let Room {
+    let Reserved {
         workers: mut seated,
-        gears,
-        mut crew,
+        all_buffers,
+        mut parts,
         rows,
-        visitors,
+        held,
         free,
         refs,
     } = room;
@@ -211,20 +217,20 @@ fn serve_wide<W: Width + Send + Sync, T: Table + Send, R: ServeRuntime, G: Gate 
         &mut seats,
         &mut seated,
         rows,
-        visitors,
+        held,
         free,
-        gears,
+        all_buffers,
         connections,
     );
-    watch_all(rt, listener, &mut seated, &mut crew);
-    let lookout = Lookout::new(listener, crew);
-    let door = Door::new(stop_after, lookout);
+    watch_all(rt, listener, &mut seated, &mut parts);
+    let listener_turn = ListenerTurn::new(listener, parts);
+    let counter = ConnectionCounter::new(stop_after, listener_turn);
     let mut workers = seated;
-    let house = House {
+    let shared = Shared {
         alloc,
         rt,
         listener,
-        door: &door,
+        counter: &counter,
         setup,
         tables,
         server: socket_address(server),
@@ -234,7 +240,7 @@ fn serve_wide<W: Width + Send + Sync, T: Table + Send, R: ServeRuntime, G: Gate 
         start,
         of: PhantomData,
     };
-    let all_started = run_all(&house, &mut workers);
+    let all_started = run_all(&shared, &mut workers);
     let (served, has_failed) = gather(workers, seats, refs);
     told(served, all_started, has_failed)
 }

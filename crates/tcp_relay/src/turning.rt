@@ -4,23 +4,22 @@ ghost use Rattle.std.specs.Prelude.{◌≡◌, Some, None, slice_get};
 
 use crate::accept_errors::{AcceptFault, fault_of};
 use crate::acceptor::Acceptor;
-use crate::gear::Gear;
-use crate::house::House;
-use crate::lookout::Post;
+use crate::buffers::Buffers;
+use crate::listener_turn::WorkerTurn;
+use crate::shared::Shared;
 use crate::sweep::Sweep;
 use crate::visiting::{closed, end_at, judge_one};
 use crate::watch::{LISTENER, Watch};
 use crate::width::Width;
 use crate::worker::Worker;
 use crate::{Gate, ServeRuntime};
+use base_clock::{Clock, RunningClock};
 use mio::{Events, net};
-use moments::Clock;
-use running_clock::RunningClock;
-use socket_link::{Buffer, Link, Ready, reset};
 use std::net::{SocketAddr, TcpStream};
 use std::time::Duration;
 use std::{io, thread};
 use stick_table::Table;
+use tcp_link::{Buffer, Link, Ready, reset};
 
 /// How many connections are accepted before others get their turn.
 const ACCEPTS: u32 = 16;
@@ -31,9 +30,9 @@ const REST: u64 = 100;
 
 /// A worker at its work: what it waits for, and by which clock.
 #[derive(Drop)]
-pub(crate) struct Shift<'r, R> {
+pub(crate) struct EventLoop<'r, R> {
     pub(crate) watch: Watch,
-    pub(crate) post: Post<'r>,
+    pub(crate) turn: WorkerTurn<'r>,
     pub(crate) acceptor: Acceptor,
     pub(crate) clock: RunningClock<'r, R>,
     pub(crate) sweep: Sweep,
@@ -41,31 +40,31 @@ pub(crate) struct Shift<'r, R> {
 
 /// Takes a client in: it is judged, and carried to the server if it is admitted.
 fn take_in<'a, T: Table, R: ServeRuntime, G: Gate, W: Width>(
-    house: &House<'a, T, R, G, W>,
+    shared: &Shared<'a, T, R, G, W>,
     worker: &mut Worker<'a, W>,
-    shift: &mut Shift<'_, R>,
+    event_loop: &mut EventLoop<'_, R>,
     buffer: &mut Buffer,
     number: u64,
     place: usize,
     client: TcpStream,
     peer: SocketAddr,
 )
-    requires free { slice_get worker.old.places.visitors.items place ≡ Some None }
+    requires free { slice_get worker.old.places.held.items place ≡ Some None }
 {
     let seats = worker.seats.as_mut_slice();
-    let (conn, is_admitted) = judge_one(house, seats, &mut shift.clock, number, peer);
+    let (conn, is_admitted) = judge_one(shared, seats, &mut event_loop.clock, number, peer);
     if !is_admitted {
         // First its references: a client that hears of the reset may come again at once.
-        end_at(house, worker, &mut shift.clock, place, conn, false);
-        reset(house.rt, net::TcpStream::from_std(client));
+        end_at(shared, worker, &mut event_loop.clock, place, conn, false);
+        reset(shared.rt, net::TcpStream::from_std(client));
         return;
     }
-    let moment = shift.clock.now();
-    match begin(house, shift, buffer, place, client, moment) {
+    let moment = event_loop.clock.now();
+    match begin(shared, event_loop, buffer, place, client, moment) {
         Ok(link) => worker.places.put_open(place, conn, link),
         Err((bytes_in, bytes_out)) => {
             let conn = closed::<W>(conn, bytes_in, bytes_out);
-            end_at(house, worker, &mut shift.clock, place, conn, true);
+            end_at(shared, worker, &mut event_loop.clock, place, conn, true);
         }
     }
 }
@@ -73,8 +72,8 @@ fn take_in<'a, T: Table, R: ServeRuntime, G: Gate, W: Width>(
 /// Connects an admitted client to its server, and moves what is there already. Where that is over at once, how many
 /// bytes came in and went out.
 fn begin<T: Table, R: ServeRuntime, G, W: Width>(
-    house: &House<'_, T, R, G, W>,
-    shift: &mut Shift<'_, R>,
+    shared: &Shared<'_, T, R, G, W>,
+    event_loop: &mut EventLoop<'_, R>,
     buffer: &mut Buffer,
     place: usize,
     client: TcpStream,
@@ -85,23 +84,23 @@ fn begin<T: Table, R: ServeRuntime, G, W: Width>(
         return Err((0, 0));
     }
     let client = net::TcpStream::from_std(client);
-    let Some(server) = shift.acceptor.take_server() else {
+    let Some(server) = event_loop.acceptor.take_server() else {
         return Err((0, 0));
     };
-    let Some(mut link) = Link::open(house.rt, house.alloc, client, server, moment) else {
+    let Some(mut link) = Link::open(shared.rt, shared.alloc, client, server, moment) else {
         return Err((0, 0));
     };
-    if link.start(shift.watch.registry(), place, moment, buffer) {
+    if link.start(event_loop.watch.registry(), place, moment, buffer) {
         return Ok(link);
     }
     let bytes = link.bytes();
-    link.close(house.rt);
+    link.close(shared.rt);
     Err(bytes)
 }
 
 /// Ends the connection in a place, if it is open there.
 fn close<'a, T: Table, R: ServeRuntime, G, W: Width>(
-    house: &House<'a, T, R, G, W>,
+    shared: &Shared<'a, T, R, G, W>,
     worker: &mut Worker<'a, W>,
     clock: &mut RunningClock<'_, R>,
     place: usize,
@@ -112,8 +111,8 @@ fn close<'a, T: Table, R: ServeRuntime, G, W: Width>(
     let (bytes_in, bytes_out) = link.bytes();
     let conn = closed::<W>(conn, bytes_in, bytes_out);
     // First its references: a client that hears of the end may come again at once.
-    end_at(house, worker, clock, place, conn, true);
-    link.close(house.rt);
+    end_at(shared, worker, clock, place, conn, true);
+    link.close(shared.rt);
 }
 
 /// What becomes of a client that couldn't be accepted, as this error says.
@@ -129,104 +128,108 @@ fn note_fault<W: Width>(worker: &mut Worker<'_, W>, acceptor: &mut Acceptor, err
 
 /// Accepts a client, if there is one, for the number that is drawn and a place that is free.
 fn accept_one<'a, T: Table, R: ServeRuntime, G: Gate, W: Width>(
-    house: &House<'a, T, R, G, W>,
+    shared: &Shared<'a, T, R, G, W>,
     worker: &mut Worker<'a, W>,
-    shift: &mut Shift<'_, R>,
+    event_loop: &mut EventLoop<'_, R>,
     buffer: &mut Buffer,
     number: u64,
     place: usize,
 )
-    requires free { slice_get worker.old.places.visitors.items place ≡ Some None }
+    requires free { slice_get worker.old.places.held.items place ≡ Some None }
 {
-    let accepted = house.listener.accept();
+    let accepted = shared.listener.accept();
     // From here on another is told, as the gate may block this one.
-    shift.post.end(house.rt);
+    event_loop.turn.end(shared.rt);
     match accepted {
         Ok((client, peer)) => {
-            shift.acceptor.pass();
-            take_in(house, worker, shift, buffer, number, place, client, peer);
+            event_loop.acceptor.pass();
+            take_in(
+                shared, worker, event_loop, buffer, number, place, client, peer,
+            );
         }
         Err(error) => {
             worker.places.free(place);
-            note_fault(worker, &mut shift.acceptor, &error);
+            note_fault(worker, &mut event_loop.acceptor, &error);
         }
     }
 }
 
 /// Tries to accept a client. First a socket for its server is had: one that is accepted can be carried.
 fn try_to_accept<'a, T: Table, R: ServeRuntime, G: Gate, W: Width>(
-    house: &House<'a, T, R, G, W>,
+    shared: &Shared<'a, T, R, G, W>,
     worker: &mut Worker<'a, W>,
-    shift: &mut Shift<'_, R>,
+    event_loop: &mut EventLoop<'_, R>,
     buffer: &mut Buffer,
     number: u64,
 ) {
-    if !shift
+    if !event_loop
         .acceptor
-        .ready_server(house.rt, house.server, house.keepalive)
+        .ready_server(shared.rt, shared.server, shared.keepalive)
     {
         worker.tally.count_unaccepted();
-        shift.acceptor.run_short();
+        event_loop.acceptor.run_short();
         return;
     }
     match worker.places.claim() {
-        Some(place) => accept_one(house, worker, shift, buffer, number, place),
-        None => shift.acceptor.run_short(),
+        Some(place) => accept_one(shared, worker, event_loop, buffer, number, place),
+        None => event_loop.acceptor.run_short(),
     }
 }
 
 /// Accepts the clients that wait, as far as this worker can. Whether none waits now.
 fn accept_some<'a, T: Table, R: ServeRuntime, G: Gate, W: Width>(
-    house: &House<'a, T, R, G, W>,
+    shared: &Shared<'a, T, R, G, W>,
     worker: &mut Worker<'a, W>,
-    shift: &mut Shift<'_, R>,
+    event_loop: &mut EventLoop<'_, R>,
     buffer: &mut Buffer,
 ) -> bool {
     for _client in 0..ACCEPTS {
-        shift.acceptor.draw(house.door, house.rt, worker.keeps);
-        if !shift.acceptor.must_try(worker.places.has_room()) {
+        event_loop
+            .acceptor
+            .draw(shared.counter, shared.rt, worker.keeps);
+        if !event_loop.acceptor.must_try(worker.places.has_room()) {
             break;
         }
-        let Some(number) = shift.acceptor.number() else {
+        let Some(number) = event_loop.acceptor.number() else {
             break;
         };
-        try_to_accept(house, worker, shift, buffer, number);
+        try_to_accept(shared, worker, event_loop, buffer, number);
     }
-    !shift.acceptor.may_have()
+    !event_loop.acceptor.may_have()
 }
 
 /// Gives a connection its turn, of which a socket is ready.
 fn turn<'a, T: Table, R: ServeRuntime, G, W: Width>(
-    house: &House<'a, T, R, G, W>,
+    shared: &Shared<'a, T, R, G, W>,
     worker: &mut Worker<'a, W>,
-    shift: &mut Shift<'_, R>,
+    event_loop: &mut EventLoop<'_, R>,
     buffer: &mut Buffer,
     ready: Ready,
     moment: u64,
 ) {
-    let registry = shift.watch.registry();
+    let registry = event_loop.watch.registry();
     if worker.places.turn(registry, ready, moment, buffer) {
-        close(house, worker, &mut shift.clock, ready.number);
+        close(shared, worker, &mut event_loop.clock, ready.number);
         // It has left its place and its descriptors.
-        shift.acceptor.try_again();
+        event_loop.acceptor.try_again();
     }
 }
 
 /// Closes the connections of which a peer had been silent for too long at a moment in ms. What the system was short of is tried
 /// again too.
 fn close_silent<'a, T: Table, R: ServeRuntime, G, W: Width>(
-    house: &House<'a, T, R, G, W>,
+    shared: &Shared<'a, T, R, G, W>,
     worker: &mut Worker<'a, W>,
-    shift: &mut Shift<'_, R>,
+    event_loop: &mut EventLoop<'_, R>,
     as_of: u64,
 ) {
-    let since = shift.sweep.since();
+    let since = event_loop.sweep.since();
     for place in 0..worker.places.count() {
-        if worker.places.is_late(place, as_of, since, &house.timeouts) {
-            close(house, worker, &mut shift.clock, place);
+        if worker.places.is_late(place, as_of, since, &shared.timeouts) {
+            close(shared, worker, &mut event_loop.clock, place);
         }
     }
-    shift.acceptor.try_again();
+    event_loop.acceptor.try_again();
 }
 
 /// Whether a poll gave as many events as it may, so that there may be more.
@@ -252,21 +255,22 @@ fn tells_of_connections(events: &Events) -> bool {
 
 /// Gives each that is ready its turn, the listener first. Whether that was the listener alone, where no client waits now.
 fn turn_each<'a, T: Table, R: ServeRuntime, G: Gate, W: Width>(
-    house: &House<'a, T, R, G, W>,
+    shared: &Shared<'a, T, R, G, W>,
     worker: &mut Worker<'a, W>,
-    shift: &mut Shift<'_, R>,
+    event_loop: &mut EventLoop<'_, R>,
     events: &Events,
     buffer: &mut Buffer,
     moment: u64,
 ) -> bool {
     if tells_of_connections(events) {
-        shift.acceptor.hear_of_clients();
+        event_loop.acceptor.hear_of_clients();
     }
-    let mut only_accepts = shift.acceptor.may_have() && accept_some(house, worker, shift, buffer);
-    shift.post.end(house.rt);
+    let mut only_accepts = event_loop.acceptor.may_have()
+        && accept_some(shared, worker, event_loop, buffer);
+    event_loop.turn.end(shared.rt);
     for event in events.iter() {
         if event.token() != LISTENER {
-            turn(house, worker, shift, buffer, Ready::of(event), moment);
+            turn(shared, worker, event_loop, buffer, Ready::of(event), moment);
             only_accepts = false;
         }
     }
@@ -275,20 +279,22 @@ fn turn_each<'a, T: Table, R: ServeRuntime, G: Gate, W: Width>(
 
 /// Waits until something is ready, for no longer than it may. False where that failed.
 fn wait<'a, T: Table, R: ServeRuntime, G: Gate, W: Width>(
-    house: &House<'a, T, R, G, W>,
+    shared: &Shared<'a, T, R, G, W>,
     worker: &Worker<'a, W>,
-    shift: &mut Shift<'_, R>,
+    event_loop: &mut EventLoop<'_, R>,
     events: &mut Events,
 ) -> bool {
     let has_room = worker.places.has_room();
     let holds = !worker.places.is_idle();
-    let pause = shift.acceptor.pause(has_room, shift.sweep.is_due(), holds);
-    shift
-        .post
-        .begin(house.rt, shift.acceptor.can_accept(has_room));
-    let is_well = shift.watch.wait(events, pause).is_ok();
+    let pause = event_loop
+        .acceptor
+        .pause(has_room, event_loop.sweep.is_due(), holds);
+    event_loop
+        .turn
+        .begin(shared.rt, event_loop.acceptor.can_accept(has_room));
+    let is_well = event_loop.watch.wait(events, pause).is_ok();
     if !is_well {
-        shift.post.end(house.rt);
+        event_loop.turn.end(shared.rt);
     }
     is_well
 }
@@ -296,25 +302,25 @@ fn wait<'a, T: Table, R: ServeRuntime, G: Gate, W: Width>(
 /// Waits until something is ready, and gives each its turn; then silent peers are looked for, where that is due. Where each client
 /// that came was rejected, and that was all, it rests a moment before the next. False where waiting failed.
 pub(crate) fn turn_all<'a, T: Table, R: ServeRuntime, G: Gate, W: Width>(
-    house: &House<'a, T, R, G, W>,
+    shared: &Shared<'a, T, R, G, W>,
     worker: &mut Worker<'a, W>,
-    shift: &mut Shift<'_, R>,
-    gear: &mut Gear,
+    event_loop: &mut EventLoop<'_, R>,
+    buffers: &mut Buffers,
 ) -> bool {
-    let Gear { events, buffer } = gear;
-    if !wait(house, worker, shift, events) {
+    let Buffers { events, buffer } = buffers;
+    if !wait(shared, worker, event_loop, events) {
         return false;
     }
-    let moment = shift.clock.now();
+    let moment = event_loop.clock.now();
     let polls = polls_for(worker.places.count(), events.capacity());
-    let as_of = shift.sweep.after_poll(moment, is_full(events), polls);
+    let as_of = event_loop.sweep.after_poll(moment, is_full(events), polls);
     let (open, tally) = (worker.places.open(), worker.tally);
-    let only_accepts = turn_each(house, worker, shift, events, buffer, moment);
+    let only_accepts = turn_each(shared, worker, event_loop, events, buffer, moment);
     if let Some(as_of) = as_of {
-        close_silent(house, worker, shift, as_of);
+        close_silent(shared, worker, event_loop, as_of);
     }
     if only_accepts && worker.places.open() == open && worker.tally.has_only_rejected(tally) {
-        thread::sleep(house.rt, Duration::from_micros(REST));
+        thread::sleep(shared.rt, Duration::from_micros(REST));
     }
     true
 }

@@ -12,13 +12,13 @@ use std::{io, thread};
 /// The listener's token. Those of connections are smaller.
 pub(crate) const LISTENER: Token = Token(usize::MAX);
 
-/// What the lookout is told of the listener.
+/// What the worker whose turn it is is told of the listener.
 pub(crate) const CONNECTIONS: Interest = Interest::READABLE;
 
 /// What others are told of it, as a listener is never writable.
 pub(crate) const NOTHING: Interest = Interest::WRITABLE;
 
-/// What the system tells a worker of its connections, and of new ones while it is the lookout.
+/// What the system tells a worker of its connections, and of new ones while it is its turn.
 #[derive(Drop)]
 pub(crate) struct Watch {
     poll: Poll,

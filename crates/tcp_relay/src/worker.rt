@@ -3,15 +3,15 @@
 ghost use Rattle.std.specs.Prelude.{◌≡◌, ◌+◌, ◌*◌, ◌==◌, ◌&&◌, ◌||◌, ℕ, not, if◌then◌else◌, length, map, option_map, vec_capacity, vec_len};
 ghost use Rattle.tcp_relay.specs.Counts.{more, sum};
 ghost use Rattle.tcp_relay.specs.Seating.{HaveEach, HaveFew, HaveRoom, held_in};
-ghost use Rattle.tcp_relay.specs.Visitors.{left_by_all};
+ghost use Rattle.tcp_relay.specs.Connections.{left_by_all};
 
-use crate::gear::Gear;
-use crate::leaving::put_visitors;
+use crate::buffers::Buffers;
+use crate::leaving::put_connections;
 use crate::places::Places;
 use crate::seating::put_row;
 use crate::watch::Watch;
 use crate::width::Width;
-use shard_seats::{Seat, TrackRef};
+use shard_book::{Seat, TrackRef};
 use std::marker::PhantomData;
 
 /// What a worker has counted, each up to 2^64 - 1, and whether it couldn't wait for connections.
@@ -91,7 +91,7 @@ pub(crate) struct Worker<'a, W: Width> {
     pub(crate) seats: Vec<Seat>,
     pub(crate) places: Places<'a, W>,
     /// What its thread waits and carries by, until that takes it.
-    pub(crate) gear: Option<Gear>,
+    pub(crate) buffers: Option<Buffers>,
     /// What its thread waits for, from when it watches until that takes it.
     pub(crate) watch: Option<Watch>,
     of: PhantomData<W>,
@@ -100,7 +100,7 @@ pub(crate) struct Worker<'a, W: Width> {
 
 impl<'a, W: Width> Worker<'a, W> {
     /// A worker that has done nothing, with a seat of each table and places for its connections.
-    pub(crate) fn new(seats: Vec<Seat>, places: Places<'a, W>, gear: Gear) -> Worker<'a, W>
+    pub(crate) fn new(seats: Vec<Seat>, places: Places<'a, W>, buffers: Buffers) -> Worker<'a, W>
         requires seats { vec_len seats ≡ length W.tables }
     {
         Worker {
@@ -108,7 +108,7 @@ impl<'a, W: Width> Worker<'a, W> {
             keeps: false,
             seats,
             places,
-            gear: Some(gear),
+            buffers: Some(buffers),
             watch: None,
             of: PhantomData,
         }
@@ -120,7 +120,7 @@ impl<'a, W: Width> Worker<'a, W> {
         requires tables { (length seats.old.items ≡ length W.tables) × (length refs.old.items ≡ length W.tables) }
         requires seats { HaveRoom 1 seats.old.items }
         requires refs { HaveRoom (W.most * 3) refs.old.items }
-        ensures kept { held_in refs.new.items ≡ left_by_all (map (option_map (λ visitor. visitor.conn)) self.entry.places.visitors.items) (held_in refs.old.items) }
+        ensures kept { held_in refs.new.items ≡ left_by_all (map (option_map (λ connection. connection.conn)) self.entry.places.held.items) (held_in refs.old.items) }
         ensures tally { result ≡ self.entry.tally }
         ensures tables { (length seats.new.items ≡ length W.tables) × (length refs.new.items ≡ length W.tables) }
         ensures seats { (count places : ℕ) → HaveEach count places seats.old.items → HaveEach (count + 1) places seats.new.items }
@@ -131,12 +131,12 @@ impl<'a, W: Width> Worker<'a, W> {
             keeps: _,
             seats: row,
             places,
-            gear: _gear,
+            buffers: _buffers,
             watch: _watch,
             of: _,
         } = self;
         put_row(seats, row);
-        put_visitors(refs, places.into_visitors());
+        put_connections(refs, places.into_connections());
         tally
     }
 }

@@ -2,11 +2,12 @@
 import os
 import shutil
 import subprocess
+import sys
 import tempfile
 
 TOP = os.path.dirname(os.path.dirname(os.path.dirname(os.path.dirname(os.path.abspath(__file__)))))
-# The seconds after which whatever is waited for has failed.
-PATIENCE = 60
+# The seconds after which whatever is waited for has failed: many, as lintian took half a minute on a busy machine.
+PATIENCE = 120
 
 
 class NotHere(Exception):
@@ -62,9 +63,14 @@ def copy_of_sources():
     return top
 
 
-def make_package(output, top=TOP, **more):
-    """A package of the program, by the sources at a folder."""
-    said, _ = run(os.path.join(top, 'packaging', 'deb'), '--program', Made.program, '--output', output, **more)
+def packaging(command, *words, top=TOP, **more):
+    """What a command of packaging/ says, of the sources at a folder and by the Python that runs this."""
+    return run(sys.executable, os.path.join(top, 'packaging', command), *words, **more)
+
+
+def make_package(output, **more):
+    """A package of the program."""
+    said, _ = packaging('deb', '--program', Made.program, '--output', output, **more)
     path = said.strip()
     assert os.path.dirname(path) == output and os.path.isfile(path), said
     return path

@@ -2,7 +2,7 @@
 import os
 import re
 
-from lib.package.base import TOP, Made, content, copy_of_sources, folder, put, run, same, wants
+from lib.package.base import TOP, Made, content, copy_of_sources, folder, packaging, put, run, same, wants
 
 
 UNBUILT = r'there is no program at \S+/crates/stickd/out/stickd: \(cd crates/stickd && rt run -- --version\) builds one, .*'
@@ -36,8 +36,7 @@ def errors_are_told():
     for command, rows in ERRORS.items():
         more = {'install': ['--destdir', output], 'deb': ['--output', output]}.get(command, [])
         for words, status, wanted in rows:
-            said, told = run(os.path.join(top, 'packaging', command), *more, *[word.format(top=top) for word in words],
-                             status=status)
+            said, told = packaging(command, *more, *[word.format(top=top) for word in words], top=top, status=status)
             assert wanted is None or re.fullmatch(f'packaging/{command}: {wanted}\n', told), (command, words, told)
             same('written', (said, os.listdir(output)), ('', []))
 
@@ -48,8 +47,7 @@ def a_package_that_can_not_be_made_is_told():
     top, output = copy_of_sources(), folder()
 
     def told(*words, **variables):
-        return run(os.path.join(top, 'packaging', 'deb'), '--program', Made.program, *words, status=1,
-                   env={**os.environ, **variables})[1]
+        return packaging('deb', '--program', Made.program, *words, top=top, status=1, env={**os.environ, **variables})[1]
 
     same('time', told('--output', output, SOURCE_DATE_EPOCH='now'),
          "packaging/deb: SOURCE_DATE_EPOCH is 'now', and has to be a number of seconds\n")

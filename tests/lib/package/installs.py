@@ -6,7 +6,7 @@ import shutil
 import stat
 import time
 
-from lib.package.base import TOP, Made, NotHere, content, copy_of_sources, folder, make_package, put, run, same, wants
+from lib.package.base import TOP, Made, NotHere, content, copy_of_sources, folder, make_package, packaging, put, run, same, wants
 from lib.package.running import CONFIGURATION, answers, serves_one, unit_of
 
 EXAMPLES = [name for name in sorted(os.listdir(os.path.join(TOP, 'examples'))) if name.endswith(('.cfg', '.script'))]
@@ -89,9 +89,9 @@ def two_packages_are_the_same():
         time.sleep(0.05)
     strange = {**os.environ, 'TZ': 'Asia/Tokyo', 'LC_ALL': 'C.UTF-8'}
     strange.pop('SOURCE_DATE_EPOCH', None)
-    again = make_package(folder(), top, umask=0o077, env=strange)
+    again = make_package(folder(), top=top, umask=0o077, env=strange)
     assert content(again) == content(Made.package), 'two packages of the same sources differ'
-    then = make_package(folder(), top, env={**strange, 'SOURCE_DATE_EPOCH': '1000000000'})
+    then = make_package(folder(), top=top, env={**strange, 'SOURCE_DATE_EPOCH': '1000000000'})
     listed = run('dpkg-deb', '-c', then, env={**os.environ, 'TZ': 'UTC'})[0].splitlines()
     same('times', {' '.join(line.split()[3:5]) for line in listed}, {'2001-09-09 01:46'})
 
@@ -184,7 +184,7 @@ def a_package_is_unpacked():
 
 
 def install(root, *words, **more):
-    return run(os.path.join(TOP, 'packaging', 'install'), '--destdir', root, *words, **more)[0]
+    return packaging('install', '--destdir', root, *words, **more)[0]
 
 
 def it_is_installed_without_dpkg_and_goes():

@@ -1,5 +1,7 @@
 """What was installed at work: it answers, and serves a connection as the unit has it started."""
+import contextlib
 import os
+import random
 import re
 import signal
 import socket
@@ -46,14 +48,11 @@ def free_port():
     """A port that nobody has just now, and that clients aren't given."""
     with open('/proc/sys/net/ipv4/ip_local_port_range', encoding='ascii') as ports:
         above = int(ports.read().split()[0])
-    for port in range(10_000 + os.getpid() % 10_000 + threading.get_ident() % 1000, above):
-        with socket.socket() as taken:
-            try:
-                taken.bind(('127.0.0.1', port))
-                return port
-            except OSError:
-                continue
-    raise AssertionError('no port is free')
+    while True:
+        port = random.SystemRandom().randrange(10_000, above)
+        with contextlib.suppress(OSError), socket.socket() as taken:
+            taken.bind(('127.0.0.1', port))
+            return port
 
 
 def edited(root, front, back):

@@ -5,7 +5,7 @@ import subprocess
 import threading
 import time
 
-from lib.package.base import PATIENCE, TOP, Made, content, folder, put, run, same, wants
+from lib.package.base import PATIENCE, TOP, Made, content, folder, packaging, put, run, same, wants
 
 OF_BASH, OF_FISH, OF_ZSH = (os.path.join(TOP, 'packaging', 'completions', name)
                             for name in ('stickd.bash', 'stickd.fish', '_stickd'))
@@ -32,7 +32,9 @@ AT_LEAST = {
 SPLIT = {
     'stickd run --socket = one-f': ['one-file.cfg'],
     'stickd run --socket =': ['one-file.cfg'],
-    'stickd run --threads = 4': []}
+    'stickd run --socket-group = roo': ['root'],
+    'stickd run --threads = one-f': [],
+    'stickd run --threads =': []}
 # Lines as they are typed, and as a tab leaves them.
 TYPED = {
     'stickd chec': 'stickd check ',
@@ -48,13 +50,13 @@ TYPED = {
     'stickd no-such ': 'stickd no-such '}
 CALL = 'source "$0"; COMP_WORDS=("$@"); COMP_CWORD=$(($# - 1)); _stickd; ((!${#COMPREPLY[@]})) || printf "%s\\n" "${COMPREPLY[@]}"'
 # The key ^T completes, and writes to a file what then stands on the line, which is left empty.
-ZSH_TELLS = ("autoload -U compinit; compinit -u -D; source %s; tell() { zle complete-word; print -r -- \"$BUFFER|\" >> told; BUFFER= }; "
-             "zle -N tell; bindkey '^T' tell; setopt no_beep no_auto_menu; print -n > told\n")
+ZSH_TELLS = ("autoload -U compinit; compinit -u -D; source %s; tell() { zle complete-word; print -r -- \"$BUFFER|\" >> $TOLD; BUFFER= }; "
+             "zle -N tell; bindkey '^T' tell; setopt no_beep no_auto_menu; print -n > $TOLD\n")
 
 
 def completions_are_those_of_the_help():
     """The files in the repository are those that the program's help makes."""
-    said = run(os.path.join(TOP, 'packaging', 'completions.py'), '--check', '--program', Made.program)[0]
+    said = packaging('completions.py', '--check', '--program', Made.program)[0]
     same('completions', said, 'the completions are those of the help: 3 files\n')
 
 
@@ -99,9 +101,9 @@ def fish_completes():
     compare(offers, {**COMPLETED, 'stickd run --socket=one-f': ['--socket=one-file.cfg']})
 
 
-def told(room, until, shell):
+def told(path, until, shell):
     """The lines that zsh has told, once there are as many as that, and it has begun."""
-    path, ends = os.path.join(room, 'told'), time.monotonic() + PATIENCE
+    ends = time.monotonic() + PATIENCE
     while not os.path.exists(path) or len(content(path).splitlines()) < until:
         assert shell.poll() is None, 'zsh has ended'
         assert time.monotonic() < ends, f'zsh has not told line {until}'
@@ -121,19 +123,19 @@ def drain(terminal):
 def zsh_completes():
     """In a terminal, by what stands on the line behind a tab."""
     wants('zsh')
-    room, (ours, its) = room_of_a_shell(), pty.openpty()
+    room, path, (ours, its) = room_of_a_shell(), os.path.join(folder(), 'told'), pty.openpty()
     shell = subprocess.Popen(['zsh', '-f', '-i'], stdin=its, stdout=its, stderr=its, cwd=room, start_new_session=True,
-                             env={**os.environ, 'HOME': room, 'TERM': 'dumb'})
+                             env={**os.environ, 'HOME': room, 'TERM': 'dumb', 'TOLD': path})
     os.close(its)
     reader = threading.Thread(target=drain, args=(ours,))
     reader.start()
     try:
         os.write(ours, (ZSH_TELLS % OF_ZSH).encode())
-        told(room, 0, shell)
+        told(path, 0, shell)
         for number, line in enumerate(TYPED, 1):
             os.write(ours, f'{line}\x14'.encode())
-            told(room, number, shell)
-        same('completed', told(room, len(TYPED), shell), list(TYPED.values()))
+            told(path, number, shell)
+        same('completed', told(path, len(TYPED), shell), list(TYPED.values()))
     finally:
         shell.kill()
         shell.wait()

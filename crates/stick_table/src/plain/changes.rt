@@ -1,10 +1,10 @@
 //! What changes a plain table: the clock, data that are set or counted, references that are given back, entries that
 //! are removed.
 ghost use Rattle.std.specs.Prelude.{◌≡◌, ◌≢◌, ◌+◌, ◌<◌, ◌^◌, IfOk, IsOk, OnErr, None, true, false, length};
-ghost use Rattle.table_model.specs.State.{key_of};
-ghost use Rattle.table_model.specs.Limits.{IsTableEvent};
-ghost use Rattle.table_model.specs.Refusals.{has_life, takes_memory};
-ghost use Rattle.table_model.specs.Step.{asks_rows, is_out, after, begun, clear as reply_to_clear, clear_where as reply_to_clear_where, put as reply_to_put, put_allowed as reply_to_put_allowed, expire as reply_to_expire, count as reply_to_count, release as reply_to_release};
+ghost use Rattle.stick_model.specs.State.{key_of};
+ghost use Rattle.stick_model.specs.Limits.{IsTableEvent};
+ghost use Rattle.stick_model.specs.Refusals.{has_life, takes_memory};
+ghost use Rattle.stick_model.specs.Step.{asks_rows, is_out, after, begun, clear as reply_to_clear, clear_where as reply_to_clear_where, put as reply_to_put, put_allowed as reply_to_put_allowed, expire as reply_to_expire, count as reply_to_count, release as reply_to_release};
 
 use crate::plain::filters::{clear_matching, not_stored};
 use crate::plain::pairs::{put_fault, put_pairs};
@@ -12,10 +12,10 @@ use crate::plain::records::{act_at, drop_dead, find, live_values, remove_record,
 use crate::plain::room::store;
 use crate::plain::tickets::{find_key, is_tracked, remove_ticket};
 use crate::plain::{PlainTable, date_after};
-use sequence::NoMemory;
+use base_sequence::NoMemory;
 use stick_key::StickKey;
+use stick_model::{Cell, Event, Filter, Record, Reply, Ticket};
 use stored_data::Act;
-use table_model::{Cell, Event, Filter, Record, Reply, Ticket};
 
 impl PlainTable {
     /// The moment of an event has come.

@@ -1,13 +1,13 @@
 //! Which records a filter means.
 ghost use Rattle.std.specs.Prelude.{◌≡◌, ◌<◌, ◌^◌, filter, not, count_by, true, false};
-ghost use Rattle.table_model.specs.declared.replies.Reply.TheVariants.{Cleared};
-ghost use Rattle.table_model.specs.Filters.{passes as passes_filter, not_stored as not_stored_in, compares as compares_by, is_matched};
+ghost use Rattle.stick_model.specs.declared.replies.Reply.TheVariants.{Cleared};
+ghost use Rattle.stick_model.specs.Filters.{passes as passes_filter, not_stored as not_stored_in, compares as compares_by, is_matched};
 
 use crate::plain::records::is_same;
 use crate::plain::tickets::{count_refs, is_tracked};
 use stick_key::StickKey;
+use stick_model::{Filter, Op, Record, Reply, Ticket};
 use stored_data::{Field, StoredSet};
-use table_model::{Filter, Op, Record, Reply, Ticket};
 
 /// Whether a filter means an entry, by the values that its row shows at this moment in ms.
 pub(crate) fn passes(

@@ -1,6 +1,6 @@
 //! What a plain table shows: of a key, of a ticket, and a listing.
 ghost use Rattle.std.specs.Prelude.{◌≡◌, ◌<◌, ◌+◌, ◌^◌, IfOk, OnOk, OnErr, length};
-ghost use Rattle.table_model.specs.Step.{begun, get as reply_to_get, look as reply_to_look, list as reply_to_list};
+ghost use Rattle.stick_model.specs.Step.{begun, get as reply_to_get, look as reply_to_look, list as reply_to_list};
 ghost use Rattle.stick_table.specs.Replies.{shown_reply, looked_reply, listed_reply};
 
 use crate::plain::PlainTable;
@@ -8,9 +8,9 @@ use crate::plain::filters::not_stored;
 use crate::plain::records::{count_live, find_live};
 use crate::plain::rows::{list_rows, make_row};
 use crate::plain::tickets::{count_refs, find_key};
-use sequence::NoMemory;
+use base_sequence::NoMemory;
 use stick_key::StickKey;
-use table_model::{Filter, Reply, Ticket};
+use stick_model::{Filter, Reply, Ticket};
 
 impl PlainTable {
     /// What a look at a key is answered, once the clock has come to this moment.

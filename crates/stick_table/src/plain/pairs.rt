@@ -1,9 +1,9 @@
 //! Data that are put.
 ghost use Rattle.std.specs.Prelude.{◌≡◌};
-ghost use Rattle.table_model.specs.Step.{put_fault as put_fault_of, put_pairs as put_pairs_of};
+ghost use Rattle.stick_model.specs.Step.{put_fault as put_fault_of, put_pairs as put_pairs_of};
 
+use stick_model::{Cell, Reply};
 use stored_data::{StoredSet, Values, settable};
-use table_model::{Cell, Reply};
 
 /// What the first pair that can't be put is answered.
 pub(crate) fn put_fault(columns: &StoredSet, pairs: &[Cell]) -> Option<Reply>

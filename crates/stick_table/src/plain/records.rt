@@ -5,17 +5,17 @@ ghost use Rattle.std.specs.BTreeMap.{insert_entry};
 ghost use Rattle.std.specs.Map.{set_value};
 ghost use Rattle.std.specs.declared.cmp.Ordering.TheVariants.{Greater};
 ghost use Rattle.stored_data.specs.Acts.{acted, answer as answer_of};
-ghost use Rattle.table_model.specs.Key.{key_cmp, same_key};
-ghost use Rattle.table_model.specs.declared.rows.Record.{Record};
-ghost use Rattle.table_model.specs.State.{record_at, outlives as record_outlives, stays, zero_record};
+ghost use Rattle.stick_model.specs.Key.{key_cmp, same_key};
+ghost use Rattle.stick_model.specs.declared.rows.Record.{Record};
+ghost use Rattle.stick_model.specs.State.{record_at, outlives as record_outlives, stays, zero_record};
 
 use crate::plain::tickets::is_tracked;
-use sequence::NoMemory;
+use base_sequence::NoMemory;
 use std::alloc::Global;
 use std::cmp::Ordering;
 use stick_key::StickKey;
+use stick_model::{Record, Ticket};
 use stored_data::{Act, StoredSet, Values};
-use table_model::{Record, Ticket};
 
 /// Whether two keys have the same bytes.
 pub(crate) fn is_same(a: &StickKey, b: &StickKey) -> bool

@@ -1,7 +1,7 @@
 //! References that are made.
 ghost use Rattle.std.specs.Prelude.{◌≡◌, ◌+◌, ◌≤◌, ◌<◌, ◌^◌, IfOk, OnErr, max, length};
-ghost use Rattle.table_model.specs.State.{refs, row_of};
-ghost use Rattle.table_model.specs.Step.{begun, connected as connected_record, track as reply_to_track};
+ghost use Rattle.stick_model.specs.State.{refs, row_of};
+ghost use Rattle.stick_model.specs.Step.{begun, connected as connected_record, track as reply_to_track};
 ghost use Rattle.stick_table.specs.References.{entered};
 
 use crate::plain::records::{drop_dead, live_values};
@@ -9,10 +9,10 @@ use crate::plain::room::store;
 use crate::plain::rows::make_row;
 use crate::plain::tickets::{count_refs, push_ticket};
 use crate::plain::{PlainTable, date_after};
-use sequence::NoMemory;
+use base_sequence::NoMemory;
 use stick_key::StickKey;
+use stick_model::{Record, Reply, Row, Ticket};
 use stored_data::Act;
-use table_model::{Record, Reply, Row, Ticket};
 
 impl PlainTable {
     /// Tracks a key: where references are left and there is room, one is made, with this slot. The reply is given twice.

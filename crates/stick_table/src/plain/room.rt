@@ -1,13 +1,13 @@
 //! Room for one more record.
 ghost use Rattle.std.specs.Prelude.{◌≡◌, ◌≤◌, ◌<◌, MatchBool, vec_len, vec_capacity, Some, None, max, unwrap_or, if◌then◌else◌};
 ghost use Rattle.std.specs.Bool.{OnFalse};
-ghost use Rattle.table_model.specs.Room.{count_older as count_older_of, is_purged as is_purged_entry, purged, all_tracked as are_all_tracked, room_in, stored_in};
+ghost use Rattle.stick_model.specs.Room.{count_older as count_older_of, is_purged as is_purged_entry, purged, all_tracked as are_all_tracked, room_in, stored_in};
 ghost use Rattle.stick_table.specs.Purging.{purge_limit as purge_limit_of};
 
 use crate::plain::records::{find, put_record};
 use crate::plain::tickets::is_tracked;
 use stick_key::StickKey;
-use table_model::{Record, Spec, Ticket};
+use stick_model::{Record, Spec, Ticket};
 
 /// How many untracked records have a smaller stamp.
 fn count_older(records: &[(StickKey, Record)], tickets: &[(Ticket, StickKey)], stamp: u64) -> usize

@@ -1,16 +1,16 @@
 //! What is shown of records.
 ghost use Rattle.std.specs.Prelude.{◌≡◌, ◌≤◌, ◌<◌, ◌^◌, length, IfOk};
-ghost use Rattle.table_model.specs.State.{row_of};
+ghost use Rattle.stick_model.specs.State.{row_of};
 ghost use Rattle.stick_table.specs.Replies.{listed_rows};
 
 use crate::plain::filters::passes;
 use crate::plain::records::is_live;
 use crate::plain::tickets::count_refs;
-use sequence::{NoMemory, Sequence};
+use base_sequence::{NoMemory, Sequence};
 use std::alloc::Global;
 use stick_key::StickKey;
+use stick_model::{Cell, Filter, Record, Row, Rows, Ticket};
 use stored_data::StoredSet;
-use table_model::{Cell, Filter, Record, Row, Rows, Ticket};
 
 /// What a row shows of a record.
 pub(crate) fn make_row(

@@ -1,13 +1,13 @@
 //! References: tickets with their keys, the oldest first.
 ghost use Rattle.std.specs.Prelude.{◌≡◌, ◌≢◌, ◌+◌, ◌≤◌, ◌<◌, ◌++◌, ◌∷◌, [], length, filter, not, MatchOption, IfOk, vec_len, vec_capacity, None, true};
 ghost use Rattle.std.specs.Option.{option_copied};
-ghost use Rattle.table_model.specs.State.{same_ticket, key_of, refs as refs_of, is_tracked as is_key_tracked, is_free as is_slot_free};
+ghost use Rattle.stick_model.specs.State.{same_ticket, key_of, refs as refs_of, is_tracked as is_key_tracked, is_free as is_slot_free};
 
 use crate::plain::records::is_same;
-use sequence::NoMemory;
+use base_sequence::NoMemory;
 use std::alloc::Global;
 use stick_key::StickKey;
-use table_model::Ticket;
+use stick_model::Ticket;
 
 /// How many tickets of the key are out.
 pub(crate) fn count_refs(tickets: &[(Ticket, StickKey)], key: &StickKey) -> usize

@@ -1,5 +1,5 @@
 use Rattle.std.proofs.Common.{◌≡◌, take}
-use Rattle.adopt_words.specs.Lines.{own_raws}
+use Rattle.adopt.specs.Lines.{own_raws}
 use Rattle.adopt.specs.Written.{raws_of}
 use Rattle.adopt.proofs.adoption.adopted_lines.Given as goal
 

@@ -2,8 +2,8 @@ use Rattle.std.proofs.Common.{◌∙◌, sym, ap, subst, arith}
 use Rattle.expiry_order.specs.Queue.{slot_after}
 use Rattle.expiry_order.specs.Links.{link, slots_from, IsLinked, slot_or_none}
 use Rattle.expiry_order.specs.declared.Link.{Link}
-use Rattle.slot_handle.specs.declared.TheConstants.{NONE}
-use Rattle.slot_handle.proofs.DistinctSlots.{cut_at, distinct-cut}
+use Rattle.entry_pool.specs.declared.slot_handle.TheConstants.{NONE}
+use Rattle.entry_pool.proofs.DistinctSlots.{cut_at, distinct-cut}
 use Rattle.expiry_order.proofs.SlotLemmas.{slot_after-cut}
 use Rattle.expiry_order.proofs.LinkLemmas.{order_is, within, first_slot, link_read}
 use Rattle.expiry_order.proofs.Order.after.Goals as goal

@@ -1,7 +1,7 @@
 use Rattle.std.proofs.Common.{subst}
 use Rattle.expiry_order.specs.Links.{slots_from, IsLinked}
-use Rattle.slot_handle.specs.declared.TheConstants.{NONE}
-use Rattle.slot_handle.proofs.DistinctSlots.{cut_at}
+use Rattle.entry_pool.specs.declared.slot_handle.TheConstants.{NONE}
+use Rattle.entry_pool.proofs.DistinctSlots.{cut_at}
 use Rattle.expiry_order.proofs.LinkLemmas.{within}
 use Rattle.expiry_order.proofs.Order.front.Goals as goal
 

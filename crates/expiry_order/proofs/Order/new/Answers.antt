@@ -1,8 +1,8 @@
 use Rattle.std.proofs.Common.{refl, length, sym, arith, subst, eqb}
 use Rattle.std.specs.List.{IsDistinct}
 use Rattle.expiry_order.specs.Links.{IsLinked}
-use Rattle.slot_handle.specs.declared.TheConstants.{NONE}
-use Rattle.slot_handle.proofs.DistinctSlots.{distinct-none}
+use Rattle.entry_pool.specs.declared.slot_handle.TheConstants.{NONE}
+use Rattle.entry_pool.proofs.DistinctSlots.{distinct-none}
 use Rattle.expiry_order.proofs.LinkLemmas.{walk-none}
 use Rattle.expiry_order.proofs.Order.new.Goals as goal
 

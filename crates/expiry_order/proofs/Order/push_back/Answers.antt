@@ -2,8 +2,8 @@ use Rattle.std.proofs.Common.{◌<◌, ◌∙◌, length, set, arith, length-set
 use Rattle.std.specs.List.{Contains}
 use Rattle.expiry_order.specs.Queue.{queue}
 use Rattle.expiry_order.specs.Links.{slots_from}
-use Rattle.slot_handle.specs.declared.TheConstants.{NONE}
-use Rattle.slot_handle.proofs.DistinctSlots.{off_from_absent}
+use Rattle.entry_pool.specs.declared.slot_handle.TheConstants.{NONE}
+use Rattle.entry_pool.proofs.DistinctSlots.{off_from_absent}
 use Rattle.expiry_order.proofs.LinkLemmas.{order_is, order-joined, invariant_from, last_inside, length-with_next}
 use Rattle.expiry_order.proofs.Order.push_back.Goals as goal
 

@@ -1,8 +1,8 @@
 use Rattle.std.proofs.Common.{◌≢◌, ◌<◌, ◌∙◌, length, sym, ap, subst, arith}
 use Rattle.expiry_order.specs.Queue.{queue, without}
 use Rattle.expiry_order.specs.Links.{link, slots_from, IsLinked, with_next}
-use Rattle.slot_handle.specs.declared.TheConstants.{NONE}
-use Rattle.slot_handle.proofs.DistinctSlots.{cut_at, distinct-cut}
+use Rattle.entry_pool.specs.declared.slot_handle.TheConstants.{NONE}
+use Rattle.entry_pool.proofs.DistinctSlots.{cut_at, distinct-cut}
 use Rattle.expiry_order.proofs.SlotLemmas.{without-cut}
 use Rattle.expiry_order.proofs.LinkLemmas.{IsOrder, order_is, order-left_out, invariant_from, within, first_inside, link_read, length-with_next, length-with_previous}
 use Rattle.expiry_order.proofs.Order.remove.Goals as goal

@@ -1,7 +1,7 @@
 use Rattle.std.proofs.Common.{◌≡◌, ◌<◌, ◌/◌, ◌^◌, length, get_or, true≢false, sym, ap, subst, ◌∙◌, arith}
 use Rattle.std.specs.Int.{bit_at}
 use Rattle.key_index.specs.Chains.{hash_of, bucket_of, mark_of, tag_of, LeadsTo}
-use Rattle.slot_handle.specs.declared.TheConstants.{NONE}
+use Rattle.entry_pool.specs.declared.slot_handle.TheConstants.{NONE}
 use Rattle.key_index.proofs.ChainLemmas.{bucket_is}
 use Rattle.key_index.proofs.MarkLemmas.{leads_all, absent_unmarked, IsMarkedKey}
 use Rattle.key_index.proofs.TagLemmas.{tag_held}

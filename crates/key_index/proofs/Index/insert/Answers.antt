@@ -4,7 +4,7 @@ use Rattle.std.proofs.lemmas.List.{map-set, length-map, get_or-set_same, get_or-
 use Rattle.std.specs.Int.{bit_at}
 use Rattle.key_index.specs.Keys.{keys}
 use Rattle.key_index.specs.Chains.{entry_in, hash_of, mark_of, tag_of}
-use Rattle.slot_handle.specs.declared.TheConstants.{NONE}
+use Rattle.entry_pool.specs.declared.slot_handle.TheConstants.{NONE}
 use Rattle.key_index.specs.declared.Node.{Node}
 use Rattle.key_index.specs.declared.Link.{Link}
 use Rattle.key_index.proofs.ChainLemmas.{bucket_is}

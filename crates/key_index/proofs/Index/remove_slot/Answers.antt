@@ -2,7 +2,7 @@ use Rattle.std.proofs.Common.{◌≡◌, ◌<◌, ◌⊎◌, length, set, None, 
 use Rattle.std.proofs.lemmas.List.{map-set}
 use Rattle.key_index.specs.Keys.{keys, HasDistinctKeys, IsAbsent}
 use Rattle.key_index.specs.Chains.{entry_in, hash_of, bucket_of, HasNode, IsBefore, IsMarked, IsTagged, IsSound, link_at, no_link, links_with_next, heads_with_next, marks_behind}
-use Rattle.slot_handle.specs.declared.TheConstants.{NONE}
+use Rattle.entry_pool.specs.declared.slot_handle.TheConstants.{NONE}
 use Rattle.key_index.specs.declared.Link.{Link}
 use Rattle.key_index.proofs.ChainLemmas.{bucket_is}
 use Rattle.key_index.proofs.SearchLemmas.{before_inside}

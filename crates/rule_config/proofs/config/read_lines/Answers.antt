@@ -1,4 +1,4 @@
-use Rattle.config_words.specs.Lines.{lines_of}
+use Rattle.rule_words.specs.Lines.{lines_of}
 use Rattle.rule_config.proofs.ReadLemmas.{reads_next, reads_none, reads_refused}
 use Rattle.rule_config.proofs.config.read_lines.Goals as goal
 

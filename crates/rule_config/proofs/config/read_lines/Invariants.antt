@@ -1,5 +1,5 @@
 use Rattle.std.proofs.Common.{length}
-use Rattle.config_words.specs.Lines.{lines_of}
+use Rattle.rule_words.specs.Lines.{lines_of}
 use Rattle.rule_config.proofs.ReadLemmas.{Reads}
 use Rattle.rule_config.proofs.config.read_lines.Given as goal
 

@@ -1,5 +1,5 @@
 use Rattle.std.proofs.Common.{subst, sym}
-use Rattle.table_model.specs.Limits.{IsTableSpec}
+use Rattle.stick_model.specs.Limits.{IsTableSpec}
 use Rattle.shard_book.proofs.BooksLemmas.{part_limits}
 use Rattle.shard_locks.proofs.opening.open_locks.Goals as goal
 

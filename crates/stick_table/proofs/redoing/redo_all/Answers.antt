@@ -1,12 +1,12 @@
 use Rattle.std.proofs.Common.{◌≡◌, ℕ, ◌<◌, ◌∷◌, [], ◌++◌, ◌+◌, sym, ◌∙◌, ap, subst, take, drop, get_or, length, List, inr, rules, arith}
 use Rattle.std.proofs.lemmas.List.{take_more, at_drop_more}
-use Rattle.table_model.specs.State.{State}
-use Rattle.table_model.specs.Run.{LastingRun, CanRedoAll, RedoStops, RefusesFirst, events_of, redone, redone_all}
-use Rattle.table_model.specs.Refusals.{IsRefused}
-use Rattle.table_model.specs.declared.replies.Refusal.{Refusal}
-use Rattle.table_model.specs.declared.events.Stored.{Stored}
-use Rattle.table_model.specs.declared.replies.Reply.{Reply}
-use Rattle.table_model.proofs.RunLemmas.{redone_all-more, can_redo-rest, lasting-rest}
+use Rattle.stick_model.specs.State.{State}
+use Rattle.stick_model.specs.Run.{LastingRun, CanRedoAll, RedoStops, RefusesFirst, events_of, redone, redone_all}
+use Rattle.stick_model.specs.Refusals.{IsRefused}
+use Rattle.stick_model.specs.declared.replies.Refusal.{Refusal}
+use Rattle.stick_model.specs.declared.events.Stored.{Stored}
+use Rattle.stick_model.specs.declared.replies.Reply.{Reply}
+use Rattle.stick_model.proofs.RunLemmas.{redone_all-more, can_redo-rest, lasting-rest}
 use Rattle.stick_table.proofs.redoing.redo_all.Goals as goal
 
 -- one call more of those that were made again

@@ -1,7 +1,7 @@
 use Rattle.std.proofs.Common.{◌≡◌, ◌≤◌, List, take, drop, length, vec_len, vec_capacity}
-use Rattle.table_model.specs.State.{State}
-use Rattle.table_model.specs.Run.{LastingRun, CanRedoAll, redone_all}
-use Rattle.table_model.specs.declared.replies.Reply.{Reply}
+use Rattle.stick_model.specs.State.{State}
+use Rattle.stick_model.specs.Run.{LastingRun, CanRedoAll, redone_all}
+use Rattle.stick_model.specs.declared.replies.Reply.{Reply}
 use Rattle.stick_table.proofs.redoing.redo_all.Given as goal
 
 abbrev pub invariant-loop-call : goal.invariant-loop-call

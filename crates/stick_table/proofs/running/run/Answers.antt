@@ -1,13 +1,13 @@
 use Rattle.std.proofs.Common.{◌≡◌, ℕ, ◌<◌, ◌∷◌, [], ◌++◌, ◌+◌, sym, ◌∙◌, ap, subst, take, drop, get_or, length, List, inr, rules, arith}
 use Rattle.std.proofs.lemmas.List.{take_more, at_drop_more}
-use Rattle.table_model.specs.State.{State}
-use Rattle.table_model.specs.Run.{Run, RunStops, RefusesFirst}
-use Rattle.table_model.specs.Step.{Step}
-use Rattle.table_model.specs.Refusals.{IsRefused}
-use Rattle.table_model.specs.declared.events.Event.{Event}
-use Rattle.table_model.specs.declared.replies.Reply.{Reply}
-use Rattle.table_model.specs.declared.replies.Refusal.{Refusal}
-use Rattle.table_model.proofs.RunLemmas.{run_more}
+use Rattle.stick_model.specs.State.{State}
+use Rattle.stick_model.specs.Run.{Run, RunStops, RefusesFirst}
+use Rattle.stick_model.specs.Step.{Step}
+use Rattle.stick_model.specs.Refusals.{IsRefused}
+use Rattle.stick_model.specs.declared.events.Event.{Event}
+use Rattle.stick_model.specs.declared.replies.Reply.{Reply}
+use Rattle.stick_model.specs.declared.replies.Refusal.{Refusal}
+use Rattle.stick_model.proofs.RunLemmas.{run_more}
 use Rattle.stick_table.proofs.running.run.Goals as goal
 
 -- one event more of those that were answered

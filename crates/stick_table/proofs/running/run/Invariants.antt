@@ -1,5 +1,5 @@
 use Rattle.std.proofs.Common.{◌≡◌, ◌≤◌, take, length, vec_len, vec_capacity}
-use Rattle.table_model.specs.Run.{Run}
+use Rattle.stick_model.specs.Run.{Run}
 use Rattle.stick_table.proofs.running.run.Given as goal
 
 abbrev pub invariant-loop-event : goal.invariant-loop-event

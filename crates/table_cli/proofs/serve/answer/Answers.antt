@@ -1,7 +1,7 @@
 use Rattle.std.proofs.Common.{◌≡◌, ◌++◌, ℕ, true, List, [], filter, length, ap, refl, sym, subst, append-nil, rules, arith, ◌∙◌}
 use Rattle.byte_ports.proofs.Pieces.{grown_twice}
-use Rattle.line_text.specs.Parts.{parts, is_byte}
-use Rattle.line_text.proofs.ChainLemmas.{does_none, does_more, does_stop}
+use Rattle.base_lines.specs.Parts.{parts, is_byte}
+use Rattle.base_lines.proofs.ChainLemmas.{does_none, does_more, does_stop}
 use Rattle.table_cli.specs.Answers.{Answers, has_words}
 use Rattle.shard_book.specs.NamedTables.{states_of}
 use Rattle.table_cli.specs.States.{CommandState}

@@ -1,6 +1,6 @@
 use Rattle.std.proofs.Common.{◌≡◌, ◌≤◌, ◌+◌, ℕ, List, filter, length}
 use Rattle.byte_ports.specs.Bytes.{Grows}
-use Rattle.line_text.specs.Chain.{DoesUpTo}
+use Rattle.base_lines.specs.Chain.{DoesUpTo}
 use Rattle.table_cli.specs.Answers.{Answers, commands_of, has_words}
 use Rattle.shard_book.specs.NamedTables.{states_of}
 use Rattle.table_cli.specs.States.{CommandState}

@@ -1,5 +1,5 @@
 use Rattle.byte_ports.proofs.Pieces.{in_prefix}
-use Rattle.command_text.specs.Bytes.{bytes_of}
+use Rattle.table_texts.specs.Bytes.{bytes_of}
 use Rattle.table_cli.proofs.serve.answer_command.Goals as goal
 
 pub returns-clause-answer : goal.returns-clause-answer

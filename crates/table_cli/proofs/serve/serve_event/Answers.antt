@@ -1,5 +1,5 @@
 use Rattle.std.proofs.Common.{Some, refl}
-use Rattle.command_text.specs.declared.message.Message.TheVariants.{OutOfMemory}
+use Rattle.table_texts.specs.declared.message.Message.TheVariants.{OutOfMemory}
 use Rattle.table_cli.proofs.ShardLemmas.{asks_then_no_memory}
 use Rattle.table_cli.proofs.serve.serve_event.Goals as goal
 

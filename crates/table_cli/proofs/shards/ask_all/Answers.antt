@@ -1,9 +1,9 @@
 use Rattle.std.proofs.Common.{◌<◌, ◌^◌, ◌++◌, [], ◌∷◌, Some, None, append-nil, inl, refl, sym, ◌∙◌, ap, subst, rules, arith}
-use Rattle.table_model.specs.declared.events.Event.{Event}
+use Rattle.stick_model.specs.declared.events.Event.{Event}
 use Rattle.shard_book.specs.Keeping.{IsAnswer}
 use Rattle.table_cli.specs.Shards.{Ends}
-use Rattle.command_text.specs.declared.message.Message.TheVariants.{OutOfMemory}
-use Rattle.joined_replies.proofs.TotalLemmas.{counted, counted-more, later, so_far_of, so_far-more, so_far-none, so_far-total}
+use Rattle.table_texts.specs.declared.message.Message.TheVariants.{OutOfMemory}
+use Rattle.shard_book.proofs.TotalLemmas.{counted, counted-more, later, so_far_of, so_far-more, so_far-none, so_far-total}
 use Rattle.table_cli.proofs.ShardLemmas.{asks_shown, asks_shown-together, ends_all, ends_here, ends_in_memory, goes_more, range-more, range-none}
 use Rattle.table_cli.proofs.shards.ask_all.Goals as goal
 

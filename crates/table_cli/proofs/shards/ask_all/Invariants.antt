@@ -1,8 +1,8 @@
 use Rattle.std.proofs.Common.{◌≡◌, ◌≤◌, ◌-◌, ◌*◌, ◌^◌, List, IfSome}
 use Rattle.std.specs.List.{range_with_len}
-use Rattle.table_model.specs.declared.replies.Reply.{Reply}
-use Rattle.joined_replies.specs.Total.{IsCounted}
-use Rattle.joined_replies.proofs.TotalLemmas.{so_far_of}
+use Rattle.stick_model.specs.declared.replies.Reply.{Reply}
+use Rattle.shard_book.specs.Total.{IsCounted}
+use Rattle.shard_book.proofs.TotalLemmas.{so_far_of}
 use Rattle.table_cli.specs.Shards.{AsksWhatIsShown}
 use Rattle.table_cli.proofs.ShardLemmas.{GoesOn}
 use Rattle.table_cli.proofs.shards.ask_all.Given as goal

@@ -1,7 +1,7 @@
 use Rattle.std.proofs.Common.{Some, refl}
-use Rattle.command_text.specs.declared.message.Message.TheVariants.{OutOfMemory}
-use Rattle.table_model.specs.declared.events.Event.TheVariants.{List as ListRows}
-use Rattle.table_model.specs.declared.filters.Filter.TheVariants.{Nothing}
+use Rattle.table_texts.specs.declared.message.Message.TheVariants.{OutOfMemory}
+use Rattle.stick_model.specs.declared.events.Event.TheVariants.{List as ListRows}
+use Rattle.stick_model.specs.declared.filters.Filter.TheVariants.{Nothing}
 use Rattle.table_cli.proofs.ShardLemmas.{asks_then_no_memory}
 use Rattle.table_cli.proofs.tables.push_head.Goals as goal
 

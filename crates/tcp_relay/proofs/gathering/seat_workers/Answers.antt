@@ -6,15 +6,15 @@ use Rattle.tcp_relay.proofs.gathering.seat_workers.Goals as goal
 pub loop-places-preserved : goal.loop-places-preserved
 loop-places-preserved g c =
     let loop = c.loop-places in
-    let less : vec_len c.pop.new.self + 1 ≡ vec_len loop.visitors = c.in-Some.ensures.len in
+    let less : vec_len c.pop.new.self + 1 ≡ vec_len loop.held = c.in-Some.ensures.len in
     record {
       rows = search rules;
       free = search rules;
-      gears = search rules;
+      all_buffers = search rules;
       seated = search rules;
       room = search rules;
       tables = search rules;
       seats = c.take_row-row.ensures.fewer (vec_len c.pop.new.self) (length c.args.rows.items) (subst (λ n. HaveEach n (length c.args.rows.items) loop.seats.items) (sym less) loop.invariant.seats);
       empty_rows = (All-pop (Has 0 (length g.W.Width.tables)) loop.rows.items c.pop-in-Some.new.self.items c.pop-in-Some.result c.pop-in-Some.ensures.items loop.invariant.empty_rows).0;
-      empty_visitors = (All-pop (Has 0 g.W.Width.most) loop.visitors.items c.pop.new.self.items c.pop.result c.pop.ensures.items loop.invariant.empty_visitors).0;
+      empty_connections = (All-pop (Has 0 g.W.Width.most) loop.held.items c.pop.new.self.items c.pop.result c.pop.ensures.items loop.invariant.empty_connections).0;
     }

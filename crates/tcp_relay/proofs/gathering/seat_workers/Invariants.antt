@@ -5,16 +5,16 @@ use Rattle.tcp_relay.proofs.gathering.seat_workers.Given as goal
 -- each table has a seat for each worker that is still to be seated
 abbrev pub invariant-loop-places : goal.invariant-loop-places
 invariant-loop-places g l = record {
-  rows : vec_len l.rows ≡ vec_len l.visitors;
-  free : vec_len l.free ≡ vec_len l.visitors;
-  gears : vec_len l.gears ≡ vec_len l.visitors;
-  seated : vec_len l.workers + vec_len l.visitors ≡ length l.fn.rows.items;
+  rows : vec_len l.rows ≡ vec_len l.held;
+  free : vec_len l.free ≡ vec_len l.held;
+  all_buffers : vec_len l.all_buffers ≡ vec_len l.held;
+  seated : vec_len l.workers + vec_len l.held ≡ length l.fn.rows.items;
   room : length l.fn.rows.items ≤ vec_capacity l.workers;
   tables : length l.seats.items ≡ length g.W.Width.tables;
-  seats : HaveEach (vec_len l.visitors) (length l.fn.rows.items) l.seats.items;
+  seats : HaveEach (vec_len l.held) (length l.fn.rows.items) l.seats.items;
   empty_rows : HaveEach 0 (length g.W.Width.tables) l.rows.items;
-  empty_visitors : HaveEach 0 g.W.Width.most l.visitors.items;
+  empty_connections : HaveEach 0 g.W.Width.most l.held.items;
 }
 
 abbrev pub decreases-loop-places : goal.decreases-loop-places
-decreases-loop-places g l = vec_len l.visitors
+decreases-loop-places g l = vec_len l.held

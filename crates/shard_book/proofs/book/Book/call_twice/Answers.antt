@@ -1,7 +1,7 @@
 use Rattle.std.proofs.Common.{◌+◌, ◌≤◌, vec_len, vec_capacity}
-use Rattle.table_model.specs.State.{State}
-use Rattle.table_model.specs.Refusals.{life_taken}
-use Rattle.table_model.specs.declared.replies.Reply.{Reply}
+use Rattle.stick_model.specs.State.{State}
+use Rattle.stick_model.specs.Refusals.{life_taken}
+use Rattle.stick_model.specs.declared.replies.Reply.{Reply}
 use Rattle.shard_book.proofs.BookLemmas.{held_counted, places-recorded, recorded_more}
 use Rattle.shard_book.proofs.book.Book.call_twice.Goals as goal
 

@@ -1,5 +1,5 @@
 use Rattle.std.proofs.Common.{◌≡◌, ◌≤◌, ◌∙◌, ap, vec_len, vec_capacity, arith}
-use Rattle.table_model.specs.State.{State, empty_table}
+use Rattle.stick_model.specs.State.{State, empty_table}
 use Rattle.shard_book.proofs.BookLemmas.{empty_is_book, empty_has_places}
 use Rattle.shard_book.proofs.book.Book.open.Goals as goal
 

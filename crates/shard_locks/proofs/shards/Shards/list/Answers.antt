@@ -1,5 +1,5 @@
 use Rattle.std.proofs.Common.{arith}
-use Rattle.table_model.specs.declared.events.Event.TheVariants.{List as ListRows}
+use Rattle.stick_model.specs.declared.events.Event.TheVariants.{List as ListRows}
 use Rattle.shard_locks.proofs.ListingLemmas.{joined_listing, told_as_many, told_by_counted}
 use Rattle.shard_locks.proofs.shards.Shards.list.Goals as goal
 

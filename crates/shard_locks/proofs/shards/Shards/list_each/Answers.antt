@@ -1,5 +1,5 @@
 use Rattle.std.proofs.Common.{arith}
-use Rattle.table_model.specs.declared.events.Event.TheVariants.{List as ListRows}
+use Rattle.stick_model.specs.declared.events.Event.TheVariants.{List as ListRows}
 use Rattle.shard_locks.proofs.ListingLemmas.{told_by_more}
 use Rattle.shard_locks.proofs.shards.Shards.list_each.Goals as goal
 

@@ -1,5 +1,5 @@
 use Rattle.std.proofs.Common.{◌≡◌, ◌≤◌, vec_len, vec_capacity}
-use Rattle.table_model.specs.declared.events.Event.TheVariants.{List as ListRows}
+use Rattle.stick_model.specs.declared.events.Event.TheVariants.{List as ListRows}
 use Rattle.shard_locks.specs.Listing.{ToldByFirst}
 use Rattle.shard_locks.proofs.shards.Shards.list_each.Given as goal
 

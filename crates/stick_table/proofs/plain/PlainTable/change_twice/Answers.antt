@@ -1,7 +1,7 @@
 use Rattle.std.proofs.Common.{◌≡◌, sym, ◌∙◌, ap, false}
 use Rattle.std.proofs.lemmas.Bool.{false≢true}
-use Rattle.table_model.specs.Step.{Outcome, shows_rows}
-use Rattle.table_model.proofs.ReplyLemmas.{rows_told}
+use Rattle.stick_model.specs.Step.{Outcome, shows_rows}
+use Rattle.stick_model.proofs.ReplyLemmas.{rows_told}
 use Rattle.stick_table.proofs.plain.PlainTable.change_twice.Goals as goal
 
 pub unreachable-requires : goal.unreachable-requires

@@ -1,12 +1,12 @@
-use Rattle.table_model.specs.Filters.{not_stored}
+use Rattle.stick_model.specs.Filters.{not_stored}
 use Rattle.std.proofs.Common.{◌≡◌, sym, ◌∙◌, ap, List, Option, None}
 use Rattle.std.specs.Option.{option_map_or}
-use Rattle.table_model.specs.Key.{Key}
-use Rattle.table_model.specs.Step.{Outcome, cleared, clear_where}
-use Rattle.table_model.specs.State.{State}
-use Rattle.table_model.specs.declared.rows.Record.{Record}
-use Rattle.table_model.specs.declared.replies.Reply.{Reply}
-use Rattle.table_model.specs.declared.replies.Reply.TheVariants.{NotStored}
+use Rattle.stick_model.specs.Key.{Key}
+use Rattle.stick_model.specs.Step.{Outcome, cleared, clear_where}
+use Rattle.stick_model.specs.State.{State}
+use Rattle.stick_model.specs.declared.rows.Record.{Record}
+use Rattle.stick_model.specs.declared.replies.Reply.{Reply}
+use Rattle.stick_model.specs.declared.replies.Reply.TheVariants.{NotStored}
 use Rattle.stored_data.specs.declared.field.Field.{Field}
 use Rattle.stick_table.proofs.plain.PlainTable.clear_where.Goals as goal
 

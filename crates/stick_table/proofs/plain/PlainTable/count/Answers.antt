@@ -1,11 +1,11 @@
 use Rattle.std.proofs.Common.{◌≡◌, ◌+◌, sym, ◌∙◌, ap, arith, List}
 use Rattle.std.proofs.lemmas.Grind.{common_steps}
 use Rattle.std.specs.Vec.{with_items}
-use Rattle.table_model.specs.Key.{Key}
-use Rattle.table_model.specs.declared.rows.Record.{Record}
-use Rattle.table_model.specs.declared.replies.Reply.TheVariants.{Value}
-use Rattle.table_model.specs.State.{State}
-use Rattle.table_model.specs.Step.{Outcome, begun, count}
+use Rattle.stick_model.specs.Key.{Key}
+use Rattle.stick_model.specs.declared.rows.Record.{Record}
+use Rattle.stick_model.specs.declared.replies.Reply.TheVariants.{Value}
+use Rattle.stick_model.specs.State.{State}
+use Rattle.stick_model.specs.Step.{Outcome, begun, count}
 use Rattle.stick_table.proofs.TicketLemmas.{count-found}
 use Rattle.stick_table.proofs.plain.PlainTable.count.Goals as goal
 

@@ -1,7 +1,7 @@
 use Rattle.std.proofs.Common.{◌<◌, ◌∙◌, ap, subst, arith, length, Option}
-use Rattle.table_model.specs.State.{State}
-use Rattle.table_model.specs.Step.{begun}
-use Rattle.table_model.specs.declared.rows.Ticket.{Ticket}
+use Rattle.stick_model.specs.State.{State}
+use Rattle.stick_model.specs.Step.{begun}
+use Rattle.stick_model.specs.declared.rows.Ticket.{Ticket}
 use Rattle.stick_table.proofs.TicketLemmas.{track-entered}
 use Rattle.stick_table.proofs.plain.PlainTable.track.Goals as goal
 

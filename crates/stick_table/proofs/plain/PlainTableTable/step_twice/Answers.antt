@@ -1,10 +1,10 @@
 use Rattle.std.proofs.Common.{◌≡◌, ℕ, Result, Ok, Err, IfOk, OnOk, true}
-use Rattle.table_model.specs.State.{State}
-use Rattle.table_model.specs.Step.{Step, MayTrack, is_out, is_free_slot, after}
-use Rattle.table_model.specs.declared.events.Event.{Event}
-use Rattle.table_model.specs.declared.replies.Reply.{Reply}
-use Rattle.table_model.specs.declared.replies.Refusal.{Refusal}
-use Rattle.table_model.proofs.ReplyLemmas.{step_with_free}
+use Rattle.stick_model.specs.State.{State}
+use Rattle.stick_model.specs.Step.{Step, MayTrack, is_out, is_free_slot, after}
+use Rattle.stick_model.specs.declared.events.Event.{Event}
+use Rattle.stick_model.specs.declared.replies.Reply.{Reply}
+use Rattle.stick_model.specs.declared.replies.Refusal.{Refusal}
+use Rattle.stick_model.proofs.ReplyLemmas.{step_with_free}
 use Rattle.stick_table.proofs.plain.PlainTableTable.step_twice.Goals as goal
 
 steps : (old : State) (event : Event) (slot : ℕ) (result : Result (Reply × Reply) Refusal) (new : State) → (MayTrack old event → is_free_slot old slot ≡ true)

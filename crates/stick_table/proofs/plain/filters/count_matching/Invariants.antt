@@ -1,4 +1,4 @@
-use Rattle.table_model.specs.Filters.{is_matched}
+use Rattle.stick_model.specs.Filters.{is_matched}
 use Rattle.std.proofs.Common.{◌≡◌, ◌≤◌, take, count_by}
 use Rattle.stick_table.proofs.plain.filters.count_matching.Given as goal
 

@@ -1,5 +1,5 @@
 use Rattle.std.proofs.Common.{◌≡◌, drop}
-use Rattle.table_model.specs.Step.{put_fault}
+use Rattle.stick_model.specs.Step.{put_fault}
 use Rattle.stick_table.proofs.plain.pairs.put_fault.Given as goal
 
 abbrev pub invariant-loop-pair : goal.invariant-loop-pair

@@ -1,8 +1,8 @@
 use Rattle.std.proofs.Common.{sym, ◌∙◌, ap, arith, get_or, unwrap_or, set}
 use Rattle.std.specs.Map.{set_value}
-use Rattle.table_model.specs.Key.{same_key}
+use Rattle.stick_model.specs.Key.{same_key}
 use Rattle.stored_data.specs.Acts.{acted}
-use Rattle.table_model.specs.declared.rows.Record.{Record}
+use Rattle.stick_model.specs.declared.rows.Record.{Record}
 use Rattle.stick_table.proofs.EntryLemmas.{lookup-here, set_value-here}
 use Rattle.stick_table.proofs.plain.records.act_at.Goals as goal
 

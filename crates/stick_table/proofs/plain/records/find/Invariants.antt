@@ -1,5 +1,5 @@
 use Rattle.std.proofs.Common.{◌≡◌, drop}
-use Rattle.table_model.specs.State.{record_at}
+use Rattle.stick_model.specs.State.{record_at}
 use Rattle.stick_table.proofs.plain.records.find.Given as goal
 
 abbrev pub invariant-loop-entry : goal.invariant-loop-entry

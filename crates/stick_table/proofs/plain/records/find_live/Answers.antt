@@ -1,6 +1,6 @@
 use Rattle.std.proofs.Common.{sym, ◌∙◌}
-use Rattle.table_model.specs.Key.{same_key}
-use Rattle.table_model.specs.State.{stays}
+use Rattle.stick_model.specs.Key.{same_key}
+use Rattle.stick_model.specs.State.{stays}
 use Rattle.stick_table.proofs.ListLemmas.{lookup-filter_hits}
 use Rattle.stick_table.proofs.plain.records.find_live.Goals as goal
 

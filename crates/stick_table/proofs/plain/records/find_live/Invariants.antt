@@ -1,5 +1,5 @@
 use Rattle.std.proofs.Common.{◌≡◌, drop, filter}
-use Rattle.table_model.specs.State.{record_at, stays}
+use Rattle.stick_model.specs.State.{record_at, stays}
 use Rattle.stick_table.proofs.plain.records.find_live.Given as goal
 
 abbrev pub invariant-loop-entry : goal.invariant-loop-entry

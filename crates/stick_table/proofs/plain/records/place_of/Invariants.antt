@@ -1,7 +1,7 @@
 use Rattle.std.proofs.Common.{◌≡◌, ◌++◌, take, drop}
 use Rattle.std.specs.BTreeMap.{insert_entry}
-use Rattle.table_model.specs.Key.{key_cmp}
-use Rattle.table_model.specs.declared.rows.Record.{Record}
+use Rattle.stick_model.specs.Key.{key_cmp}
+use Rattle.stick_model.specs.declared.rows.Record.{Record}
 use Rattle.stick_table.proofs.plain.records.place_of.Given as goal
 
 abbrev pub invariant-loop-i : goal.invariant-loop-i

@@ -1,8 +1,8 @@
 use Rattle.std.proofs.Common.{◌≡◌, ◌++◌, take, drop}
 use Rattle.std.specs.Map.{set_value}
-use Rattle.table_model.specs.Key.{same_key}
-use Rattle.table_model.specs.State.{record_at}
-use Rattle.table_model.specs.declared.rows.Record.{Record}
+use Rattle.stick_model.specs.Key.{same_key}
+use Rattle.stick_model.specs.State.{record_at}
+use Rattle.stick_model.specs.declared.rows.Record.{Record}
 use Rattle.stick_table.proofs.plain.records.position_of.Given as goal
 
 abbrev pub invariant-loop-i : goal.invariant-loop-i

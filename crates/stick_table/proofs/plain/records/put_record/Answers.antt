@@ -1,5 +1,5 @@
 use Rattle.std.proofs.Common.{sym, ◌∙◌, arith}
-use Rattle.table_model.specs.Key.{key_cmp}
+use Rattle.stick_model.specs.Key.{key_cmp}
 use Rattle.stick_table.proofs.EntryLemmas.{insert-here}
 use Rattle.stick_table.proofs.plain.records.put_record.Goals as goal
 

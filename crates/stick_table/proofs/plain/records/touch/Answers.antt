@@ -1,6 +1,6 @@
 use Rattle.std.proofs.Common.{sym, ◌∙◌, ap, arith, get_or, unwrap_or}
 use Rattle.std.specs.Map.{set_value}
-use Rattle.table_model.specs.Key.{same_key}
+use Rattle.stick_model.specs.Key.{same_key}
 use Rattle.stick_table.proofs.EntryLemmas.{lookup-here, set_value-here}
 use Rattle.stick_table.proofs.plain.records.touch.Goals as goal
 

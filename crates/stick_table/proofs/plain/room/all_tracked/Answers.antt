@@ -1,5 +1,5 @@
 use Rattle.std.proofs.Common.{sym, ◌∙◌}
-use Rattle.table_model.specs.State.{is_tracked}
+use Rattle.stick_model.specs.State.{is_tracked}
 use Rattle.stick_table.proofs.ListLemmas.{list_all-fails}
 use Rattle.stick_table.proofs.plain.room.all_tracked.Goals as goal
 

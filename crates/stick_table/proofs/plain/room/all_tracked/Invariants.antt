@@ -1,4 +1,4 @@
-use Rattle.table_model.specs.Room.{all_tracked}
+use Rattle.stick_model.specs.Room.{all_tracked}
 use Rattle.std.proofs.Common.{◌≡◌, drop}
 use Rattle.stick_table.proofs.plain.room.all_tracked.Given as goal
 

@@ -1,4 +1,4 @@
-use Rattle.table_model.specs.Room.{count_older}
+use Rattle.stick_model.specs.Room.{count_older}
 use Rattle.std.proofs.Common.{◌≡◌, ◌≤◌, take}
 use Rattle.stick_table.proofs.plain.room.count_older.Given as goal
 

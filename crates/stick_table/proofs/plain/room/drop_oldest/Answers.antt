@@ -1,7 +1,7 @@
 use Rattle.stick_table.specs.Purging.{purge_limit}
 use Rattle.std.proofs.Common.{rules, sym, ◌∙◌, ap}
 use Rattle.std.proofs.lemmas.Fn.{filter_same}
-use Rattle.table_model.specs.State.{is_tracked}
+use Rattle.stick_model.specs.State.{is_tracked}
 use Rattle.stick_table.proofs.PurgeLemmas.{filter-limit, filter-no_limit}
 use Rattle.stick_table.proofs.plain.room.drop_oldest.Goals as goal
 

@@ -1,8 +1,8 @@
-use Rattle.table_model.specs.Room.{is_purged}
+use Rattle.stick_model.specs.Room.{is_purged}
 use Rattle.std.proofs.Common.{◌+◌, ℕ, sym, ◌∙◌, ap, fold, drop, max, unwrap_or, Some, cond, Option}
 use Rattle.std.proofs.lemmas.List.{at_drop_more}
-use Rattle.table_model.specs.Key.{Key}
-use Rattle.table_model.specs.declared.rows.Record.{Record}
+use Rattle.stick_model.specs.Key.{Key}
+use Rattle.stick_model.specs.declared.rows.Record.{Record}
 use Rattle.stick_table.proofs.plain.room.purge_limit.Goals as goal
 
 pub loop-entry-preserved : goal.loop-entry-preserved

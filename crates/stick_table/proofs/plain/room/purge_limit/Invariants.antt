@@ -1,4 +1,4 @@
-use Rattle.table_model.specs.Room.{is_purged}
+use Rattle.stick_model.specs.Room.{is_purged}
 use Rattle.stick_table.specs.Purging.{purge_limit}
 use Rattle.std.proofs.Common.{◌≡◌, drop, fold, max, unwrap_or, Some}
 use Rattle.std.specs.Prelude.{if◌then◌else◌}

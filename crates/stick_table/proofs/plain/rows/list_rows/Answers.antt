@@ -1,9 +1,9 @@
-use Rattle.table_model.specs.Filters.{passes}
+use Rattle.stick_model.specs.Filters.{passes}
 use Rattle.stick_table.specs.Replies.{listed_rows}
 use Rattle.std.proofs.Common.{◌∷◌, [], ◌++◌, ◌+◌, sym, ◌∙◌, ap, drop}
-use Rattle.table_model.specs.Key.{Key}
-use Rattle.table_model.specs.declared.rows.Record.{Record}
-use Rattle.table_model.specs.State.{refs, row_of, stays}
+use Rattle.stick_model.specs.Key.{Key}
+use Rattle.stick_model.specs.declared.rows.Record.{Record}
+use Rattle.stick_model.specs.State.{refs, row_of, stays}
 use Rattle.stick_table.proofs.ListLemmas.{listed-more}
 use Rattle.stick_table.proofs.plain.rows.list_rows.Goals as goal
 

@@ -1,5 +1,5 @@
 use Rattle.std.proofs.Common.{◌≡◌, take, map}
-use Rattle.table_model.specs.State.{shown}
+use Rattle.stick_model.specs.State.{shown}
 use Rattle.stick_table.proofs.plain.rows.make_row.Given as goal
 
 abbrev pub invariant-loop-field : goal.invariant-loop-field

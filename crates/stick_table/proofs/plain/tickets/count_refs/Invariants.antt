@@ -1,5 +1,5 @@
 use Rattle.std.proofs.Common.{◌≡◌, ◌≤◌, take}
-use Rattle.table_model.specs.State.{refs}
+use Rattle.stick_model.specs.State.{refs}
 use Rattle.stick_table.proofs.plain.tickets.count_refs.Given as goal
 
 abbrev pub invariant-loop-held : goal.invariant-loop-held

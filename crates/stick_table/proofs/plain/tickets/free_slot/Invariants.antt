@@ -1,5 +1,5 @@
 use Rattle.std.proofs.Common.{◌≡◌, ℕ, ◌<◌, false}
-use Rattle.table_model.specs.State.{is_free}
+use Rattle.stick_model.specs.State.{is_free}
 use Rattle.stick_table.proofs.plain.tickets.free_slot.Given as goal
 
 abbrev pub invariant-loop-slot : goal.invariant-loop-slot

@@ -1,5 +1,5 @@
 use Rattle.std.proofs.Common.{◌≡◌, drop}
-use Rattle.table_model.specs.State.{is_free}
+use Rattle.stick_model.specs.State.{is_free}
 use Rattle.stick_table.proofs.plain.tickets.is_free.Given as goal
 
 abbrev pub invariant-loop-held : goal.invariant-loop-held

@@ -1,6 +1,6 @@
 use Rattle.std.proofs.Common.{◌≡◌, length, ap, arith, rules, not, filter}
 use Rattle.std.proofs.lemmas.Fn.{filter_same}
-use Rattle.table_model.specs.State.{same_ticket}
+use Rattle.stick_model.specs.State.{same_ticket}
 use Rattle.stick_table.proofs.EntryLemmas.{fewer_without}
 use Rattle.stick_table.proofs.plain.tickets.remove_ticket.Goals as goal
 

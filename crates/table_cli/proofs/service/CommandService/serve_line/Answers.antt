@@ -1,6 +1,6 @@
 use Rattle.std.proofs.Common.{◌≡◌, ◌++◌, List, length, take, drop, rules, subst, sym, arith}
 use Rattle.std.proofs.lemmas.Grind.{common_steps}
-use Rattle.line_text.specs.Chain.{StopsIn}
+use Rattle.base_lines.specs.Chain.{StopsIn}
 use Rattle.table_cli.specs.Answers.{Answers, commands_of}
 use Rattle.shard_book.specs.NamedTables.{states_of}
 use Rattle.table_cli.specs.States.{CommandState}

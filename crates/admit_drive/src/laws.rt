@@ -1,0 +1,13 @@
+//! What every move of a connection keeps. Each law is the contract of a function that does nothing.
+ghost use Rattle.admit_drive.specs.Laws.{HomeLaw, OneRestLaw};
+
+/// Where the references that are out of each shard are of keys that lie on it, a move leaves it so.
+pub fn home()
+    ensures { HomeLaw }
+{}
+
+/// A connection that goes on until it rests, with nothing refused, comes to one end, whatever slots the tables give to
+/// references: it had the same answers and is as far, and every shard keeps the same records.
+pub fn one_rest()
+    ensures { OneRestLaw }
+{}

@@ -1,0 +1,4 @@
+pub mod HearLemmas
+pub mod AskLemmas
+pub mod RestLemmas
+mod VisitLemmas

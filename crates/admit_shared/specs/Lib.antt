@@ -1,0 +1,5 @@
+pub mod Tables
+pub mod Calls
+pub mod Moves
+pub mod DriveCode
+pub mod Visit

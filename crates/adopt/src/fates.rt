@@ -1,0 +1,260 @@
+//! What becomes of each line.
+
+use crate::headings::{add_table_of_all, of_heading};
+use crate::keywords::{is_one_of, left_out};
+use crate::lexer::SourceLine;
+use crate::options::CommandOption;
+use crate::plan::{Plan, begins};
+use crate::proxy_lines::of_proxy_line;
+use crate::reasons::Why;
+use crate::roles::has_rules_of;
+use crate::rule_lines::{add_rules, of_rule};
+use crate::rules::rule_place;
+use crate::sections::Kind;
+use crate::servers::server_loss;
+use crate::standing::{added, written};
+use crate::texts::{Words, append, append_str, is_word, text_of, word_at};
+use base_sequence::NoMemory;
+use std::alloc::Global;
+
+/// What becomes of a line.
+#[derive(Clone, Copy, PartialEq, Eq)]
+pub enum FateKind {
+    /// It stays as it is.
+    Kept,
+    /// Another line that means the same stands in its place.
+    Rewritten,
+    /// It is left out, and what it says stands elsewhere.
+    Moved,
+    /// It is left out, which changes nothing that is served.
+    Harmless,
+    /// Another line stands in its place that means less.
+    Altered,
+    /// It is left out, which changes what is served.
+    Lost,
+}
+
+/// What becomes of a line, why, and what is written for it.
+#[derive(Drop)]
+pub struct Fate {
+    pub kind: FateKind,
+    /// The reason, or what the line becomes.
+    pub note: Vec<u8>,
+    /// The line that stands in its place, where it is rewritten.
+    pub text: Vec<u8>,
+    /// The lines that are added behind it.
+    pub after: Words,
+}
+
+/// The fate of a line of which nothing more is said.
+pub(crate) fn plain(alloc: Global, kind: FateKind) -> Fate {
+    Fate {
+        kind,
+        note: Vec::new(alloc),
+        text: Vec::new(alloc),
+        after: Vec::new(alloc),
+    }
+}
+
+/// The fate of a line that is left out.
+pub(crate) fn left(alloc: Global, kind: FateKind, why: Why) -> Result<Fate, NoMemory> {
+    Ok(Fate {
+        kind,
+        note: text_of(alloc, why.text())?,
+        text: Vec::new(alloc),
+        after: Vec::new(alloc),
+    })
+}
+
+/// Whether what stands for a line is a line of its own.
+pub(crate) fn stands(kind: FateKind) -> bool {
+    matches!(
+        kind,
+        FateKind::Kept | FateKind::Rewritten | FateKind::Altered
+    )
+}
+
+/// Whether a section `defaults` is one that the frontend or the backend has.
+fn is_inherited(plan: &Plan, defaults: usize) -> bool {
+    for place in [plan.frontend, plan.backend] {
+        let mut at = place;
+        for _ in 0..plan.sections.len() {
+            at = match at.and_then(|here| plan.section(here)) {
+                Some(section) => section.defaults,
+                None => None,
+            };
+            if at == Some(defaults) {
+                return true;
+            }
+        }
+    }
+    false
+}
+
+/// What is lost by a line of `defaults`, if anything that matters.
+fn defaults_loss(words: &[Vec<u8>]) -> Option<Why> {
+    let keyword = word_at(words, 0);
+    if is_word(keyword, "default-server") {
+        return server_loss(words, 1);
+    }
+    let is_option = is_word(keyword, "option");
+    if is_option || is_one_of(keyword, &["filter", "rate-limit", "source", "transparent"]) {
+        let left = left_out(keyword, word_at(words, 1));
+        return if left.matters { Some(left.why) } else { None };
+    }
+    None
+}
+
+/// What becomes of a line of `defaults`.
+fn of_defaults_line(
+    alloc: Global,
+    plan: &Plan,
+    place: usize,
+    number: usize,
+    line: &SourceLine,
+) -> Result<Fate, NoMemory> {
+    let words = line.words.as_slice();
+    if rule_place(plan, number).is_some() {
+        return of_rule(alloc, plan, number, line);
+    }
+    if begins(words, "acl", "") && has_rules_of(plan, place) {
+        return left(alloc, FateKind::Moved, Why::MovedBelow);
+    }
+    if plan.names_backend == Some(number) {
+        return left(alloc, FateKind::Moved, Why::MovedBelow);
+    }
+    match defaults_loss(words) {
+        Some(why) if is_inherited(plan, place) => left(alloc, FateKind::Lost, why),
+        _ => left(alloc, FateKind::Harmless, Why::SectionHeader),
+    }
+}
+
+/// The option that stands for a line.
+fn option_for(options: &[CommandOption], number: usize) -> Option<&CommandOption> {
+    for option in options {
+        if option.line == number {
+            return Some(option);
+        }
+    }
+    None
+}
+
+/// What is said of a line for which an option stands.
+fn option_note(alloc: Global, option: &CommandOption) -> Result<Vec<u8>, NoMemory> {
+    let mut note = text_of(alloc, option.flag)?;
+    append_str(&mut note, " ")?;
+    append(&mut note, option.value.as_slice())?;
+    append_str(&mut note, " stands for it")?;
+    Ok(note)
+}
+
+/// What becomes of a line, before options are asked.
+fn of_line(
+    alloc: Global,
+    plan: &Plan,
+    place: Option<usize>,
+    number: usize,
+    line: &SourceLine,
+) -> Result<Fate, NoMemory> {
+    if !line.is_whole {
+        return left(alloc, FateKind::Lost, Why::UnreadableLine);
+    }
+    let words = line.words.as_slice();
+    if words.is_empty() {
+        return Ok(plain(alloc, FateKind::Kept));
+    }
+    if word_at(words, 0).first() == Some(&b'.') {
+        let is_block = !begins(words, ".notice", "")
+            && !begins(words, ".warning", "")
+            && !begins(words, ".diag", "");
+        let kind = if is_block {
+            FateKind::Lost
+        } else {
+            FateKind::Harmless
+        };
+        return left(
+            alloc,
+            kind,
+            if is_block {
+                Why::Conditional
+            } else {
+                Why::NothingToSay
+            },
+        );
+    }
+    let Some(place) = place else {
+        return left(alloc, FateKind::Lost, Why::UnknownKeyword);
+    };
+    let Some(section) = plan.section(place) else {
+        return left(alloc, FateKind::Harmless, Why::NotServed);
+    };
+    match section.kind {
+        Kind::Global if begins(words, "stats", "socket") => {
+            left(alloc, FateKind::Harmless, Why::OwnSocket)
+        }
+        Kind::Global => left(alloc, FateKind::Harmless, Why::ProcessSetting),
+        Kind::Other => left(alloc, FateKind::Harmless, Why::OtherSection),
+        Kind::Defaults => of_defaults_line(alloc, plan, place, number, line),
+        Kind::Frontend | Kind::Backend | Kind::Listen => {
+            if number == section.first {
+                of_heading(alloc, plan, place, line)
+            } else {
+                of_proxy_line(alloc, plan, place, number, line)
+            }
+        }
+    }
+}
+
+/// What becomes of a line.
+fn fate_of(
+    alloc: Global,
+    plan: &Plan,
+    options: &[CommandOption],
+    place: Option<usize>,
+    number: usize,
+    line: &SourceLine,
+) -> Result<Fate, NoMemory> {
+    let mut fate = of_line(alloc, plan, place, number, line)?;
+    if let Some(option) = option_for(options, number)
+        && !stands(fate.kind)
+    {
+        fate = Fate {
+            kind: FateKind::Moved,
+            note: option_note(alloc, option)?,
+            text: Vec::new(alloc),
+            after: fate.after,
+        };
+    }
+    add_rules(alloc, plan, number, &mut fate.after)?;
+    Ok(fate)
+}
+
+/// What becomes of each line of a file, in order.
+pub fn fates_of(
+    alloc: Global,
+    plan: &Plan,
+    options: &[CommandOption],
+) -> Result<Vec<Fate>, NoMemory> {
+    let mut fates: Vec<Fate> = Vec::new(alloc);
+    let mut place = None;
+    for (number, line) in plan.lines.iter().enumerate() {
+        if let Some(next) = section_at(plan, number) {
+            place = Some(next);
+        }
+        fates.push(fate_of(alloc, plan, options, place, number, line)?)?;
+    }
+    if let Some(last) = fates.last_mut() {
+        add_table_of_all(alloc, plan, &mut last.after)?;
+    }
+    Ok(fates)
+}
+
+/// The section that a line begins.
+fn section_at(plan: &Plan, number: usize) -> Option<usize> {
+    for (place, section) in plan.sections.iter().enumerate() {
+        if section.first == number {
+            return Some(place);
+        }
+    }
+    None
+}

@@ -1,0 +1,314 @@
+//! The command line: options that stand for lines.
+
+use crate::listeners::{first_bind, option_value};
+use crate::plan::{Plan, begins};
+use crate::sections::Kind;
+use crate::servers::kept_server;
+use crate::texts::{copy_text, is_word, text_of, word_at};
+use base_lines::{push_decimal, read_number};
+use base_sequence::NoMemory;
+use rule_words::read_time;
+use std::alloc::Global;
+
+// The options of `stickd run`, as they are spelled.
+const CONNECTIONS: &str = "--connections";
+
+const THREADS: &str = "--threads";
+
+const TIMEOUT_CONNECT: &str = "--timeout-connect";
+
+const TIMEOUT_CLIENT: &str = "--timeout-client";
+
+const TIMEOUT_SERVER: &str = "--timeout-server";
+
+const TIMEOUT_FIN: &str = "--timeout-fin";
+
+const KEEPALIVE: &str = "--keepalive";
+
+const BACKLOG: &str = "--backlog";
+
+/// The most connections that can be asked for.
+const MOST_CONNECTIONS: u64 = 0xffff_ffff;
+
+/// The longest backlog that can be asked for.
+const MOST_BACKLOG: u64 = 0x7fff_ffff;
+
+/// After how long systems ask a silent peer, unless they are told.
+const USUAL_KEEPALIVE: &str = "2h";
+
+/// The most threads of the program.
+const MOST_THREADS: u64 = 64;
+
+/// An option of the command line, and the line for which it stands.
+#[derive(Drop)]
+pub struct CommandOption {
+    pub flag: &'static str,
+    pub value: Vec<u8>,
+    pub line: usize,
+}
+
+/// The options that were found.
+#[derive(Drop)]
+struct Found {
+    options: Vec<CommandOption>,
+}
+
+impl Found {
+    fn add(&mut self, flag: &'static str, value: Vec<u8>, line: usize) -> Result<(), NoMemory> {
+        self.options.push(CommandOption { flag, value, line })?;
+        Ok(())
+    }
+
+    fn has(&self, flag: &str) -> bool {
+        for option in &self.options {
+            if option.flag == flag {
+                return true;
+            }
+        }
+        false
+    }
+
+    /// Adds a time, unless it has no end.
+    fn add_time(
+        &mut self,
+        alloc: Global,
+        plan: &Plan,
+        flag: &'static str,
+        line: Option<usize>,
+    ) -> Result<(), NoMemory> {
+        let Some(line) = line else {
+            return Ok(());
+        };
+        let time = word_at(plan.words(line), 2);
+        if self.has(flag) || read_time(time).is_err() {
+            return Ok(());
+        }
+        self.add(flag, copy_text(alloc, time)?, line)
+    }
+
+    /// Adds a number, but no more than `most`.
+    fn add_number(
+        &mut self,
+        alloc: Global,
+        flag: &'static str,
+        most: u64,
+        number: Option<u64>,
+        line: usize,
+    ) -> Result<(), NoMemory> {
+        match number {
+            Some(number) if number > 0 && !self.has(flag) => {
+                let mut value = Vec::new(alloc);
+                push_decimal(&mut value, number.min(most))?;
+                self.add(flag, value, line)
+            }
+            _ => Ok(()),
+        }
+    }
+}
+
+/// The timeouts of the frontend and the backend.
+fn add_times(
+    alloc: Global,
+    plan: &Plan,
+    found: &mut Found,
+    frontend: usize,
+) -> Result<(), NoMemory> {
+    let backend = plan.backend.unwrap_or(frontend);
+    found.add_time(
+        alloc,
+        plan,
+        TIMEOUT_CONNECT,
+        plan.effective(backend, "timeout", "connect"),
+    )?;
+    // In mode tcp a tunnel begins at once, and its timeout takes the place of both.
+    let tunnel = plan.effective(backend, "timeout", "tunnel");
+    found.add_time(alloc, plan, TIMEOUT_CLIENT, tunnel)?;
+    found.add_time(alloc, plan, TIMEOUT_SERVER, tunnel)?;
+    found.add_time(
+        alloc,
+        plan,
+        TIMEOUT_CLIENT,
+        plan.effective(frontend, "timeout", "client"),
+    )?;
+    found.add_time(
+        alloc,
+        plan,
+        TIMEOUT_SERVER,
+        plan.effective(backend, "timeout", "server"),
+    )?;
+    found.add_time(
+        alloc,
+        plan,
+        TIMEOUT_FIN,
+        plan.effective(frontend, "timeout", "client-fin"),
+    )?;
+    found.add_time(
+        alloc,
+        plan,
+        TIMEOUT_FIN,
+        plan.effective(backend, "timeout", "server-fin"),
+    )
+}
+
+/// A limit of connections, and its line.
+#[derive(Clone, Copy)]
+struct Limit {
+    most: u64,
+    line: usize,
+}
+
+/// The smaller of two limits; one of 0 is none.
+fn smaller(limit: Option<Limit>, word: &[u8], line: usize) -> Option<Limit> {
+    let Some(most) = read_number(word) else {
+        return limit;
+    };
+    if most == 0 {
+        return limit;
+    }
+    match limit {
+        Some(other) if other.most <= most => limit,
+        _ => Some(Limit { most, line }),
+    }
+}
+
+/// The smallest limit of connections.
+fn connection_limit(plan: &Plan, frontend: usize) -> Option<Limit> {
+    let mut limit = None;
+    for section in &plan.sections {
+        if section.kind == Kind::Global {
+            for number in section.first..section.end {
+                let words = plan.words(number);
+                if begins(words, "maxconn", "") {
+                    limit = smaller(limit, word_at(words, 1), number);
+                }
+            }
+        }
+    }
+    if let Some(line) = plan.effective(frontend, "maxconn", "") {
+        limit = smaller(limit, word_at(plan.words(line), 1), line);
+    }
+    if let Some(line) = kept_server(plan)
+        && let Some(value) = option_value(plan.words(line), "maxconn")
+    {
+        limit = smaller(limit, value, line);
+    }
+    if let Some(line) = first_bind(plan)
+        && let Some(value) = option_value(plan.words(line), "maxconn")
+    {
+        limit = smaller(limit, value, line);
+    }
+    limit
+}
+
+/// What lines of `global` say.
+fn add_global(alloc: Global, plan: &Plan, found: &mut Found) -> Result<(), NoMemory> {
+    for section in &plan.sections {
+        if section.kind != Kind::Global {
+            continue;
+        }
+        for number in section.first..section.end {
+            add_global_line(alloc, plan.words(number), number, found)?;
+        }
+    }
+    Ok(())
+}
+
+/// What a line of `global` says.
+fn add_global_line(
+    alloc: Global,
+    words: &[Vec<u8>],
+    line: usize,
+    found: &mut Found,
+) -> Result<(), NoMemory> {
+    if !begins(words, "nbthread", "") {
+        return Ok(());
+    }
+    match read_number(word_at(words, 1)) {
+        Some(threads) if threads <= MOST_THREADS => {
+            found.add_number(alloc, THREADS, MOST_THREADS, Some(threads), line)
+        }
+        _ => Ok(()),
+    }
+}
+
+/// The line that asks for keepalive of connections, if any.
+fn keepalive_line(plan: &Plan, frontend: usize) -> Option<usize> {
+    let backend = plan.backend.unwrap_or(frontend);
+    for (place, name) in [
+        (frontend, "tcpka"),
+        (frontend, "clitcpka"),
+        (backend, "tcpka"),
+        (backend, "srvtcpka"),
+    ] {
+        if let Some(line) = plan.effective(place, "option", name) {
+            return Some(line);
+        }
+    }
+    None
+}
+
+/// After how long a silent peer is asked, as a line says, where a number alone is one of seconds; else as systems do.
+fn keepalive_time(alloc: Global, plan: &Plan, frontend: usize) -> Result<Vec<u8>, NoMemory> {
+    let backend = plan.backend.unwrap_or(frontend);
+    let line = match plan.effective(frontend, "clitcpka-idle", "") {
+        Some(line) => Some(line),
+        None => plan.effective(backend, "srvtcpka-idle", ""),
+    };
+    let Some(line) = line else {
+        return text_of(alloc, USUAL_KEEPALIVE);
+    };
+    let mut time = copy_text(alloc, word_at(plan.words(line), 1))?;
+    if read_number(time.as_slice()).is_some() {
+        time.push(b's')?;
+    }
+    if read_time(time.as_slice()).is_err() {
+        return text_of(alloc, USUAL_KEEPALIVE);
+    }
+    Ok(time)
+}
+
+/// Keepalive and the backlog.
+fn add_sockets(
+    alloc: Global,
+    plan: &Plan,
+    found: &mut Found,
+    frontend: usize,
+) -> Result<(), NoMemory> {
+    if let Some(line) = keepalive_line(plan, frontend) {
+        found.add(KEEPALIVE, keepalive_time(alloc, plan, frontend)?, line)?;
+    }
+    if let Some(line) = plan.effective(frontend, "backlog", "") {
+        let number = read_number(word_at(plan.words(line), 1));
+        found.add_number(alloc, BACKLOG, MOST_BACKLOG, number, line)?;
+    }
+    if let Some(line) = first_bind(plan)
+        && let Some(value) = option_value(plan.words(line), "backlog")
+    {
+        found.add_number(alloc, BACKLOG, MOST_BACKLOG, read_number(value), line)?;
+    }
+    Ok(())
+}
+
+/// The options that stand for lines of a file.
+pub fn command_options(alloc: Global, plan: &Plan) -> Result<Vec<CommandOption>, NoMemory> {
+    let mut found = Found {
+        options: Vec::new(alloc),
+    };
+    add_global(alloc, plan, &mut found)?;
+    let Some(frontend) = plan.frontend else {
+        return Ok(found.options);
+    };
+    if let Some(limit) = connection_limit(plan, frontend) {
+        let most = Some(limit.most);
+        found.add_number(alloc, CONNECTIONS, MOST_CONNECTIONS, most, limit.line)?;
+    }
+    add_times(alloc, plan, &mut found, frontend)?;
+    add_sockets(alloc, plan, &mut found, frontend)?;
+    let Found { options } = found;
+    Ok(options)
+}
+
+/// Whether a line's keyword is one for which options may stand.
+pub(crate) fn is_limit(keyword: &[u8]) -> bool {
+    is_word(keyword, "maxconn")
+}

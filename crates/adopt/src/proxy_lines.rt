@@ -1,0 +1,271 @@
+//! What becomes of the other lines of a proxy.
+
+use crate::actions::add_words;
+use crate::addresses::endpoints_of;
+use crate::criteria::{behind_two, convert_criterion};
+use crate::fates::{Fate, FateKind, left};
+use crate::keywords::{is_one_of, left_out};
+use crate::lexer::SourceLine;
+use crate::listeners::{convert_bind, first_bind};
+use crate::options::is_limit;
+use crate::plan::{Plan, begins};
+use crate::reasons::{Refusal, Why};
+use crate::roles::{Role, has_rules_of, role_of};
+use crate::rule_lines::of_rule;
+use crate::rules::{is_waiting, phase_of};
+use crate::sections::Section;
+use crate::servers::{convert_server, kept_server, server_loss, servers_of};
+use crate::standing::{of_converted, two_words, written};
+use crate::tables::convert_table;
+use crate::texts::{is_word, word_at};
+use base_sequence::NoMemory;
+use rule_words::read_time;
+use std::alloc::Global;
+
+/// What becomes of an ACL.
+fn of_acl(alloc: Global, plan: &Plan, origin: usize, line: &SourceLine) -> Result<Fate, NoMemory> {
+    let words = line.words.as_slice();
+    let criterion = match convert_criterion(alloc, plan, origin, behind_two(words)) {
+        Ok(criterion) => criterion,
+        Err(Refusal::OutOfMemory) => return Err(NoMemory),
+        Err(Refusal::Lost(_)) => return left(alloc, FateKind::Harmless, Why::AclOfLostRule),
+    };
+    let mut converted = two_words(alloc, "acl", word_at(words, 1))?;
+    add_words(alloc, &mut converted, criterion.as_slice())?;
+    written(alloc, line, converted.as_slice(), None)
+}
+
+/// What becomes of a line `bind`.
+fn of_bind(alloc: Global, plan: &Plan, number: usize, line: &SourceLine) -> Result<Fate, NoMemory> {
+    if first_bind(plan) == Some(number) {
+        return of_converted(alloc, line, convert_bind(alloc, line.words.as_slice()));
+    }
+    let why = match endpoints_of(alloc, word_at(line.words.as_slice(), 1)) {
+        Ok(_) => Why::OneListener,
+        Err(Refusal::OutOfMemory) => return Err(NoMemory),
+        Err(Refusal::Lost(why)) => why,
+    };
+    left(alloc, FateKind::Lost, why)
+}
+
+/// What becomes of a line that names a backend.
+fn of_backend_name(
+    alloc: Global,
+    plan: &Plan,
+    number: usize,
+    line: &SourceLine,
+) -> Result<Fate, NoMemory> {
+    if plan.names_backend != Some(number) {
+        let is_default = begins(line.words.as_slice(), "default_backend", "");
+        let kind = if is_default {
+            FateKind::Harmless
+        } else {
+            FateKind::Lost
+        };
+        return left(
+            alloc,
+            kind,
+            if is_default {
+                Why::Overruled
+            } else {
+                Why::ServerChoice
+            },
+        );
+    }
+    let Some(backend) = plan.backend else {
+        return left(alloc, FateKind::Lost, Why::ServerChoice);
+    };
+    let words = two_words(alloc, "default_backend", plan.new_name(backend))?;
+    written(alloc, line, words.as_slice(), None)
+}
+
+/// What becomes of a line of the frontend that only a frontend has. None where it is another line.
+fn of_frontend(
+    alloc: Global,
+    plan: &Plan,
+    place: usize,
+    number: usize,
+    line: &SourceLine,
+) -> Result<Option<Fate>, NoMemory> {
+    let words = line.words.as_slice();
+    let keyword = word_at(words, 0);
+    if is_word(keyword, "bind") {
+        return Ok(Some(of_bind(alloc, plan, number, line)?));
+    }
+    if is_word(keyword, "acl") {
+        return Ok(Some(of_acl(alloc, plan, place, line)?));
+    }
+    if is_waiting(words) {
+        return Ok(Some(left(alloc, FateKind::Harmless, Why::InspectDelay)?));
+    }
+    if phase_of(words).is_some() {
+        return Ok(Some(of_rule(alloc, plan, number, line)?));
+    }
+    if is_word(keyword, "default_backend") || is_word(keyword, "use_backend") {
+        return Ok(Some(of_backend_name(alloc, plan, number, line)?));
+    }
+    Ok(None)
+}
+
+/// What becomes of a server.
+fn of_server(
+    alloc: Global,
+    plan: &Plan,
+    number: usize,
+    line: &SourceLine,
+) -> Result<Fate, NoMemory> {
+    let words = line.words.as_slice();
+    if kept_server(plan) == Some(number) {
+        return of_converted(alloc, line, convert_server(alloc, plan, words));
+    }
+    let (count, first) = servers_of(plan);
+    if count <= 1 && first.is_some() {
+        return left(alloc, FateKind::Harmless, Why::OneServer);
+    }
+    left(alloc, FateKind::Lost, Why::OtherServer)
+}
+
+/// What becomes of an ACL of the backend: it stands in the frontend where rules of the backend do.
+fn of_backend_acl(alloc: Global, plan: &Plan) -> Result<Fate, NoMemory> {
+    match plan.backend {
+        Some(backend) if has_rules_of(plan, backend) => {
+            left(alloc, FateKind::Moved, Why::MovedBelow)
+        }
+        _ => left(alloc, FateKind::Harmless, Why::NothingToSay),
+    }
+}
+
+/// What becomes of a line of the backend that only a backend has. None where it is another line.
+fn of_backend(
+    alloc: Global,
+    plan: &Plan,
+    number: usize,
+    line: &SourceLine,
+) -> Result<Option<Fate>, NoMemory> {
+    let words = line.words.as_slice();
+    let keyword = word_at(words, 0);
+    if is_word(keyword, "server") {
+        return Ok(Some(of_server(alloc, plan, number, line)?));
+    }
+    if is_word(keyword, "dispatch") {
+        return Ok(Some(of_converted(alloc, line, convert_server(alloc, plan, words))?));
+    }
+    if is_word(keyword, "default-server") {
+        return Ok(Some(match server_loss(words, 1) {
+            Some(why) => left(alloc, FateKind::Lost, why)?,
+            None => left(alloc, FateKind::Harmless, Why::NoChecks)?,
+        }));
+    }
+    if is_waiting(words) {
+        return Ok(Some(left(alloc, FateKind::Harmless, Why::InspectDelay)?));
+    }
+    if phase_of(words).is_some() {
+        return Ok(Some(of_rule(alloc, plan, number, line)?));
+    }
+    if is_word(keyword, "acl") {
+        return Ok(Some(of_backend_acl(alloc, plan)?));
+    }
+    if is_word(keyword, "use_backend") || is_word(keyword, "default_backend") {
+        return Ok(Some(left(alloc, FateKind::Harmless, Why::Overruled)?));
+    }
+    if is_word(keyword, "bind") {
+        return Ok(Some(left(alloc, FateKind::Harmless, Why::NotServed)?));
+    }
+    Ok(None)
+}
+
+/// What becomes of a line that any proxy may have.
+fn of_any(alloc: Global, section: &Section, line: &SourceLine) -> Result<Fate, NoMemory> {
+    let words = line.words.as_slice();
+    let keyword = word_at(words, 0);
+    if is_word(keyword, "mode") {
+        if is_word(word_at(words, 1), "tcp") {
+            let two = two_words(alloc, "mode", b"tcp")?;
+            return written(alloc, line, two.as_slice(), None);
+        }
+        return left(alloc, FateKind::Lost, Why::HttpMode);
+    }
+    if is_word(keyword, "stick-table") {
+        return of_converted(alloc, line, convert_table(alloc, words));
+    }
+    if is_word(keyword, "timeout") {
+        let is_known = is_one_of(
+            word_at(words, 1),
+            &[
+                "connect",
+                "client",
+                "server",
+                "tunnel",
+                "client-fin",
+                "server-fin",
+            ],
+        );
+        let why = if !is_known {
+            Why::NoTimeout
+        } else if read_time(word_at(words, 2)).is_err() {
+            Why::NeverEnds
+        } else {
+            Why::Overruled
+        };
+        return left(alloc, FateKind::Harmless, why);
+    }
+    if is_limit(keyword) {
+        return left(alloc, FateKind::Harmless, Why::LargerLimit);
+    }
+    if is_word(keyword, "retries") {
+        return left(alloc, FateKind::Harmless, Why::NoRetries);
+    }
+    if is_word(keyword, "backlog") {
+        return left(alloc, FateKind::Harmless, Why::Overruled);
+    }
+    let why = left_out(keyword, word_at(words, 1));
+    let matters = why.matters || (section.is_http && matches!(why.why, Why::NeedsHttp));
+    let reason = if matters && matches!(why.why, Why::NeedsHttp) {
+        Why::HttpMode
+    } else {
+        why.why
+    };
+    left(
+        alloc,
+        if matters {
+            FateKind::Lost
+        } else {
+            FateKind::Harmless
+        },
+        reason,
+    )
+}
+
+/// What becomes of a line of a proxy.
+pub(crate) fn of_proxy_line(
+    alloc: Global,
+    plan: &Plan,
+    place: usize,
+    number: usize,
+    line: &SourceLine,
+) -> Result<Fate, NoMemory> {
+    let Some(section) = plan.section(place) else {
+        return left(alloc, FateKind::Harmless, Why::NotServed);
+    };
+    let role = role_of(plan, place);
+    if role == Role::Table && begins(line.words.as_slice(), "stick-table", "") {
+        return of_converted(alloc, line, convert_table(alloc, line.words.as_slice()));
+    }
+    if role == Role::Table {
+        return left(alloc, FateKind::Harmless, Why::TableOnly);
+    }
+    if role == Role::None {
+        return left(alloc, FateKind::Harmless, Why::NotServed);
+    }
+    if (role == Role::Frontend || role == Role::Both)
+        && let Some(fate) = of_frontend(alloc, plan, place, number, line)?
+    {
+        return Ok(fate);
+    }
+    if (role == Role::Backend || role == Role::Both)
+        && let Some(fate) = of_backend(alloc, plan, number, line)?
+    {
+        return Ok(fate);
+    }
+    of_any(alloc, section, line)
+}

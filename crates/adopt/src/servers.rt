@@ -1,0 +1,136 @@
+//! Lines `server`: where accepted connections go.
+
+use crate::addresses::server_endpoint;
+use crate::keywords::{SERVER_FLAGS, SERVER_VALUES, is_one_of};
+use crate::listeners::listener_port;
+use crate::plan::{Plan, begins};
+use crate::reasons::{Refusal, Why};
+use crate::rules::Converted;
+use crate::texts::{Words, copy_text, is_word, text_of, word_at};
+use std::alloc::Global;
+
+/// Options of TLS towards a server that are followed by a value.
+const TLS_VALUES: [&str; 12] = [
+    "verify",
+    "verifyhost",
+    "ca-file",
+    "crl-file",
+    "crt",
+    "sni",
+    "alpn",
+    "npn",
+    "ciphers",
+    "ciphersuites",
+    "ssl-min-ver",
+    "ssl-max-ver",
+];
+
+fn has_word(words: &[Vec<u8>], wanted: &str) -> bool {
+    for word in words {
+        if is_word(word.as_slice(), wanted) {
+            return true;
+        }
+    }
+    false
+}
+
+/// Whether a line is of a server that HAProxy uses.
+fn is_server(words: &[Vec<u8>]) -> bool {
+    begins(words, "server", "") && !has_word(words, "disabled")
+}
+
+/// How many servers the served backend has, and which line has the one that comes first: the first that is no backup.
+pub(crate) fn servers_of(plan: &Plan) -> (usize, Option<usize>) {
+    let Some(section) = plan.backend.and_then(|place| plan.section(place)) else {
+        return (0, None);
+    };
+    let mut count = 0usize;
+    let mut first = None;
+    let mut backup = None;
+    for number in section.first..section.end {
+        let words = plan.words(number);
+        if !is_server(words) {
+            continue;
+        }
+        count = count.saturating_add(1);
+        if first.is_none() && !has_word(words, "backup") {
+            first = Some(number);
+        }
+        if backup.is_none() {
+            backup = Some(number);
+        }
+    }
+    (count, first.or(backup))
+}
+
+/// The line of the server that is kept: the only one, or the first where that is wished.
+pub(crate) fn kept_server(plan: &Plan) -> Option<usize> {
+    let (count, first) = servers_of(plan);
+    if count <= 1 || plan.first_server {
+        first
+    } else {
+        None
+    }
+}
+
+/// What a server's option loses, by its word.
+fn loss_of(word: &[u8]) -> Why {
+    if word.starts_with(b"send-proxy".as_slice()) || is_word(word, "set-proxy-v2-tlv-fmt") {
+        return Why::ProxyProtocol;
+    }
+    if is_word(word, "ssl") {
+        return Why::Tls;
+    }
+    if is_word(word, "source") || is_word(word, "usesrc") {
+        return Why::SourceAddress;
+    }
+    Why::ServerWords
+}
+
+/// What the options from a place on lose that changes what is served.
+pub(crate) fn server_loss(words: &[Vec<u8>], from: usize) -> Option<Why> {
+    let mut skips = false;
+    let mut loss = None;
+    for (place, word) in words.iter().enumerate() {
+        let word = word.as_slice();
+        if place < from || skips {
+            skips = false;
+            continue;
+        }
+        skips = is_one_of(word, &SERVER_VALUES)
+            || is_one_of(word, &TLS_VALUES)
+            || is_word(word, "maxconn");
+        if !skips && !is_one_of(word, &SERVER_FLAGS) && loss.is_none() {
+            loss = Some(loss_of(word));
+        }
+    }
+    loss
+}
+
+/// A server's line in stickd's spelling.
+pub(crate) fn convert_server(
+    alloc: Global,
+    plan: &Plan,
+    words: &[Vec<u8>],
+) -> Result<Converted, Refusal> {
+    let is_dispatch = begins(words, "dispatch", "");
+    let name = if is_dispatch {
+        b"dispatch"
+    } else {
+        word_at(words, 1)
+    };
+    let address = if is_dispatch {
+        word_at(words, 1)
+    } else {
+        word_at(words, 2)
+    };
+    let endpoint = server_endpoint(alloc, address, listener_port(alloc, plan))?;
+    let mut written: Words = Vec::new(alloc);
+    written.push(text_of(alloc, "server")?)?;
+    written.push(copy_text(alloc, name)?)?;
+    written.push(endpoint)?;
+    Ok(Converted {
+        words: written,
+        altered: server_loss(words, if is_dispatch { 2 } else { 3 }),
+    })
+}

@@ -1,0 +1,15 @@
+//! Moments in ms, from 0 to `MAX_MOMENT`, and the clocks that tell them.
+//!
+//! A clock that runs: the moments of a program that serves.
+#![tactic(auto)]
+
+mod clock;
+mod running_clock;
+mod stopped_clock;
+
+pub use clock::Clock;
+pub use running_clock::RunningClock;
+pub use stopped_clock::StoppedClock;
+
+/// The greatest moment, in ms.
+pub const MAX_MOMENT: u64 = (1 << 62) - 1;

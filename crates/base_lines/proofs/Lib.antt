@@ -1,0 +1,6 @@
+pub mod PartLemmas
+pub mod WordLemmas
+pub mod LineLemmas
+pub mod NumberLemmas
+pub mod ChainLemmas
+pub mod ServiceLemmas

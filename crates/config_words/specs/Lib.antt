@@ -1,5 +1,0 @@
-pub mod Lines
-pub mod Names
-pub mod Numbers
-pub mod Table
-pub mod Examples

@@ -1,7 +1,0 @@
-use Rattle.std.proofs.Common.{sym, ap}
-use Rattle.expiry_order.specs.Queue.{queue}
-use Rattle.entry_store.proofs.QueueLemmas.{without_absent}
-use Rattle.entry_store.proofs.leave.Goals as goal
-
-pub returns-else-refs-eq0 : goal.returns-else-refs-eq0
-returns-else-refs-eq0 c = ap (queue c.args.order.now.capacity) (sym (without_absent c.args.order.now.slots c.args.slot (c.requires.outside c.if-refs-eq0.false)))

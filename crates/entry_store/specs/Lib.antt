@@ -1,3 +1,0 @@
-pub mod Stock
-pub mod Parts
-pub mod Slots

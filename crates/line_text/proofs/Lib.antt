@@ -1,5 +1,0 @@
-pub mod PartLemmas
-pub mod WordLemmas
-pub mod LineLemmas
-pub mod NumberLemmas
-pub mod ChainLemmas

@@ -1,4 +1,0 @@
-use Rattle.pooled_table.proofs.StickTable.answer_twice.Goals as goal
-
-pub returns-in-List-clause-ok : goal.returns-in-List-clause-ok
-returns-in-List-clause-ok c = rw c.in-List.is c.list_twice.ensures.ok

@@ -1,5 +1,0 @@
-use Rattle.pooled_table.proofs.DispatchLemmas.{step-answered}
-use Rattle.pooled_table.proofs.StickTableTable.step.Goals as goal
-
-pub returns-in-Ok-clause-ok : goal.returns-in-Ok-clause-ok
-returns-in-Ok-clause-ok c = step-answered c.args.self.now c.args.event.now c.in-Ok.reply c.answer.new.self c.in_default.ensures.0 c.in-Ok.ensures.ok c.in-Ok.ensures.free

@@ -1,5 +1,0 @@
-use Rattle.std.proofs.Common.{vec_len}
-use Rattle.proxy_tests.proofs.tables.give_up.Given as goal
-
-abbrev pub decreases-loop-reference : goal.decreases-loop-reference
-decreases-loop-reference l = vec_len l.refs

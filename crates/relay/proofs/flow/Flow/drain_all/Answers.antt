@@ -1,9 +1,0 @@
-use Rattle.std.proofs.Common.{rules}
-use Rattle.relay.proofs.CarryLemmas.{written_more}
-use Rattle.relay.proofs.flow.Flow.drain_all.Goals as goal
-
-pub loop-self-preserved : goal.loop-self-preserved
-loop-self-preserved g c = record {
-  bytes = written_more _ _ _ _ _ _ _ _ c.loop-self.invariant.bytes c.in_ok-drain.ensures.ok;
-  failures = search rules;
-}

@@ -1,5 +1,0 @@
-use Rattle.relay.proofs.MoveLemmas.{moved_twice}
-use Rattle.relay.proofs.laws.join.Goals as goal
-
-pub returns : goal.returns
-returns g c = moved_twice g.R.ReadySource.tells g.W.ReadySink.tells

@@ -1,3 +1,0 @@
-pub mod BraceLemmas
-pub mod SentenceLemmas
-pub mod ConditionLemmas

@@ -1,6 +1,0 @@
-use Rattle.std.proofs.Common.{◌≡◌, false, is_some}
-use Rattle.admit_core.specs.Conn.{progress_of}
-use Rattle.rule_tests.proofs.lives.lives.Given as goal
-
-abbrev pub invariant-loop-want : goal.invariant-loop-want
-invariant-loop-want l = is_some (progress_of l.conn).given ≡ false

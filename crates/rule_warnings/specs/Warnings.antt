@@ -1,0 +1,77 @@
+-- What is to be said as the proxy starts.
+use Rattle.std.specs.Prelude.{ℕ, ◌+◌, ◌*◌, ◌-◌, ◌/◌, nat_le, nat_lt, not, ◌&&◌, ◌||◌, if◌then◌else◌, List, [], ◌∷◌, ◌++◌, Option, Some, None}
+use Rattle.std.specs.List.{filter_map}
+use Rattle.std.specs.Option.{option_map}
+use Rattle.rule_model.specs.declared.actions.Slot.{Slot}
+use Rattle.rule_model.specs.declared.actions.Slot.TheVariants.{Sc0, Sc1, Sc2}
+use Rattle.rule_model.specs.declared.sections.NamedSpec.{NamedSpec}
+use Rattle.rule_model.specs.declared.sections.Setup.{Setup}
+use Rattle.rule_warnings.specs.Limits.{failing, is_always_tracked}
+use Rattle.rule_warnings.specs.declared.descriptors.StartPlan.{StartPlan}
+use Rattle.rule_warnings.specs.declared.warning.Warning.{Warning}
+use Rattle.rule_warnings.specs.declared.warning.Warning.TheVariants.{FewDescriptors, NoTimeout, FailsOpen, WideShards}
+
+-- ---- descriptors
+
+-- two for each connection, three for each thread, the listener, the command socket and its clients, the three standard
+-- streams, and ten to spare
+abbrev pub descriptors_wanted : StartPlan → ℕ
+descriptors_wanted plan = 2 * plan.connections + 3 * plan.threads + 1 + 1 + plan.socket_clients + 3 + 10
+
+abbrev pub few_of : StartPlan → Option ℕ → Option Warning
+few_of plan None = None
+few_of plan (Some allowed) =
+    if nat_lt allowed (descriptors_wanted plan) then Some (FewDescriptors (descriptors_wanted plan) allowed plan.connections plan.threads) else None
+
+abbrev pub descriptor_warning : StartPlan → Option Warning
+descriptor_warning plan = few_of plan plan.descriptors
+
+-- ---- timeouts
+
+abbrev pub timeout_warning : StartPlan → Option Warning
+timeout_warning plan =
+    if plan.has_client_timeout && plan.has_server_timeout then None else Some (NoTimeout (not plan.has_client_timeout) (not plan.has_server_timeout))
+
+-- ---- limits
+
+unfoldable pub limit_warning : ℕ → Setup → Slot → NamedSpec → Option Warning
+limit_warning connections setup slot named =
+    option_map (λ shortage. FailsOpen slot named.name (is_always_tracked named.name slot setup.rules) shortage)
+    (failing connections setup.shards setup.rules slot named)
+
+abbrev pub limit_warnings : ℕ → Setup → Slot → List Warning
+limit_warnings connections setup slot = filter_map (limit_warning connections setup slot) setup.tables
+
+-- ---- shards
+
+-- how many places a shard has at most, so that its lock isn't held for long
+abbrev pub most_places : ℕ
+most_places = 102400
+
+-- in how many shards none has more, of at most 64
+abbrev pub shards_for : ℕ → Option ℕ
+shards_for size = if nat_le size (64 * most_places) then Some ((size + (most_places - 1)) / most_places) else None
+
+abbrev pub shard_warning : ℕ → NamedSpec → Option Warning
+shard_warning shards named =
+    if nat_lt (shards * most_places) named.spec.size then
+    Some (WideShards named.name ((named.spec.size + (shards - 1)) / shards) (shards_for named.spec.size))
+    else
+    None
+
+abbrev pub shard_warnings : Setup → List Warning
+shard_warnings setup = filter_map (shard_warning setup.shards) setup.tables
+
+-- ---- all
+
+-- of the tables, for so many connections: the limits by sc0, sc1 and sc2, and the shards, each in order of declaration
+abbrev pub table_warnings : ℕ → Setup → List Warning
+table_warnings connections setup =
+    limit_warnings connections setup Sc0 ++ limit_warnings connections setup Sc1 ++ limit_warnings connections setup Sc2 ++ shard_warnings setup
+
+abbrev pub listed : Option Warning → List Warning
+listed None = []
+listed (Some warning) = warning ∷ []
+
+abbrev pub warnings_of : Setup → StartPlan → List Warning
+warnings_of setup plan = listed (descriptor_warning plan) ++ listed (timeout_warning plan) ++ table_warnings plan.connections setup

@@ -1,0 +1,202 @@
+//! The warnings of a start, in their order.
+
+ghost use Rattle.std.specs.Prelude.{◌≡◌, ◌≤◌, ◌++◌, ◌∷◌, IfOk};
+ghost use Rattle.std.specs.List.{filter_map};
+ghost use Rattle.rule_warnings.specs.Warnings as spec;
+
+use crate::descriptors::{StartPlan, descriptors_wanted};
+use crate::limits::is_always_tracked;
+use crate::room::failing;
+use crate::warning::Warning;
+use base_sequence::{NoMemory, Sequence};
+use rule_model::{NamedSpec, Setup, Slot};
+use std::alloc::Global;
+
+/// The greatest number of places of a shard whose lock isn't held for long: `100k`, as a configuration writes it.
+const MOST_PLACES: u32 = 102_400;
+
+/// The greatest number of shards.
+const MOST_SHARDS: u32 = 64;
+
+/// The warning of too few descriptors, if there are.
+fn descriptor_warning(plan: &StartPlan) -> Option<Warning>
+    ensures { result ≡ spec.descriptor_warning plan.now }
+{
+    let Some(allowed) = plan.descriptors else {
+        return None;
+    };
+    let wanted = descriptors_wanted(plan);
+    if allowed < wanted {
+        return Some(Warning::FewDescriptors {
+            wanted,
+            allowed,
+            connections: plan.connections,
+            threads: plan.threads,
+        });
+    }
+    None
+}
+
+/// The warning of timeouts that aren't given, if one isn't.
+fn timeout_warning(plan: &StartPlan) -> Option<Warning>
+    ensures { result ≡ spec.timeout_warning plan.now }
+{
+    if plan.has_client_timeout && plan.has_server_timeout {
+        return None;
+    }
+    Some(Warning::NoTimeout {
+        client: !plan.has_client_timeout,
+        server: !plan.has_server_timeout,
+    })
+}
+
+/// The warning of a limit by a slot that fails open on a table, if it does.
+#[tactic(auto, unfolding(crate::specs::Warnings::limit_warning))]
+fn limit_warning(
+    connections: u32,
+    setup: &Setup,
+    slot: Slot,
+    named: &NamedSpec,
+) -> Result<Option<Warning>, NoMemory>
+    requires { 1 ≤ setup.now.shards }
+    ensures { IfOk result (λ warning. warning ≡ spec.limit_warning connections setup.now slot named.now) }
+{
+    let rules = setup.rules.as_slice();
+    let Some(shortage) = failing(connections, setup.shards, rules, slot, named) else {
+        return Ok(None);
+    };
+    let is_always = is_always_tracked(named.name.as_slice(), slot, rules);
+    Ok(Some(Warning::FailsOpen {
+        slot,
+        table: named.name.copy()?,
+        is_always,
+        shortage,
+    }))
+}
+
+/// In how many shards none has too many places, of at most 64, for a table of so many.
+fn shards_for(size: u32) -> Option<u32>
+    ensures { result ≡ spec.shards_for size }
+{
+    if size <= MOST_SHARDS * MOST_PLACES {
+        Some((size + (MOST_PLACES - 1)) / MOST_PLACES)
+    } else {
+        None
+    }
+}
+
+/// The warning of large shards of a table, if they are.
+fn shard_warning(shards: u32, named: &NamedSpec) -> Result<Option<Warning>, NoMemory>
+    requires { 1 ≤ shards }
+    ensures { IfOk result (λ warning. warning ≡ spec.shard_warning shards named.now) }
+{
+    let size = named.spec.size;
+    if u64::from(shards) * u64::from(MOST_PLACES) >= u64::from(size) {
+        return Ok(None);
+    }
+    let places = (u64::from(size) + (u64::from(shards) - 1)) / u64::from(shards);
+    Ok(Some(Warning::WideShards {
+        table: named.name.copy()?,
+        places,
+        shards: shards_for(size),
+    }))
+}
+
+/// Warnings, and behind them one more, if it is to be given.
+fn and_one(
+    mut warnings: Sequence<Warning>,
+    more: Option<Warning>,
+) -> Result<Sequence<Warning>, NoMemory>
+    ensures { IfOk result (λ all. all ≡ warnings ++ spec.listed more) }
+{
+    match more {
+        Some(warning) => {
+            warnings.push(warning)?;
+            Ok(warnings)
+        }
+        None => Ok(warnings),
+    }
+}
+
+/// Warnings, and behind them those of limits by a slot on some of a setup's tables.
+fn and_limits(
+    warnings: Sequence<Warning>,
+    connections: u32,
+    setup: &Setup,
+    slot: Slot,
+    tables: &[NamedSpec],
+) -> Result<Sequence<Warning>, NoMemory>
+    requires { 1 ≤ setup.now.shards }
+    ensures { IfOk result (λ all. all ≡ warnings ++ filter_map (spec.limit_warning connections setup.now slot) tables.now) }
+{
+    let mut all = warnings;
+    for named in tables {
+        let Some(warning) = limit_warning(connections, setup, slot, named)? else {
+            continue;
+        };
+        all.push(warning)?;
+    }
+    Ok(all)
+}
+
+/// Warnings, and behind them those of large shards of some tables.
+fn and_shards(
+    warnings: Sequence<Warning>,
+    shards: u32,
+    tables: &[NamedSpec],
+) -> Result<Sequence<Warning>, NoMemory>
+    requires { 1 ≤ shards }
+    ensures { IfOk result (λ all. all ≡ warnings ++ filter_map (spec.shard_warning shards) tables.now) }
+{
+    let mut all = warnings;
+    for named in tables {
+        let Some(warning) = shard_warning(shards, named)? else {
+            continue;
+        };
+        all.push(warning)?;
+    }
+    Ok(all)
+}
+
+/// Warnings, and behind them those of the tables.
+fn and_tables(
+    warnings: Sequence<Warning>,
+    setup: &Setup,
+    connections: u32,
+) -> Result<Sequence<Warning>, NoMemory>
+    requires { 1 ≤ setup.now.shards }
+    ensures { IfOk result (λ all. all ≡ warnings ++ spec.table_warnings connections setup.now) }
+{
+    let tables = setup.tables.as_slice();
+    let warnings = and_limits(warnings, connections, setup, Slot::Sc0, tables)?;
+    let warnings = and_limits(warnings, connections, setup, Slot::Sc1, tables)?;
+    let warnings = and_limits(warnings, connections, setup, Slot::Sc2, tables)?;
+    and_shards(warnings, setup.shards, tables)
+}
+
+/// What is to be said of the tables of a setup, for so many connections at once at most: limits that let in what their table
+/// has no room for, by `sc0`, `sc1` and `sc2`; then large shards; each in order of declaration.
+pub fn table_warnings(
+    alloc: Global,
+    setup: &Setup,
+    connections: u32,
+) -> Result<Sequence<Warning>, NoMemory>
+    requires { 1 ≤ setup.now.shards }
+    ensures { IfOk result (λ warnings. warnings ≡ spec.table_warnings connections setup.now) }
+{
+    and_tables(Sequence::new(alloc), setup, connections)
+}
+
+/// What is to be said as the proxy of a setup starts: of descriptors, of timeouts, and of its tables.
+pub fn warnings_of(
+    alloc: Global,
+    setup: &Setup,
+    plan: StartPlan,
+) -> Result<Sequence<Warning>, NoMemory>
+    requires { 1 ≤ setup.now.shards }
+    ensures { IfOk result (λ warnings. warnings ≡ spec.warnings_of setup.now plan) }
+{
+    let warnings = and_one(Sequence::new(alloc), descriptor_warning(&plan))?;
+    let warnings = and_one(warnings, timeout_warning(&plan))?;
+    and_tables(warnings, setup, plan.connections)
+}

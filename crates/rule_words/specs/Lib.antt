@@ -1,0 +1,12 @@
+pub mod Lines
+pub mod Names
+pub mod Numbers
+pub mod Table
+pub mod Examples
+pub mod ElementNames
+pub mod TermNames
+pub mod Values
+pub mod Conditions
+pub mod Drafts
+pub mod Sentences
+pub mod TermExamples

@@ -1,5 +1,0 @@
-use Rattle.script.proofs.KeyLemmas.{keys_law}
-use Rattle.script.proofs.laws.keys.Goals as goal
-
-pub returns : goal.returns
-returns c = keys_law

@@ -1,5 +1,0 @@
-use Rattle.script.proofs.UnrefusedLemmas.{one_output_law}
-use Rattle.script.proofs.laws.one_output.Goals as goal
-
-pub returns : goal.returns
-returns c = one_output_law c.reads_one_key.ensures

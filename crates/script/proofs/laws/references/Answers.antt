@@ -1,5 +1,0 @@
-use Rattle.script.proofs.ServedLemmas.{references_law}
-use Rattle.script.proofs.laws.references.Goals as goal
-
-pub returns : goal.returns
-returns c = references_law

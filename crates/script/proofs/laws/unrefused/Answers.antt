@@ -1,5 +1,0 @@
-use Rattle.script.proofs.UnrefusedLemmas.{unrefused_law}
-use Rattle.script.proofs.laws.unrefused.Goals as goal
-
-pub returns : goal.returns
-returns c = unrefused_law

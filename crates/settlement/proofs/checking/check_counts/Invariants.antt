@@ -1,8 +1,0 @@
-use Rattle.std.proofs.Common.{◌≡◌, ◌<◌, ℕ, Some}
-use Rattle.std.specs.Prelude.{slice_get}
-use Rattle.shard_book.specs.BookState.{BookState}
-use Rattle.settlement.specs.Settled.{IsCounted}
-use Rattle.settlement.proofs.checking.check_counts.Given as goal
-
-abbrev pub invariant-loop-shard : goal.invariant-loop-shard
-invariant-loop-shard g l = (k : ℕ) (book : BookState) → k < l.shard → slice_get l.books k ≡ Some book → IsCounted l.seats l.refs k book

@@ -1,9 +1,0 @@
-use Rattle.std.proofs.Common.{◌≡◌, ◌<◌, ℕ, Some}
-use Rattle.std.specs.Prelude.{slice_get}
-use Rattle.table_model.specs.declared.specification.Spec.{Spec}
-use Rattle.shard_book.specs.BookState.{BookState}
-use Rattle.settlement.specs.Settled.{IsRecorded}
-use Rattle.settlement.proofs.checking.check_records.Given as goal
-
-abbrev pub invariant-loop-shard : goal.invariant-loop-shard
-invariant-loop-shard g l = (k : ℕ) (book : BookState) (part : Spec) → k < l.shard → slice_get l.books k ≡ Some book → slice_get l.specs k ≡ Some part → IsRecorded part l.keep l.seats k book

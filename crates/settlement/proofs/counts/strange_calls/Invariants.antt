@@ -1,7 +1,0 @@
-use Rattle.std.proofs.Common.{◌≡◌, ◌≤◌, ◌<◌, ℕ}
-use Rattle.settlement.specs.Settled.{calls_made}
-use Rattle.settlement.proofs.counts.strange_calls.Given as goal
-
--- so far the seats have called no other
-abbrev pub invariant-loop-shard : goal.invariant-loop-shard
-invariant-loop-shard l = (other : ℕ) → l.shards ≤ other → other < l.shard → calls_made l.seats other ≡ 0

@@ -1,7 +1,0 @@
-use Rattle.std.proofs.Common.{drop}
-use Rattle.settlement.specs.Settled.{AreOfShards}
-use Rattle.settlement.proofs.counts.strange_reference.Given as goal
-
--- where those that are left are of the shards, all are
-abbrev pub invariant-loop-reference : goal.invariant-loop-reference
-invariant-loop-reference l = AreOfShards l.shards (drop l.reference-index l.refs) → AreOfShards l.shards l.refs

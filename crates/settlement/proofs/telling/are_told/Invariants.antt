@@ -1,6 +1,0 @@
-use Rattle.std.proofs.Common.{take}
-use Rattle.settlement.specs.Settled.{AreTold}
-use Rattle.settlement.proofs.telling.are_told.Given as goal
-
-abbrev pub invariant-loop-seat : goal.invariant-loop-seat
-invariant-loop-seat l = AreTold l.shard (take l.seat-index l.seats) l.calls l.replies

@@ -1,6 +1,0 @@
-use Rattle.std.proofs.Common.{◌≡◌, drop}
-use Rattle.shard_seats.specs.SeatState.{receipts_at}
-use Rattle.settlement.proofs.telling.next_at.Given as goal
-
-abbrev pub invariant-loop-place : goal.invariant-loop-place
-invariant-loop-place l = receipts_at l.shard (drop l.from l.receipts) ≡ receipts_at l.shard (drop l.place l.receipts)

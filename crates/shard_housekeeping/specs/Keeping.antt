@@ -1,0 +1,83 @@
+-- What housekeeping does, as the seats of its tables are told, and what is counted of it.
+use Rattle.std.specs.Prelude.{◌≡◌, ℕ, zero, suc, ◌+◌, ◌-◌, ◌<◌, ◌^◌, ◌⊎◌, min, Bool, true, false, Result, Ok, Err, List, Some, length, slice_get, slice_set}
+use Rattle.std.specs.declared.alloc.AllocError.{AllocError}
+use Rattle.stick_model.specs.declared.events.Event.TheVariants.{Expire}
+use Rattle.stick_model.specs.declared.replies.Reply.{Reply}
+use Rattle.stick_model.specs.declared.replies.Refusal.{Refusal}
+use Rattle.shard_book.specs.SeatState.{SeatState}
+use Rattle.shard_book.specs.Told.{IsRefusedTo, Told}
+use Rattle.shard_locks.specs.ShardsState.{ShardsState}
+use Rattle.shard_housekeeping.specs.declared.counts.Counts.{Counts}
+use Rattle.shard_housekeeping.specs.declared.kept.Kept.{Kept}
+
+-- one more, up to 2^64 - 1
+abbrev pub more : ℕ → ℕ
+more count = min (count + 1) (2 ^ 64 - 1)
+
+-- the seat of a table, what the clock is, and what was counted so far
+pub record TableState (C : Type 0) : Type 0 where
+  pub seat : SeatState
+  pub clock : C
+  pub counts : Counts
+
+-- the seats of all tables, and the same
+pub record RoundState (C : Type 0) : Type 0 where
+  pub seats : List SeatState
+  pub clock : C
+  pub counts : Counts
+
+abbrev pub one_refused : Counts → Counts
+one_refused counts = record { rolled = counts.rolled; refused = more counts.refused }
+
+-- what a shard answered to a roll: whether its record began again, or that it was refused
+abbrev pub noted : Result Bool AllocError → Counts → Counts
+noted (Ok true) counts = record { rolled = more counts.rolled; refused = counts.refused }
+noted (Ok false) counts = counts
+noted (Err refused) counts = one_refused counts
+
+-- so many steps, one after another, each by its number from 0 on
+abbrev pub ByFirst : {State : Type 0} → (ℕ → State → State → Type 0) → ℕ → State → State → Type 0
+ByFirst step zero old new = new ≡ old
+ByFirst {State} step (suc count) old new = (middle : State) × ByFirst step count old middle × step count middle new
+
+-- a shard told the seat that it has expired what was over at the moment; or it refused to, which is counted
+abbrev pub Expires : ℕ → ℕ → SeatState → Counts → SeatState → Counts → Type 0
+Expires shard now old counted new counts =
+    ((reply : Reply) × Told old shard (Expire now) reply new × (counts ≡ counted))
+    ⊎ ((refusal : Refusal) × IsRefusedTo old shard (Expire now) refusal × (new ≡ old) × (counts ≡ one_refused counted))
+
+-- a shard was asked to begin its record again, and what it answered is counted; where receipts are kept it doesn't
+abbrev pub Rolls : Bool → Counts → Counts → Type 0
+Rolls keep old new = (answer : Result Bool AllocError) × (keep ≡ true → answer ≡ Ok false) × (new ≡ noted answer old)
+
+-- ---- by a clock, which in a state may show a moment in ms and leave another state
+
+module _ {C : Type 0} (shows : C → ℕ → C → Type 0) where
+  -- a shard expires at the moment that the clock shows then, and then its record may begin again
+  abbrev pub KeepsShard : Bool → ℕ → TableState C → TableState C → Type 0
+  KeepsShard keep shard old new = (now : ℕ) × shows old.clock now new.clock × (now < 2 ^ 62) × (counted : Counts) × Expires shard now old.seat old.counts new.seat counted × Rolls keep counted new.counts
+
+  -- each shard of a table, in their order
+  abbrev pub KeepsTable : ShardsState → TableState C → TableState C → Type 0
+  KeepsTable table old new = ByFirst (KeepsShard table.keep) table.shards old new
+
+  -- the table of a place, by the seat of that place
+  pub record KeepsPlace (tables : List ShardsState) (place : ℕ) (old new : RoundState C) : Type 0 where
+    pub table : ShardsState
+    pub before : SeatState
+    pub after : SeatState
+    pub there : slice_get tables place ≡ Some table
+    pub seat : slice_get old.seats place ≡ Some before
+    pub kept : KeepsTable table (record { seat = before; clock = old.clock; counts = old.counts }) (record { seat = after; clock = new.clock; counts = new.counts })
+    pub seats : new.seats ≡ slice_set old.seats place after
+
+  -- one round: each table, in their order
+  abbrev pub KeepsRound : List ShardsState → RoundState C → RoundState C → Type 0
+  KeepsRound tables old new = ByFirst (KeepsPlace tables) (length tables) old new
+
+  -- some number of rounds, from seats for which nothing was counted yet; the clock is looked at once for each shard, and
+  -- at no other time
+  pub record KeepsRounds (tables : List ShardsState) (seats : List SeatState) (old : C) (kept : Kept) (new : C) : Type 0 where
+    pub count : ℕ
+    pub rounds : kept.rounds ≡ min count (2 ^ 64 - 1)
+    pub each : ByFirst (λ round. KeepsRound tables) count (record { seats = seats; clock = old; counts = record { rolled = 0; refused = 0 } }) (record { seats = kept.seats.items; clock = new; counts = record { rolled = kept.rolled; refused = kept.refused } })

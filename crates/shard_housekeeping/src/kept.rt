@@ -1,0 +1,13 @@
+//! What housekeeping has done.
+
+use shard_book::Seat;
+
+/// How many rounds there were, how many records began again in them, and how many expiries and rolls were refused, each
+/// count stopping at 2^64 - 1; and the seat of each table, with its calls.
+#[derive(Drop)]
+pub struct Kept {
+    pub rounds: u64,
+    pub rolled: u64,
+    pub refused: u64,
+    pub seats: Vec<Seat>,
+}

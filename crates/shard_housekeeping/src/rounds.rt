@@ -1,0 +1,127 @@
+//! Rounds of housekeeping.
+
+ghost use Rattle.std.specs.Prelude.{◌≡◌, ◌<◌, ◌^◌, length};
+ghost use Rattle.shard_housekeeping.specs.Keeping.{Expires, KeepsRound, KeepsRounds, KeepsShard, KeepsTable, Rolls};
+
+use crate::counts::Counts;
+use crate::{Kept, Pace};
+use base_clock::Clock;
+use shard_book::Seat;
+use shard_locks::Shards;
+use std::sync::Wait;
+use stick_table::{Event, Table};
+
+/// Has a shard expire the entries whose time has come, which is one call of the seat. A refusal is counted, and changes
+/// nothing.
+fn expire<T: Table>(
+    rt: &impl Wait,
+    table: &Shards<T>,
+    seat: &mut Seat,
+    shard: u32,
+    now: u64,
+    counts: &mut Counts,
+)
+    requires shard { shard < table.now.shards }
+    requires moment { now < 2 ^ 62 }
+    ensures { Expires shard now seat.old counts.old seat.new counts.new }
+{
+    match table.call(rt, seat, shard, Event::Expire(now)) {
+        Ok(_reply) => {}
+        Err(_refusal) => counts.refuse(),
+    }
+}
+
+/// Has a shard's record begin again where it has so many calls, and counts it. A refusal is counted, and changes nothing.
+fn roll<T: Table>(rt: &impl Wait, table: &Shards<T>, shard: u32, roll_at: u64, counts: &mut Counts)
+    requires shard { shard < table.now.shards }
+    ensures { Rolls table.now.keep counts.old counts.new }
+{
+    counts.note_roll(table.roll(rt, shard, roll_at));
+}
+
+/// Has a shard expire what is over at the clock's moment, and then begin its record again where it is long.
+fn keep_shard<T: Table, C: Clock>(
+    rt: &impl Wait,
+    table: &Shards<T>,
+    seat: &mut Seat,
+    shard: u32,
+    clock: &mut C,
+    roll_at: u64,
+    counts: &mut Counts,
+)
+    requires shard { shard < table.now.shards }
+    ensures { KeepsShard C.shows table.now.keep shard (record { seat = seat.old; clock = C.state clock.old; counts = counts.old }) (record { seat = seat.new; clock = C.state clock.new; counts = counts.new }) }
+{
+    let now = clock.now();
+    expire(rt, table, seat, shard, now, counts);
+    roll(rt, table, shard, roll_at, counts);
+}
+
+/// Does so in each shard of a table, in their order.
+fn keep_table<T: Table, C: Clock>(
+    rt: &impl Wait,
+    table: &Shards<T>,
+    seat: &mut Seat,
+    clock: &mut C,
+    roll_at: u64,
+    counts: &mut Counts,
+)
+    ensures { KeepsTable C.shows table.now (record { seat = seat.old; clock = C.state clock.old; counts = counts.old }) (record { seat = seat.new; clock = C.state clock.new; counts = counts.new }) }
+{
+    for shard in 0..table.shards() {
+        keep_shard(rt, table, seat, shard, clock, roll_at, counts);
+    }
+}
+
+/// One round: does so in each table, in their order, by the table's seat.
+fn keep_round<T: Table, C: Clock>(
+    rt: &impl Wait,
+    tables: &[Shards<T>],
+    seats: &mut Vec<Seat>,
+    clock: &mut C,
+    roll_at: u64,
+    counts: &mut Counts,
+)
+    requires { length tables.now ≡ length seats.old.items }
+    ensures seats { length seats.new.items ≡ length seats.old.items }
+    ensures kept { KeepsRound C.shows tables.now (record { seats = seats.old.items; clock = C.state clock.old; counts = counts.old }) (record { seats = seats.new.items; clock = C.state clock.new; counts = counts.new }) }
+{
+    for place in 0..tables.len() {
+        let seat = &mut seats[place];
+        keep_table(rt, &tables[place], seat, clock, roll_at, counts);
+    }
+}
+
+/// Keeps house until the pace says that there is no round more. In a round each shard of each table is asked to expire the
+/// entries whose time has come, at the moment that the clock shows, and then its record begins again where it has at least
+/// `roll_at` calls and no receipts are kept. What is refused is counted and left to the next round. The seats come back with their calls.
+pub fn housekeep<T: Table, C: Clock, P: Pace>(
+    rt: &impl Wait,
+    tables: &[Shards<T>],
+    mut seats: Vec<Seat>,
+    clock: &mut C,
+    pace: &P,
+    roll_at: u64,
+) -> Kept
+    requires { length tables.now ≡ length seats.items }
+    ensures { KeepsRounds C.shows tables.now seats.items (C.state clock.old) result (C.state clock.new) }
+{
+    let mut counts = Counts {
+        rolled: 0,
+        refused: 0,
+    };
+    let mut rounds = 0u64;
+    for _ in rt.forever() {
+        if !pace.next() {
+            break;
+        }
+        keep_round(rt, tables, &mut seats, clock, roll_at, &mut counts);
+        rounds = rounds.saturating_add(1);
+    }
+    Kept {
+        rounds,
+        rolled: counts.rolled,
+        refused: counts.refused,
+        seats,
+    }
+}

@@ -1,3 +1,0 @@
-pub mod SeatLemmas
-pub mod ToldLemmas
-pub mod LawLemmas

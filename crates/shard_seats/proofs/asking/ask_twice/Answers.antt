@@ -1,6 +1,0 @@
-use Rattle.std.proofs.Common.{true}
-use Rattle.shard_seats.proofs.ToldLemmas.{ask_refused}
-use Rattle.shard_seats.proofs.asking.ask_twice.Goals as goal
-
-pub returns-in-Err-clause-refused : goal.returns-in-Err-clause-refused
-returns-in-Err-clause-refused g c = ask_refused c.args.book.now.live true c.args.event c.in-Err.refusal c.in-Err.ensures.refused

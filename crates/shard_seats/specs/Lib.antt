@@ -1,3 +1,0 @@
-pub mod SeatState
-pub mod Told
-pub mod Laws

@@ -1,0 +1,7 @@
+use Rattle.std.proofs.Common.{◌≡◌, ◌≤◌, ◌<◌, ℕ}
+use Rattle.shard_settling.specs.Settled.{calls_made}
+use Rattle.shard_settling.proofs.counts.strange_calls.Given as goal
+
+-- so far the seats have called no other
+abbrev pub invariant-loop-shard : goal.invariant-loop-shard
+invariant-loop-shard l = (other : ℕ) → l.shards ≤ other → other < l.shard → calls_made l.seats other ≡ 0

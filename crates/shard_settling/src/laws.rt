@@ -1,0 +1,10 @@
+//! Laws of what settling tells. Each is the contract of a function that does nothing.
+
+ghost use Rattle.shard_settling.specs.Laws.{SettledLimitLaw};
+
+/// The limit law, of what threads hold: where a table with receipts is settled, for every shard, key and limit, at most
+/// `limit` of the references to the shard that are shown had, by the receipts that are shown, a look whose row is of the key
+/// and has at most `limit` references.
+pub fn limit()
+    ensures { SettledLimitLaw }
+{}

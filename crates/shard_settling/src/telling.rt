@@ -1,0 +1,73 @@
+//! What seats were told, against what they keep.
+
+ghost use Rattle.std.specs.Prelude.{◌≡◌, ◌≤◌, ◌↔◌, IsTrue, Some, length, drop, slice_get};
+ghost use Rattle.shard_book.specs.SeatState.{receipts_at};
+ghost use Rattle.shard_book.specs.declared.receipt.Receipt.{Receipt};
+ghost use Rattle.shard_settling.specs.Settled.{AreTold, told_to};
+
+use shard_book::{Receipt, Recorded, Seat};
+use stick_model::{same_event, same_reply};
+use stick_table::Reply;
+
+/// Whether a seat's receipts of a shard are its calls there with these replies, in their order, and no others.
+pub fn is_told(
+    seat: u32,
+    shard: u32,
+    receipts: &[Receipt],
+    calls: &[Recorded],
+    replies: &[Reply],
+) -> bool
+    requires { length replies.now ≡ length calls.now }
+    ensures { IsTrue result ↔ (told_to shard seat calls.now replies.now ≡ receipts_at shard receipts.now) }
+{
+    let mut next = next_at(receipts, shard, 0);
+    for i in 0..calls.len() {
+        let call = &calls[i];
+        if call.seat == seat {
+            if next >= receipts.len() {
+                return false;
+            }
+            let receipt = &receipts[next];
+            if !is_of(receipt, call, &replies[i]) {
+                return false;
+            }
+            next = next_at(receipts, shard, next + 1);
+        }
+    }
+    next >= receipts.len()
+}
+
+/// Whether a receipt is of a call and its reply.
+fn is_of(receipt: &Receipt, call: &Recorded, reply: &Reply) -> bool
+    ensures { IsTrue result ↔ ((receipt.now.event ≡ call.now.stored.event) × (receipt.now.reply ≡ reply.now)) }
+{
+    same_event(&receipt.event, &call.stored.event) && same_reply(&receipt.reply, reply)
+}
+
+/// The place of the next receipt of a shard, or the number of receipts.
+fn next_at(receipts: &[Receipt], shard: u32, from: usize) -> usize
+    requires { from ≤ length receipts.now }
+    ensures bound { (from ≤ result) × (result ≤ length receipts.now) }
+    ensures rest { receipts_at shard (drop from receipts.now) ≡ receipts_at shard (drop result receipts.now) }
+    ensures here { (one : Receipt) → slice_get receipts.now result ≡ Some one → one.shard ≡ shard }
+{
+    for place in from..receipts.len() {
+        if receipts[place].shard == shard {
+            return place;
+        }
+    }
+    receipts.len()
+}
+
+/// Whether each seat was told what it keeps of a shard, and keeps what it was told.
+pub(crate) fn are_told(seats: &[Seat], shard: u32, calls: &[Recorded], replies: &[Reply]) -> bool
+    requires { length replies.now ≡ length calls.now }
+    ensures { IsTrue result ↔ AreTold shard seats.now calls.now replies.now }
+{
+    for seat in seats {
+        if !is_told(seat.number(), shard, seat.receipts(), calls, replies) {
+            return false;
+        }
+    }
+    true
+}

@@ -1,3 +1,0 @@
-pub mod HearLemmas
-pub mod AskLemmas
-pub mod RestLemmas

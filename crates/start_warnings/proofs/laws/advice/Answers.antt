@@ -1,5 +1,0 @@
-use Rattle.start_warnings.proofs.AdviceLemmas.{advice_law}
-use Rattle.start_warnings.proofs.laws.advice.Goals as goal
-
-pub returns : goal.returns
-returns c = advice_law

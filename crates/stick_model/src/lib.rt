@@ -1,0 +1,27 @@
+//! What a stick table is and does, apart from any code: its types, and in `specs/` the definitions of its state,
+//! of the step that each event makes, of runs, and of the laws that follow.
+//!
+//! Whether two events, two replies or two specifications of tables are the same.
+#![tactic(auto)]
+
+mod equal_cells;
+mod equal_events;
+mod equal_filters;
+mod equal_replies;
+mod equal_rows;
+mod equal_specification;
+mod events;
+mod filters;
+pub mod laws;
+mod replies;
+mod rows;
+mod specification;
+
+pub use equal_events::same_event;
+pub use equal_replies::same_reply;
+pub use equal_specification::same_spec;
+pub use events::{Event, Stored};
+pub use filters::{Filter, Op};
+pub use replies::{Refusal, Reply};
+pub use rows::{Cell, Cells, Record, Row, Rows, Ticket};
+pub use specification::Spec;

@@ -1,0 +1,17 @@
+use Rattle.std.proofs.Common.{◌∙◌, ap, List, length}
+use Rattle.stored_data.specs.Acts.{value_at}
+use Rattle.stored_data.specs.declared.values.StoredValue.{StoredValue}
+use Rattle.stick_pooled.proofs.CutLemmas.{lies, read-as}
+use Rattle.stick_pooled.proofs.value_rows.Rows.get.Goals as goal
+
+pub row_in-row-requires : goal.row_in-row-requires
+row_in-row-requires c =
+    let r = c.self.inside in
+    lies r.columns r.count r.width c.args.at _ r.words.items c.args.self.now c.self.view_is c.requires (ap length c.as_slice.ensures.value ∙ c.self.invariant.1)
+
+pub returns : goal.returns
+returns c =
+    let r = c.self.inside in
+    let row = rw c.as_slice.ensures.value at c.row_in-row.ensures.row in
+    c.get.ensures ∙ ap (λ (fields : List StoredValue). value_at fields c.args.field c.args.now)
+    (read-as r.columns c.columns.result.now r.count r.width c.args.at r.words.items c.row_in-row.result.now c.args.self.now c.self.view_is c.requires c.columns.ensures.columns row)

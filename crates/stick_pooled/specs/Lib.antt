@@ -1,0 +1,12 @@
+pub mod Shown
+pub mod Table
+pub mod Steps
+pub mod Space
+pub mod Seen
+pub mod Grid
+pub mod Cut
+pub mod Stock
+pub mod Parts
+pub mod Slots
+pub mod Tickets
+pub mod Places

@@ -1,0 +1,220 @@
+//! The entries of a table: a pool, an index, an order and rows as one map from keys to entries, with one queue.
+
+ghost use Rattle.std.specs.Prelude.{◌≡◌, ◌<◌, ◌≤◌, ◌==◌, if◌then◌else◌, ◌≢◌, IsSome, IfOk, slice_get, length};
+ghost use Rattle.std.specs.List.{Contains};
+ghost use Rattle.entry_pool.specs.Contents.{find as find_in_pool, with_value as with_pool_value};
+ghost use Rattle.expiry_order.specs.Queue.{queue as order_of, without};
+
+use crate::entry::Entry;
+use crate::value_rows::Rows;
+use base_sequence::NoMemory;
+use entry_pool::{Handle, Pool};
+use expiry_order::Order;
+use key_index::Index;
+use std::alloc::Global;
+use std::marker::Model;
+use stick_key::StickKey;
+use stored_data::{Act, Field, StoredSet, Values};
+
+/// The entries of a table by their keys, and the slots of those that no reference holds, in a queue. Contracts see what
+/// each slot has, and the queue. Only `open` and `values` take memory.
+#[derive(Drop)]
+pub struct Store {
+    entries: Pool<Entry>,
+    index: Index,
+    order: Order,
+    rows: Rows,
+}
+
+impl Model for Store {
+    ghost use Rattle.stick_pooled.specs.Stock.{Stock, IsStock};
+
+    ghost Value = { Stock };
+
+    ghost use Rattle.stick_pooled.specs.Parts.{shown, AreParts};
+
+    ghost view = { λ s. shown s.entries s.index s.order s.rows };
+
+    ghost invariant = { λ s. AreParts s.entries s.index s.order s.rows × IsStock (shown s.entries s.index s.order s.rows) };
+}
+
+// Writes the entry that a handle finds.
+fn write(entries: &mut Pool<Entry>, handle: Handle, entry: Entry)
+    requires { IsSome (find_in_pool entries.old handle) }
+    ensures { entries.new ≡ with_pool_value entries.old handle entry }
+{
+    let _before = entries.replace(handle, entry);
+}
+
+// Takes a slot out of the queue, where no reference holds its entry.
+fn leave(order: &mut Order, slot: u32, refs: u32)
+    requires inside { refs ≡ 0 → Contains order.old.slots slot }
+    requires outside { refs ≢ 0 → ¬ (Contains order.old.slots slot) }
+    ensures { order.new ≡ order_of order.old.capacity (without order.old.slots slot) }
+{
+    if refs == 0 {
+        order.remove(slot);
+    }
+}
+
+// Puts a slot at the back of the queue, where no reference holds its entry.
+fn enter(order: &mut Order, slot: u32, refs: u32)
+    requires below { slot < order.old.capacity }
+    requires outside { ¬ (Contains order.old.slots slot) }
+    ensures { order.new ≡ order_of order.old.capacity (entered order.old.slots slot refs) }
+{
+    if refs == 0 {
+        order.push_back(slot);
+    }
+}
+
+ghost use Rattle.stick_pooled.specs.Stock.{entered};
+
+impl Store {
+    ghost use Rattle.std.specs.Prelude.{◌≡◌, ◌<◌, ◌≤◌, ◌^◌, IsSome, IfOk, IfSome, IfNone, Some, None, length, slice_get};
+    ghost use Rattle.std.specs.Option.{option_map};
+    ghost use Rattle.std.specs.List.{Contains};
+    ghost use Rattle.stored_data.specs.Acts.{acted, answer, value_at, with_value, zero_of};
+    ghost use Rattle.stick_pooled.specs.Stock.{Held, IsStock, IsAt, IsAbsent, empty, held_at, held_count, with_inserted, without_slot, with_entry, with_values};
+
+    /// A store of `size` slots, 1 to 2^30, for data of these columns. It takes the memory of them all. The seed changes
+    /// nothing that contracts see.
+    pub fn open(alloc: Global, size: u32, columns: StoredSet, seed: u64) -> Result<Store, NoMemory>
+        requires positive { 0 < size }
+        requires within { size ≤ 2 ^ 30 }
+        ensures { IfOk result (λ store. store ≡ empty size columns) }
+    {
+        Ok(Store {
+            entries: Pool::new(alloc, size)?,
+            index: Index::new(alloc, size, seed)?,
+            order: Order::new(alloc, size)?,
+            rows: Rows::new(alloc, size, columns)?,
+        })
+    }
+
+    /// How many entries there are.
+    pub fn len(&self) -> u32
+        ensures { result ≡ held_count self.now }
+    {
+        self.entries.len()
+    }
+
+    /// The handle of a key's entry, or none. It also tells what every store keeps.
+    pub fn find(&self, key: &StickKey) -> Option<Handle>
+        ensures found { IfSome result (λ handle. IsAt self.now key.now handle) }
+        ensures absent { IfNone result (IsAbsent self.now key.now) }
+        ensures stock { IsStock self.now }
+    {
+        self.index.get(key)
+    }
+
+    /// The first slot of the queue.
+    pub fn front(&self) -> Option<u32>
+        ensures first { result ≡ slice_get self.now.queue 0 }
+        ensures stock { IsStock self.now }
+    {
+        self.order.front()
+    }
+
+    /// The handle of a slot's entry, for a walk over the slots.
+    pub fn handle_at(&self, slot: u32) -> Option<Handle>
+        ensures { result ≡ option_map (λ (held : Held). record { slot = slot; generation = held.generation }) (held_at self.now slot) }
+    {
+        self.entries.handle_at(slot)
+    }
+
+    /// The entry of a slot that has one.
+    pub fn entry(&self, slot: u32) -> Entry
+        requires { IsSome (held_at self.now slot) }
+        ensures { option_map (λ (held : Held). held.entry) (held_at self.now slot) ≡ Some result }
+    {
+        *self.entries.value(self.index.handle_of(slot))
+    }
+
+    /// The key of a slot that has an entry.
+    pub fn key(&self, slot: u32) -> &StickKey
+        requires { IsSome (held_at self.now slot) }
+        ensures { option_map (λ (held : Held). held.key) (held_at self.now slot) ≡ Some result.now }
+    {
+        self.index.key_of(slot)
+    }
+
+    /// What a field of a slot's entry shows at a moment in ms.
+    pub fn get(&self, slot: u32, field: Field, now: u64) -> Option<u64>
+        requires { IsSome (held_at self.now slot) }
+        ensures { (held : Held) → held_at self.now slot ≡ Some held → result ≡ value_at held.values field now }
+    {
+        self.rows.get(slot, field, now)
+    }
+
+    /// A copy of the data of a slot's entry, where there is memory.
+    pub fn values(&self, slot: u32) -> Result<Values, NoMemory>
+        requires { IsSome (held_at self.now slot) }
+        ensures { IfOk result (λ values. (held : Held) → held_at self.now slot ≡ Some held → values ≡ held.values) }
+    {
+        self.rows.values(slot)
+    }
+
+    /// Gives a key that has no entry one in a slot that has none, with nothing counted, under a generation greater than
+    /// all before it. Where no reference holds it, its slot comes to the back of the queue.
+    pub fn insert(&mut self, key: StickKey, entry: Entry, generation: u64) -> Handle
+        requires newer { self.old.newest < generation }
+        requires absent { IsAbsent self.old key }
+        requires room { held_count self.old < length self.old.slots }
+        ensures generation { result.generation ≡ generation }
+        ensures below { result.slot < length self.old.slots }
+        ensures free { held_at self.old result.slot ≡ None }
+        ensures inserted { self.new ≡ with_inserted self.old result.slot (record { key = key; generation = generation; entry = entry; values = zero_of self.old.columns }) }
+    {
+        match self.entries.insert(entry, generation) {
+            Ok(handle) => {
+                self.index.insert(key, handle);
+                self.rows.clear(handle.slot);
+                enter(&mut self.order, handle.slot, entry.refs);
+                handle
+            }
+            Err(_entry) => unreachable!(),
+        }
+    }
+
+    /// Takes out the entry of a slot of the queue.
+    pub fn remove(&mut self, slot: u32)
+        requires { Contains self.old.queue slot }
+        ensures { self.new ≡ without_slot self.old slot }
+    {
+        let handle = self.index.handle_of(slot);
+        self.order.remove(slot);
+        let _gone = self.entries.remove(handle);
+        drop(self.index.remove_slot(slot));
+    }
+
+    /// Writes the entry of a slot that has one, and moves its slot to the back of the queue, or, where a reference holds
+    /// it, out of the queue.
+    pub fn refresh(&mut self, slot: u32, entry: Entry)
+        requires { IsSome (held_at self.old slot) }
+        ensures { self.new ≡ with_entry self.old slot entry }
+    {
+        let before = self.entry(slot);
+        let handle = self.index.handle_of(slot);
+        leave(&mut self.order, slot, before.refs);
+        write(&mut self.entries, handle, entry);
+        enter(&mut self.order, slot, entry.refs);
+    }
+
+    /// Does an act to the data of a slot's entry at a moment in ms, and answers what `Values::act` does.
+    pub fn act(&mut self, slot: u32, now: u64, act: Act) -> Option<u64>
+        requires { IsSome (held_at self.old slot) }
+        ensures acted { self.new ≡ with_values self.old slot (λ values. acted values now act) }
+        ensures answer { (held : Held) → held_at self.old slot ≡ Some held → result ≡ answer held.values now act }
+    {
+        self.rows.act(slot, now, act)
+    }
+
+    /// Puts a value into a field of a slot's entry, as `Values::put`.
+    pub fn put(&mut self, slot: u32, field: Field, value: u64)
+        requires { IsSome (held_at self.old slot) }
+        ensures { self.new ≡ with_values self.old slot (λ values. with_value values field value) }
+    {
+        self.rows.put(slot, field, value);
+    }
+}

@@ -1,0 +1,126 @@
+//! Which entries a filter means, and which the clock leaves.
+ghost use Rattle.std.specs.Prelude.{◌≡◌, ◌<◌, ◌^◌, ◌&&◌, Some, IfSome, IfNone, IsSome, false};
+ghost use Rattle.std.specs.Option.{option_map_or};
+ghost use Rattle.stick_pooled.specs.Stock.{Held, held_at};
+ghost use Rattle.stick_model.specs.Filters.{compares as compares_by, not_stored as not_stored_in};
+ghost use Rattle.stick_pooled.specs.Seen.{is_kept, is_meant, is_meant_as, IsLive, IsGone};
+
+use crate::entry_store::Store;
+use crate::expiry::is_alive;
+use std::cmp::Ordering;
+use stick_key::StickKey;
+use stick_model::{Filter, Op};
+use stored_data::{Field, StoredSet};
+
+fn compares(op: Op, a: u64, b: u64) -> bool
+    ensures { result ≡ compares_by op a b }
+{
+    match op {
+        Op::Eq => a == b,
+        Op::Ne => a != b,
+        Op::Le => a <= b,
+        Op::Ge => a >= b,
+        Op::Lt => a < b,
+        Op::Gt => a > b,
+    }
+}
+
+/// The field that a filter compares and the table doesn't store.
+pub(crate) fn not_stored(columns: &StoredSet, choice: &Filter) -> Option<Field>
+    ensures { result ≡ not_stored_in columns.now choice.now }
+{
+    match choice {
+        Filter::Compare(field, _, _) => {
+            if columns.stores(*field) {
+                None
+            } else {
+                Some(*field)
+            }
+        }
+        Filter::Everything | Filter::Nothing | Filter::Key(_) => None,
+    }
+}
+
+/// Whether a filter means the entry of a slot that has one, by the values that its row shows at this moment in ms.
+fn means(store: &Store, clock: u64, choice: &Filter, slot: u32) -> bool
+    requires { IsSome (held_at store.now slot) }
+    ensures { (held : Held) → held_at store.now slot ≡ Some held → result ≡ is_meant clock choice.now held }
+{
+    match choice {
+        Filter::Everything => true,
+        Filter::Nothing => false,
+        Filter::Key(key) => key.cmp(store.key(slot)) == Ordering::Equal,
+        Filter::Compare(field, op, bound) => {
+            let refs = store.entry(slot).refs;
+            let value = store.get(slot, *field, clock).unwrap_or(u64::from(refs));
+            compares(*op, value, *bound)
+        }
+    }
+}
+
+/// Whether a slot has an entry that a filter means, and that a reference holds or, as asked, none does.
+pub(crate) fn matches(store: &Store, clock: u64, choice: &Filter, tracked: bool, slot: u32) -> bool
+    ensures { result ≡ option_map_or (is_meant_as clock choice.now tracked) (held_at store.now slot) false }
+{
+    if store.handle_at(slot).is_none() {
+        return false;
+    }
+    if store.entry(slot).refs > 0 {
+        tracked && means(store, clock, choice, slot)
+    } else {
+        !tracked && means(store, clock, choice, slot)
+    }
+}
+
+/// Whether the entry of a slot that has one is there when the clock has come to this moment.
+fn stays(store: &Store, expire: Option<u32>, clock: u64, slot: u32) -> bool
+    requires clock { clock < 2 ^ 62 }
+    requires there { IsSome (held_at store.now slot) }
+    ensures { (held : Held) → held_at store.now slot ≡ Some held → result ≡ is_kept clock expire held }
+{
+    let entry = store.entry(slot);
+    entry.refs > 0 || is_alive(expire, entry.moment, clock)
+}
+
+/// Whether a slot has an entry that is there when the clock has come to this moment.
+pub(crate) fn is_live(store: &Store, expire: Option<u32>, clock: u64, slot: u32) -> bool
+    requires { clock < 2 ^ 62 }
+    ensures { result ≡ option_map_or (is_kept clock expire) (held_at store.now slot) false }
+{
+    if store.handle_at(slot).is_none() {
+        return false;
+    }
+    stays(store, expire, clock, slot)
+}
+
+/// The slot of a key's entry, where it is there when the clock has come to this moment.
+pub(crate) fn live_slot(
+    store: &Store,
+    expire: Option<u32>,
+    clock: u64,
+    key: &StickKey,
+) -> Option<u32>
+    requires { clock < 2 ^ 62 }
+    ensures live { IfSome result (IsLive store.now expire clock key.now) }
+    ensures gone { IfNone result (IsGone store.now expire clock key.now) }
+{
+    let handle = store.find(key)?;
+    if !stays(store, expire, clock, handle.slot) {
+        return None;
+    }
+    Some(handle.slot)
+}
+
+/// Whether a slot has an entry that is there when the clock has come to this moment, and that a filter means.
+pub(crate) fn is_listed(
+    store: &Store,
+    expire: Option<u32>,
+    clock: u64,
+    choice: &Filter,
+    slot: u32,
+) -> bool
+    requires { clock < 2 ^ 62 }
+    ensures { result ≡ option_map_or (λ held. is_kept clock expire held && is_meant clock choice.now held) (held_at store.now slot) false }
+{
+    is_live(store, expire, clock, slot) && means(store, clock, choice, slot)
+}

@@ -1,0 +1,99 @@
+//! The pooled stick table: an event of one key costs the same whatever the table's size.
+#![tactic(auto)]
+
+mod clearing;
+mod entries;
+mod entry;
+mod entry_store;
+mod events;
+mod expiry;
+mod filters;
+mod listing;
+mod looks;
+mod numbers;
+mod pairs;
+mod plain_copy;
+mod references;
+mod room;
+mod rows;
+mod ticket_book;
+mod tracked;
+mod tracking;
+mod value_rows;
+
+use base_sequence::NoMemory;
+use entry_store::Store;
+use std::alloc::Global;
+use std::marker::Model;
+use stick_model::{Event, Refusal, Reply, Spec};
+use stick_table::{PlainTable, Table};
+use ticket_book::TicketBook;
+
+/// A table in which an event of one key costs the same whatever its size. `open` takes the memory of its whole size;
+/// after it only replies and keys take some.
+#[derive(Drop)]
+pub struct StickTable {
+    alloc: Global,
+    spec: Spec,
+    clock: u64,
+    events: u64,
+    store: Store,
+    book: TicketBook,
+}
+
+impl Model for StickTable {
+    ghost use Rattle.stick_model.specs.State.{State};
+    ghost use Rattle.stick_pooled.specs.Table.{state_of, IsTable};
+
+    ghost Value = { State };
+
+    ghost view = { λ t. state_of t.spec t.clock t.events t.store t.book };
+
+    ghost invariant = { λ t. IsTable t.spec t.clock t.events t.store t.book };
+}
+
+impl Table for StickTable {
+    ghost state = { λ table. table };
+
+    fn open(alloc: Global, spec: Spec) -> Result<Self, NoMemory> {
+        let columns = spec.columns.copy()?;
+        let store = Store::open(alloc, spec.size, columns, spec.seed)?;
+        let book = TicketBook::new(alloc, spec.max_refs)?;
+        Ok(StickTable {
+            alloc,
+            spec,
+            clock: 0,
+            events: 0,
+            store,
+            book,
+        })
+    }
+
+    fn spec(&self) -> &Spec {
+        &self.spec
+    }
+
+    fn step(&mut self, event: &Event) -> Result<Reply, Refusal> {
+        if let Some(refusal) = self.refusal(event) {
+            return Err(refusal);
+        }
+        match self.answer(event) {
+            Ok(reply) => Ok(reply),
+            Err(_) => Err(Refusal::Memory),
+        }
+    }
+
+    fn step_twice(&mut self, event: &Event) -> Result<(Reply, Reply), Refusal> {
+        if let Some(refusal) = self.refusal(event) {
+            return Err(refusal);
+        }
+        match self.answer_twice(event) {
+            Ok(replies) => Ok(replies),
+            Err(_) => Err(Refusal::Memory),
+        }
+    }
+
+    fn to_plain(&self) -> Result<PlainTable, NoMemory> {
+        self.copy_to_plain()
+    }
+}

@@ -1,0 +1,145 @@
+//! What a table lists.
+ghost use Rattle.std.specs.Prelude.{◌≡◌, ℕ, ◌+◌, ◌<◌, ◌≤◌, ◌^◌, false, IfOk, OnErr, Option, count_by, length};
+ghost use Rattle.std.specs.Map.{values_of};
+ghost use Rattle.std.specs.Option.{option_map_or};
+ghost use Rattle.stick_pooled.specs.Stock.{Held, IsStock, held_at};
+ghost use Rattle.stick_table.specs.Replies.{listed_reply};
+ghost use Rattle.stick_model.specs.Step.{begun, list as reply_to_list};
+ghost use Rattle.stick_pooled.specs.Shown.{moment_at};
+ghost use Rattle.stick_pooled.specs.Seen.{is_kept, listed_entries, listed_in, listed_row as row_listed};
+
+use crate::StickTable;
+use crate::entry_store::Store;
+use crate::filters::{is_listed, is_live, not_stored};
+use crate::rows::show_row;
+use base_sequence::{NoMemory, Sequence};
+use std::alloc::Global;
+use stick_model::{Filter, Reply, Row, Rows, Spec};
+
+/// How many entries are there when the clock has come to this moment.
+fn count_live(store: &Store, size: u32, expire: Option<u32>, clock: u64) -> u32
+    requires clock { clock < 2 ^ 62 }
+    requires size { size ≡ length store.now.slots }
+    ensures { result ≡ count_by (λ (slot : Option Held). option_map_or (is_kept clock expire) slot false) store.now.slots }
+{
+    let mut count = 0;
+    for slot in 0..size {
+        if is_live(store, expire, clock, slot) {
+            count += 1;
+        }
+    }
+    count
+}
+
+/// The row of a slot's entry, where it has one that is there when the clock has come to this moment, and that a filter
+/// means.
+fn listed_row(
+    alloc: Global,
+    spec: &Spec,
+    store: &Store,
+    clock: u64,
+    choice: &Filter,
+    slot: u32,
+) -> Result<Option<Row>, NoMemory>
+    requires clock { clock < 2 ^ 62 }
+    requires past { moment_at store.now slot ≤ clock }
+    ensures { IfOk result (λ row. row ≡ row_listed spec.now.columns spec.now.expire clock choice.now (held_at store.now slot)) }
+{
+    if !is_listed(store, spec.expire, clock, choice, slot) {
+        return Ok(None);
+    }
+    let row = show_row(alloc, spec, store, clock, slot)?;
+    Ok(Some(row))
+}
+
+/// The rows of what is listed, in the order of the slots.
+fn gather_rows(
+    alloc: Global,
+    spec: &Spec,
+    store: &Store,
+    clock: u64,
+    choice: &Filter,
+) -> Result<Vec<Row>, NoMemory>
+    requires clock { clock < 2 ^ 62 }
+    requires size { spec.now.size ≡ length store.now.slots }
+    requires past { (slot : ℕ) → moment_at store.now slot ≤ clock }
+    ensures { IfOk result (λ rows. rows.items ≡ listed_in spec.now.columns spec.now.expire clock choice.now store.now.slots) }
+{
+    let mut rows = Vec::new(alloc);
+    for slot in 0..spec.size {
+        if let Some(row) = listed_row(alloc, spec, store, clock, choice, slot)? {
+            rows.push(row)?;
+        }
+    }
+    Ok(rows)
+}
+
+/// The rows of what is listed, in the order of the keys.
+fn list_rows(
+    alloc: Global,
+    spec: &Spec,
+    store: &Store,
+    clock: u64,
+    choice: &Filter,
+) -> Result<Rows, NoMemory>
+    requires clock { clock < 2 ^ 62 }
+    requires size { spec.now.size ≡ length store.now.slots }
+    requires past { (slot : ℕ) → moment_at store.now slot ≤ clock }
+    requires stock { IsStock store.now }
+    ensures { IfOk result (λ rows. rows ≡ values_of (listed_entries spec.now.columns spec.now.expire clock choice.now store.now.slots)) }
+{
+    let mut rows = gather_rows(alloc, spec, store, clock, choice)?;
+    rows.sort_unstable_by(|a: &Row, b: &Row| a.key.cmp(&b.key));
+    Ok(Sequence::from_vec(rows))
+}
+
+impl StickTable {
+    /// What a listing is answered, once the clock has come to this moment.
+    fn list_reply(&self, clock: u64, choice: &Filter) -> Result<Reply, NoMemory>
+        requires past { self.now.clock ≤ clock }
+        requires limit { clock < 2 ^ 62 }
+        ensures { IfOk result (λ reply. reply ≡ listed_reply self.now clock choice.now) }
+    {
+        match not_stored(&self.spec.columns, choice) {
+            Some(field) => Ok(Reply::NotStored(field)),
+            None => {
+                let used = count_live(&self.store, self.spec.size, self.spec.expire, clock);
+                let rows = list_rows(self.alloc, &self.spec, &self.store, clock, choice)?;
+                Ok(Reply::Rows {
+                    used: u64::from(used),
+                    rows,
+                })
+            }
+        }
+    }
+
+    pub(crate) fn list(&mut self, now: u64, choice: &Filter) -> Result<Reply, NoMemory>
+        requires moment { now < 2 ^ 62 }
+        requires life { self.old.events + length self.old.tickets < self.old.spec.life }
+        ensures ok { IfOk result (λ reply. reply_to_list (begun self.old now) choice.now ≡ (reply, self.new)) }
+        ensures err { OnErr result (self.new ≡ self.old) }
+    {
+        let clock = self.clock.max(now);
+        let reply = self.list_reply(clock, choice)?;
+        self.begin(now);
+        Ok(reply)
+    }
+
+    pub(crate) fn list_twice(
+        &mut self,
+        now: u64,
+        choice: &Filter,
+    ) -> Result<(Reply, Reply), NoMemory>
+        requires moment { now < 2 ^ 62 }
+        requires life { self.old.events + length self.old.tickets < self.old.spec.life }
+        ensures ok { IfOk result (λ replies. reply_to_list (begun self.old now) choice.now ≡ (replies.0, self.new)) }
+        ensures twice { IfOk result (λ replies. replies.1 ≡ replies.0) }
+        ensures err { OnErr result (self.new ≡ self.old) }
+    {
+        let clock = self.clock.max(now);
+        let first = self.list_reply(clock, choice)?;
+        let second = first.copy(self.alloc)?;
+        self.begin(now);
+        Ok((first, second))
+    }
+}

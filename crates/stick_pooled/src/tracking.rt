@@ -1,0 +1,88 @@
+//! References that are made.
+ghost use Rattle.std.specs.Prelude.{◌≡◌, ◌+◌, ◌≤◌, ◌<◌, ◌^◌, IfSome, IfNone, IsSome, Some, None, true, length};
+ghost use Rattle.stick_pooled.specs.Stock.{Held, held_at, with_entry};
+ghost use Rattle.stick_table.specs.References.{entered};
+ghost use Rattle.stick_model.specs.State.{record_at};
+ghost use Rattle.stick_model.specs.Step.{begun, connected, is_free_slot};
+ghost use Rattle.stick_pooled.specs.Steps.{slot_made, with_event};
+
+use crate::StickTable;
+use crate::entry::Entry;
+use crate::entry_store::Store;
+use crate::room::make_room;
+use stick_key::StickKey;
+use stick_model::Ticket;
+use stored_data::Act;
+
+/// One reference more holds a slot's entry, which an event refreshes at a moment.
+fn hold(store: &mut Store, slot: u32, event: u64, moment: u64)
+    requires there { IsSome (held_at store.old slot) }
+    requires few { (held : Held) → held_at store.old slot ≡ Some held → held.entry.refs ≤ 2 ^ 20 }
+    ensures { (held : Held) → held_at store.old slot ≡ Some held →
+        store.new ≡ with_entry store.old slot (record { stamp = event; moment = moment; refs = held.entry.refs + 1 }) }
+{
+    let refs = store.entry(slot).refs + 1;
+    let entry = Entry {
+        stamp: event,
+        moment,
+        refs,
+    };
+    store.refresh(slot, entry);
+}
+
+impl StickTable {
+    /// Makes a reference to a key, which counts a connection, where there is room.
+    pub(crate) fn enter(&mut self, now: u64, key: StickKey) -> Option<Ticket>
+        requires moment { now < 2 ^ 62 }
+        requires life { self.old.events + length self.old.tickets + 2 ≤ self.old.spec.life }
+        requires left { length self.old.tickets < self.old.spec.max_refs }
+        ensures entered { entered (begun self.old now) key (slot_made result) (connected (begun self.old now) key) ≡ (result, self.new) }
+        ensures free { IfSome result (λ ticket. is_free_slot self.old ticket.slot ≡ true) }
+    {
+        self.advance(now);
+        if let Some(ticket) = self.enter_there(&key) {
+            return Some(ticket);
+        }
+        self.enter_new(key)
+    }
+
+    /// Makes a reference to the entry of a key, where it has one.
+    fn enter_there(&mut self, key: &StickKey) -> Option<Ticket>
+        requires life { self.old.events + length self.old.tickets + 2 ≤ self.old.spec.life }
+        requires left { length self.old.tickets < self.old.spec.max_refs }
+        ensures entered { IfSome result (λ ticket. entered (with_event self.old) key.now ticket.slot (connected (with_event self.old) key.now) ≡ (Some ticket, self.new)) }
+        ensures free { IfSome result (λ ticket. is_free_slot self.old ticket.slot ≡ true) }
+        ensures absent { IfNone result (record_at key.now self.old.records ≡ None) }
+        ensures kept { IfNone result (self.new ≡ self.old) }
+    {
+        let Some(handle) = self.store.find(key) else {
+            return None;
+        };
+        self.events += 1;
+        let _ = self.store.act(handle.slot, self.clock, Act::Connection);
+        hold(&mut self.store, handle.slot, self.events, self.clock);
+        Some(self.book.insert(self.events, handle.slot))
+    }
+
+    /// Makes a reference to a new entry of a key that has none, where there is room.
+    fn enter_new(&mut self, key: StickKey) -> Option<Ticket>
+        requires life { self.old.events + length self.old.tickets + 2 ≤ self.old.spec.life }
+        requires left { length self.old.tickets < self.old.spec.max_refs }
+        requires absent { record_at key self.old.records ≡ None }
+        ensures entered { entered (with_event self.old) key (slot_made result) (connected (with_event self.old) key) ≡ (result, self.new) }
+        ensures free { IfSome result (λ ticket. is_free_slot self.old ticket.slot ≡ true) }
+    {
+        self.events += 1;
+        if !make_room(&mut self.store, &self.spec) {
+            return None;
+        }
+        let entry = Entry {
+            stamp: self.events,
+            moment: self.clock,
+            refs: 1,
+        };
+        let handle = self.store.insert(key, entry, self.events);
+        let _ = self.store.act(handle.slot, self.clock, Act::Connection);
+        Some(self.book.insert(self.events, handle.slot))
+    }
+}

@@ -1,0 +1,178 @@
+//! The configuration that the program is given, what is served of it, and what is said of its faults.
+#![tactic(auto)]
+
+ghost use Rattle.std.specs.Prelude.{◌≡◌, ◌≤◌, IfOk, IfSome};
+ghost use Rattle.rule_model.specs.Served.{AreTables, AreTableSpecs, setup_of as served_by};
+ghost use Rattle.rule_warnings.specs.Warnings.{table_warnings as warnings_for};
+ghost use Rattle.admit_drive.specs.Tables.{CanOpen};
+
+mod command_line;
+mod explanation;
+
+use base_sequence::{NoMemory, Sequence};
+pub use command_line::{
+    CLIENT, CONNECT, FIN, KEEPALIVE, Keeping, SERVER, SOCKET, read_command_line, read_keeping,
+};
+use explanation::{explain_fault, explain_warnings};
+use rule_config::{ConfigFault, read_config};
+use rule_model::{Config, NamedSpec, Setup};
+use rule_warnings::{Warning, table_warnings};
+use std::alloc::Global;
+use std::rt::Files;
+use std::{fs, io, str};
+use stickd_script::built_in_setup;
+
+/// How many connections `stickd run` has at once, and in how many shards it keeps each table, where it isn't told.
+const CONNECTIONS: u32 = 10_000;
+
+const SHARDS: u32 = 1;
+
+/// How much is said of what is wrong with a configuration.
+#[derive(Clone, Copy, Debug, PartialEq, Eq)]
+pub enum Detail {
+    /// Its line, and what it is.
+    Short,
+    /// The text of the line too, and what commonly causes that, or what is lost; and behind all lines what `stickd run` would
+    /// warn of the tables.
+    Explained,
+}
+
+/// Says what is wrong with a configuration.
+fn report_fault<R: Eprint>(
+    rt: &R,
+    text: &[u8],
+    fault: ConfigFault,
+    detail: Detail,
+) -> io::Result<()> {
+    eprintln!(rt; "stickd: {fault}")?;
+    match detail {
+        Detail::Short => Ok(()),
+        Detail::Explained => explain_fault(rt, text, fault),
+    }
+}
+
+/// Prints a warning for each line that is read past.
+fn warn<R: Eprint>(rt: &R, text: &[u8], lines: &[u64], detail: Detail) -> io::Result<()> {
+    if detail == Detail::Explained {
+        return explain_warnings(rt, text, lines);
+    }
+    for line in lines {
+        eprintln!(rt; "stickd: line {line}: read past")?;
+    }
+    Ok(())
+}
+
+/// Prints warnings on standard error, each on a line of its own.
+pub fn print_warnings<R: Eprint>(rt: &R, warnings: &[Warning]) -> io::Result<()> {
+    for warning in warnings {
+        eprintln!(rt; "stickd: warning: {warning}")?;
+    }
+    Ok(())
+}
+
+/// What `stickd run` would warn of the tables of a configuration, where it isn't told of connections or shards.
+fn warnings_unless_told(alloc: Global, config: &Config) -> Result<Sequence<Warning>, NoMemory>
+    requires { AreTables config.now.sections }
+    ensures { IfOk result (λ warnings. warnings ≡ warnings_for 10000 (served_by config.now 1)) }
+{
+    let setup = setup_of(alloc, config, SHARDS)?;
+    table_warnings(alloc, &setup, CONNECTIONS)
+}
+
+/// Prints what `stickd run` would warn of the tables of a configuration. Answers whether there was memory for that; where there
+/// wasn't, it is said.
+fn warn_of_tables<R: Eprint + AllocGlobal>(rt: &R, config: &Config) -> io::Result<bool>
+    requires { AreTables config.now.sections }
+{
+    match warnings_unless_told(rt.alloc(), config) {
+        Ok(warnings) => {
+            print_warnings(rt, warnings.as_slice())?;
+            Ok(true)
+        }
+        Err(_) => {
+            eprintln!(rt; "stickd: out of memory")?;
+            Ok(false)
+        }
+    }
+}
+
+/// Reads a configuration, and prints a warning for each line that it reads past. None where it can't be read, which is
+/// said on standard error.
+pub fn read_file<R: Files + Eprint + AllocGlobal>(
+    rt: &R,
+    path: &str,
+    detail: Detail,
+) -> io::Result<Option<Config>>
+    ensures { IfOk result (λ read. IfSome read (λ config. AreTables config.sections)) }
+{
+    let text = match fs::read(rt, path) {
+        Ok(text) => text,
+        Err(reason) => {
+            eprintln!(rt; "stickd: {path} can't be read: {reason}")?;
+            return Ok(None);
+        }
+    };
+    let config = match read_config(rt.alloc(), text.as_slice()) {
+        Ok(config) => config,
+        Err(fault) => {
+            report_fault(rt, text.as_slice(), fault, detail)?;
+            return Ok(None);
+        }
+    };
+    warn(rt, text.as_slice(), config.warnings.as_slice(), detail)?;
+    if detail == Detail::Explained && !warn_of_tables(rt, &config)? {
+        return Ok(None);
+    }
+    Ok(Some(config))
+}
+
+/// What is served by a configuration in so many shards.
+#[tactic(auto, unfolding(rule_model::specs::Served::setup_of))]
+fn setup_of(alloc: Global, config: &Config, shards: u32) -> Result<Setup, NoMemory>
+    requires tables { AreTables config.now.sections }
+    requires some { 1 ≤ shards }
+    requires few { shards ≤ 64 }
+    ensures limits { IfOk result (λ setup. AreTableSpecs setup.tables) }
+    ensures shards { IfOk result (λ setup. setup.shards ≡ shards) }
+    ensures setup { IfOk result (λ setup. setup ≡ served_by config.now shards) }
+{
+    config.proxy(alloc, shards)
+}
+
+/// Says that a table has fewer places than shards.
+fn report_narrow<R: Eprint>(rt: &R, named: &NamedSpec) -> io::Result<()> {
+    match str::from_utf8(named.name.as_slice()) {
+        Ok(name) => eprintln!(rt; "stickd: table {name} has fewer places than shards"),
+        Err(_) => eprintln!(rt; "stickd: a table has fewer places than shards"),
+    }
+}
+
+/// What is served by a configuration, or without one, each table kept in this way. None where that can't be had, which
+/// is said on standard error.
+pub fn open_setup<R: Files + Eprint + AllocGlobal>(
+    rt: &R,
+    path: Option<&str>,
+    keeping: Keeping,
+) -> io::Result<Option<Setup>>
+    requires shards { (1 ≤ keeping.shards) × (keeping.shards ≤ 64) }
+    requires purge { (1 ≤ keeping.purge) × (keeping.purge ≤ 1024) }
+    ensures { IfOk result (λ opened. IfSome opened CanOpen) }
+{
+    let made = match path {
+        Some(path) => match read_file(rt, path, Detail::Short)? {
+            Some(config) => setup_of(rt.alloc(), &config, keeping.shards),
+            None => return Ok(None),
+        },
+        None => built_in_setup(rt.alloc(), keeping.shards),
+    };
+    let Ok(setup) = made else {
+        eprintln!(rt; "stickd: out of memory")?;
+        return Ok(None);
+    };
+    let setup = setup.with_purge(keeping.purge);
+    if let Some(narrow) = setup.narrow_table() {
+        report_narrow(rt, narrow)?;
+        return Ok(None);
+    }
+    Ok(Some(setup))
+}

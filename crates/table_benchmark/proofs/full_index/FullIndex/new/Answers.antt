@@ -1,6 +1,0 @@
-use Rattle.std.proofs.Common.{sym, subst}
-use Rattle.table_benchmark.proofs.IndexLemmas.{IsFilled, none_filled}
-use Rattle.table_benchmark.proofs.full_index.FullIndex.new.Goals as goal
-
-pub loop-slot-init : goal.loop-slot-init
-loop-slot-init c = subst (λ index. IsFilled index 65536 0) (sym c.in_ok-index.ensures) (none_filled 65536)

@@ -1,5 +1,0 @@
-use Rattle.table_benchmark.proofs.IndexLemmas.{IsFilled}
-use Rattle.table_benchmark.proofs.full_index.FullIndex.new.Given as goal
-
-abbrev pub invariant-loop-slot : goal.invariant-loop-slot
-invariant-loop-slot l = IsFilled l.index 65536 l.slot

@@ -1,5 +1,0 @@
-use Rattle.table_benchmark.proofs.OrderLemmas.{IsFilled}
-use Rattle.table_benchmark.proofs.full_order.FullOrder.new.Given as goal
-
-abbrev pub invariant-loop-slot : goal.invariant-loop-slot
-invariant-loop-slot l = IsFilled l.order 65536 l.slot

@@ -1,6 +1,0 @@
-use Rattle.std.proofs.Common.{rules}
-use Rattle.pooled_table.proofs.Threads.{stick_table_send}
-use Rattle.table_benchmark.proofs.stress.rounds.run_planned.Goals as goal
-
-pub run_round-requires-send-T : goal.run_round-requires-send-T
-run_round-requires-send-T g c κs within = search (rules, stick_table_send)

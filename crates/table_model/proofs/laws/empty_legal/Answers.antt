@@ -1,5 +1,0 @@
-use Rattle.table_model.proofs.LegalLemmas.{empty_legal}
-use Rattle.table_model.proofs.laws.empty_legal.Goals as goal
-
-pub returns : goal.returns
-returns c = empty_legal

@@ -1,5 +1,0 @@
-use Rattle.table_model.proofs.ExpiryLemmas.{expiry-law}
-use Rattle.table_model.proofs.laws.expiry.Goals as goal
-
-pub returns : goal.returns
-returns c = expiry-law

@@ -1,5 +1,0 @@
-use Rattle.table_model.proofs.RunLemmas.{lasting-law}
-use Rattle.table_model.proofs.laws.lasting.Goals as goal
-
-pub returns : goal.returns
-returns c = lasting-law

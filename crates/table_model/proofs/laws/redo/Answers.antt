@@ -1,5 +1,0 @@
-use Rattle.table_model.proofs.RunLemmas.{redo-law}
-use Rattle.table_model.proofs.laws.redo.Goals as goal
-
-pub returns : goal.returns
-returns c = redo-law

@@ -1,5 +1,0 @@
-use Rattle.table_model.proofs.LegalLemmas.{places_legal}
-use Rattle.table_model.proofs.laws.run_legal.Goals as goal
-
-pub returns : goal.returns
-returns c = places_legal

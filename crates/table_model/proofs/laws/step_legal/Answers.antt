@@ -1,5 +1,0 @@
-use Rattle.table_model.proofs.LegalLemmas.{step_legal}
-use Rattle.table_model.proofs.laws.step_legal.Goals as goal
-
-pub returns : goal.returns
-returns c = step_legal

@@ -1,5 +1,0 @@
-use Rattle.table_model.proofs.RunLemmas.{stored-count-law}
-use Rattle.table_model.proofs.laws.stored_count.Goals as goal
-
-pub returns : goal.returns
-returns c = stored-count-law

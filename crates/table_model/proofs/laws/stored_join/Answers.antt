@@ -1,5 +1,0 @@
-use Rattle.table_model.proofs.RunLemmas.{stored-join-law}
-use Rattle.table_model.proofs.laws.stored_join.Goals as goal
-
-pub returns : goal.returns
-returns c = stored-join-law

@@ -1,6 +1,0 @@
-use Rattle.std.proofs.Common.{◌≡◌, drop}
-use Rattle.table_text.specs.Text.{period_of}
-use Rattle.table_text.proofs.rows.period_of.Given as goal
-
-abbrev pub invariant-loop-column : goal.invariant-loop-column
-invariant-loop-column l = period_of (drop l.column-index l.columns) l.datum ≡ period_of l.columns l.datum

@@ -1,0 +1,20 @@
+//! The texts of commands on stick tables and of their answers (HAProxy Management Guide 2.8, `show table`, `set table`,
+//! `clear table`): what form a line's words have, what event that asks, and what a reply is printed as.
+//!
+//! What is printed of a table: its header and its rows, in the form of the Management Guide 2.8, `show table`.
+#![tactic(auto)]
+
+mod answer_text;
+mod field_name;
+mod form;
+mod header;
+mod message;
+mod request;
+mod rows;
+
+pub use answer_text::Answer;
+pub use field_name::read_field;
+pub use form::{Choice, Form, Request, read_form};
+pub use header::push_header;
+pub use message::Message;
+pub use request::read_event;

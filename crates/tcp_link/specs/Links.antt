@@ -1,0 +1,131 @@
+-- What contracts see of a connection between two sockets.
+use Rattle.std.specs.Prelude.{◌≡◌, ◌≢◌, ℕ, Bool, true, false, ◌&&◌, ◌||◌, not, max, nat_lt, Some, if◌then◌else◌}
+use Rattle.tcp_flow.specs.declared.steps.Step.{Step}
+use Rattle.tcp_flow.specs.declared.steps.Step.TheVariants.{Ended, Failed, WaitsToRead, WaitsToWrite, Yields}
+use Rattle.tcp_link.specs.declared.end.Side.{Side}
+use Rattle.tcp_link.specs.declared.end.Side.TheVariants.{Client, Server}
+use Rattle.tcp_link.specs.declared.timeouts.Timeouts.{Timeouts}
+use Rattle.tcp_link.specs.declared.way.Way.{Way}
+use Rattle.tcp_link.specs.Silence.{heard_last, is_silent, limit_at_end}
+use Rattle.tcp_link.specs.Ways.{Advances, has_read, has_written, is_end, unbegun_way}
+
+-- the direction from the client to the server and the one back, when something passed last at the client and at the server, in ms, whether the server is known to have accepted the connection, whether the client, and the server, was told that the other has ended, and whether each is watched for room
+pub record LinkState : Type 0 where
+  pub there : Way
+  pub back : Way
+  pub client : ℕ
+  pub server : ℕ
+  pub accepted : Bool
+  pub client_told : Bool
+  pub server_told : Bool
+  pub client_watched : Bool
+  pub server_watched : Bool
+
+-- a connection that begins at a moment
+abbrev pub opened : ℕ → LinkState
+opened moment = record {
+  there = unbegun_way;
+  back = unbegun_way;
+  client = moment;
+  server = moment;
+  accepted = false;
+  client_told = false;
+  server_told = false;
+  client_watched = false;
+  server_watched = false;
+}
+
+-- nothing goes on, as a socket failed or memory was short
+abbrev pub is_failure : Step → Bool
+is_failure WaitsToRead = false
+is_failure WaitsToWrite = false
+is_failure Yields = false
+is_failure Ended = false
+is_failure (Failed cause) = true
+
+-- whether nothing more passes: both directions have ended, or one has failed
+abbrev pub is_over : LinkState → Bool
+is_over link = is_failure link.there.step || is_failure link.back.step || (is_end link.there.step && is_end link.back.step)
+
+-- whether a byte or an end has passed to or from the server; its end may have been told to the client before the socket failed
+abbrev pub has_passed : LinkState → Bool
+has_passed link = nat_lt 0 link.there.direction.passage.written || nat_lt 0 link.back.direction.passage.read || is_end link.back.step || link.client_told
+
+-- whether the server must have accepted the connection
+abbrev pub must_be_accepted : LinkState → Bool
+must_be_accepted link = link.accepted || has_passed link
+
+-- the bytes that came of the client, and those that went to it; none where nothing has passed at the server
+abbrev pub bytes : LinkState → ℕ × ℕ
+bytes link = if has_passed link then (link.there.direction.passage.read, link.back.direction.passage.written) else (0, 0)
+
+-- whether the server has ended and the client is still to be told so: not where nothing more passes, as closing tells it
+abbrev pub owes_client : LinkState → Bool
+owes_client link = is_end link.back.step && not (is_over link) && not link.client_told
+
+-- whether the client has ended and the server is still to be told so
+abbrev pub owes_server : LinkState → Bool
+owes_server link = is_end link.there.step && not (is_over link) && not link.server_told
+
+-- what has passed by now, where no more was told and known than before
+abbrev pub untold : LinkState → LinkState → LinkState
+untold old new = record new { accepted = old.accepted; client_told = old.client_told; server_told = old.server_told }
+
+-- each is told once that the other has ended: the client at once, and the server once it has accepted the connection, as a connection that isn't made yet would end by it. Until then the end stays owed. Whether the server has accepted is asked only where an end is owed to it
+pub record HandsOn (old new : LinkState) : Type 0 where
+  pub client : new.client_told ≡ (old.client_told || owes_client (untold old new))
+  pub server : new.server_told ≡ (old.server_told || (owes_server (untold old new) && new.accepted))
+  pub asked : owes_server (untold old new) ≡ false → new.accepted ≡ old.accepted
+  pub known : owes_server (untold old new) ≡ true → must_be_accepted (untold old new) ≡ true → new.accepted ≡ true
+
+-- whether a direction waits for room
+abbrev pub waits_for_room : Step → Bool
+waits_for_room WaitsToRead = false
+waits_for_room WaitsToWrite = true
+waits_for_room Yields = false
+waits_for_room Ended = false
+waits_for_room (Failed cause) = false
+
+-- an end is watched for room where a direction waits for it there; so is the server that an end is owed to, as it has room as soon as it has accepted
+pub record IsWatched (link : LinkState) : Type 0 where
+  pub there : waits_for_room link.there.step ≡ true → link.server_watched ≡ true
+  pub back : waits_for_room link.back.step ≡ true → link.client_watched ≡ true
+  pub owed : owes_server link ≡ true → link.server_watched ≡ true
+
+-- whether one side has ended
+abbrev pub has_ended : LinkState → Bool
+has_ended link = is_end link.there.step || is_end link.back.step
+
+-- whether a side's bytes wait to be read as the other side has no room, while it takes what it is sent: it isn't this side that is silent then
+abbrev pub is_held_up : Step → Step → Bool
+is_held_up from to = waits_for_room from && not (waits_for_room to)
+
+-- whether a peer has been silent for as long as it may, or longer, at a moment in ms: the server until it accepts, and then each of both that isn't held up by the other. Silence counts from when something passed last, or from a later moment
+abbrev pub is_late : LinkState → ℕ → ℕ → Timeouts → Bool
+is_late link moment since timeouts =
+    if link.accepted
+    then not (is_held_up link.there.step link.back.step) && is_silent (max link.client since) moment (limit_at_end (has_ended link) timeouts.fin timeouts.client)
+    || not (is_held_up link.back.step link.there.step) && is_silent (max link.server since) moment (limit_at_end (has_ended link) timeouts.fin timeouts.server)
+    else is_silent (max link.server since) moment (Some timeouts.connect)
+
+-- the direction from an end, and the one to it
+abbrev pub way_from : Side → LinkState → Way
+way_from Client link = link.there
+way_from Server link = link.back
+
+abbrev pub way_to : Side → LinkState → Way
+way_to Client link = link.back
+way_to Server link = link.there
+
+-- a direction that waited for room had a turn, and any other stayed as it was
+abbrev pub AdvancesIfItWaited : Way → Way → Type 0
+AdvancesIfItWaited old new = (old.step ≡ WaitsToWrite → Advances old new) × (old.step ≢ WaitsToWrite → new ≡ old)
+
+-- an end was heard at this moment where a byte passed there, and else when it was before
+pub record IsHeard (moment : ℕ) (old new : LinkState) : Type 0 where
+  pub client : new.client ≡ heard_last (has_read old.there new.there || has_written old.back new.back) moment old.client
+  pub server : new.server ≡ heard_last (has_written old.there new.there || has_read old.back new.back) moment old.server
+
+-- what is known of the server, what each was told and what is watched is as before
+abbrev pub KeepsWhatIsKnown : LinkState → LinkState → Type 0
+KeepsWhatIsKnown old new = new ≡ record old { there = new.there; back = new.back; client = new.client; server = new.server }

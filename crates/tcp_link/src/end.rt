@@ -1,0 +1,159 @@
+//! One end of a connection.
+
+ghost use Rattle.std.specs.Prelude.{◌≡◌, false, max, true};
+ghost use Rattle.tcp_link.specs.Silence.{heard_last, is_silent};
+ghost use Rattle.tcp_link.specs.Tokens.{Tells, number_of, side_of, token};
+
+use crate::reset;
+use mio::net::TcpStream;
+use mio::{Interest, Registry, Token};
+use std::io;
+use std::net::{Net, Shutdown};
+
+/// That bytes are reported, and urgent ones among them: a read stops short of those, and what lies behind them would wait.
+fn bytes() -> Interest {
+    Interest::READABLE | Interest::PRIORITY
+}
+
+/// One of the ends of a connection.
+#[derive(Clone, Copy, Debug, PartialEq, Eq)]
+pub enum Side {
+    Client,
+    Server,
+}
+
+impl Side {
+    /// The token of this end of a connection with a number, which is below 2^63.
+    pub(crate) fn token(self, number: usize) -> Token
+        ensures { result ≡ token self number }
+    {
+        let both = number.wrapping_mul(2);
+        match self {
+            Side::Client => Token(both),
+            Side::Server => Token(both.wrapping_add(1)),
+        }
+    }
+
+    /// Which end of which connection a token is of.
+    pub(crate) fn of(token: Token) -> (usize, Side)
+        ensures exact { result ≡ (number_of token, side_of token) }
+        ensures tells { Tells token result.0 result.1 }
+    {
+        let side = if token.0.is_multiple_of(2) {
+            Side::Client
+        } else {
+            Side::Server
+        };
+        (token.0 / 2, side)
+    }
+}
+
+/// An end of a connection: its socket, and what is known of it.
+#[derive(Drop)]
+pub(crate) struct End {
+    pub(crate) socket: TcpStream,
+    /// Whether its bytes don't wait for those before them to be acknowledged.
+    sends_at_once: bool,
+    /// Whether it is watched for room, beside bytes.
+    pub(crate) watches_room: bool,
+    /// Whether it was told that the other end sends no more.
+    pub(crate) is_told: bool,
+    /// When something passed last, in ms.
+    pub(crate) heard: u64,
+}
+
+impl End {
+    /// An end whose socket isn't watched yet, at a moment in ms.
+    pub(crate) fn new(socket: TcpStream, moment: u64) -> End
+        ensures heard { result.heard ≡ moment }
+        ensures socket { result.socket ≡ socket }
+        ensures room { result.watches_room ≡ false }
+        ensures told { result.is_told ≡ false }
+    {
+        End {
+            socket,
+            sends_at_once: false,
+            watches_room: false,
+            is_told: false,
+            heard: moment,
+        }
+    }
+
+    /// Has bytes sent as they come, those too that follow others so closely that the system keeps them back, or would (tcp(7),
+    /// `TCP_NODELAY`). The first never wait, so that an end that is written to once needs no such call.
+    pub(crate) fn send_at_once(&mut self)
+        ensures { self.new ≡ record self.old { sends_at_once = true } }
+    {
+        if self.sends_at_once {
+            return;
+        }
+        // A socket that is gone can't be told so, and needs no telling.
+        let _ = self.socket.set_nodelay(true);
+        self.sends_at_once = true;
+    }
+
+    /// Has the socket reported where there are bytes, or urgent ones.
+    pub(crate) fn watch(&mut self, registry: &Registry, token: Token) -> io::Result<()>
+        ensures same { self.new ≡ self.old }
+    {
+        registry.register(&mut self.socket, token, bytes())
+    }
+
+    /// Has the socket reported where there is room, too.
+    pub(crate) fn watch_room(&mut self, registry: &Registry, token: Token) -> io::Result<()>
+        ensures room { self.new ≡ record self.old { watches_room = true } }
+    {
+        if self.watches_room {
+            return Ok(());
+        }
+        self.watches_room = true;
+        self.watch_again(registry, token)
+    }
+
+    /// Has the socket reported anew, also where it was before and nothing has changed.
+    pub(crate) fn watch_again(&mut self, registry: &Registry, token: Token) -> io::Result<()>
+        ensures same { self.new ≡ self.old }
+    {
+        let interest = if self.watches_room {
+            bytes() | Interest::WRITABLE
+        } else {
+            bytes()
+        };
+        registry.reregister(&mut self.socket, token, interest)
+    }
+
+    /// Something passes here at a moment in ms, or nothing does.
+    pub(crate) fn hear(&mut self, passes: bool, moment: u64)
+        ensures { self.new ≡ record self.old { heard = heard_last passes moment self.old.heard } }
+    {
+        if passes {
+            self.heard = moment;
+        }
+    }
+
+    /// Tells it that the other end sends no more. It may still send.
+    pub(crate) fn tell_end(&mut self)
+        ensures { self.new ≡ record self.old { is_told = true } }
+    {
+        // A socket that is gone already can't be shut, and needs no shutting.
+        let _ = self.socket.shutdown(Shutdown::Write);
+        self.is_told = true;
+    }
+
+    /// Whether nothing has passed here for so long, at a moment in ms. Silence doesn't count before another moment.
+    pub(crate) fn is_silent_for(&self, moment: u64, since: u64, limit: Option<u64>) -> bool
+        ensures { result ≡ is_silent (max self.now.heard since) moment limit }
+    {
+        match limit {
+            Some(limit) => moment.saturating_sub(self.heard.max(since)) >= limit,
+            None => false,
+        }
+    }
+
+    /// Closes it, by a reset or in order.
+    pub(crate) fn close(self, rt: &impl Net, is_reset: bool) {
+        if is_reset {
+            reset(rt, self.socket);
+        }
+    }
+}

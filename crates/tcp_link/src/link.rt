@@ -1,0 +1,309 @@
+//! A connection between two sockets.
+
+ghost use Rattle.std.specs.Prelude.{◌≡◌, ◌≢◌, ◌||◌, true, false, IfSome, IsTrue, OnOk};
+ghost use Rattle.tcp_link.specs.Closing.{closing};
+ghost use Rattle.tcp_link.specs.Links.{AdvancesIfItWaited, HandsOn, IsHeard, IsWatched, KeepsWhatIsKnown, bytes, has_ended, has_passed, is_held_up, is_late, is_over, must_be_accepted, opened, owes_client, owes_server, way_from, way_to};
+ghost use Rattle.tcp_link.specs.Silence.{heard_last};
+ghost use Rattle.tcp_link.specs.Ways.{Advances, IsWay, told_also};
+
+use crate::closing::Closing;
+use crate::end::{End, Side};
+use crate::way::Way;
+use crate::{Buffer, Ready, ServerSocket, Timeouts};
+use mio::Registry;
+use mio::net::TcpStream;
+use std::alloc::Global;
+use std::io;
+use std::marker::Model;
+use std::net::Net;
+use tcp_flow::Step;
+
+/// Both sockets of a connection, and both directions between them. `close` closes both; dropping it closes both in order.
+#[derive(Drop)]
+pub struct Link {
+    client: End,
+    server: End,
+    there: Way,
+    back: Way,
+    /// Whether the server is known to have accepted the connection.
+    is_accepted: bool,
+}
+
+impl Model for Link {
+    ghost use Rattle.tcp_link.specs.Links.{LinkState};
+    ghost use Rattle.tcp_link.specs.Ways.{IsWay};
+
+    ghost Value = { LinkState };
+
+    ghost view = { λ link. record { there = link.there; back = link.back; client = link.client.heard; server = link.server.heard; accepted = link.is_accepted; client_told = link.client.is_told; server_told = link.server.is_told; client_watched = link.client.watches_room; server_watched = link.server.watches_room } };
+
+    ghost invariant = { λ link. IsWay link.there × IsWay link.back };
+}
+
+impl Link {
+    /// Begins to connect a client to its server, at a moment in ms. None where the system says at once that it can't.
+    pub fn open(
+        _rt: &impl Net,
+        alloc: Global,
+        client: TcpStream,
+        server: ServerSocket,
+        moment: u64,
+    ) -> Option<Link>
+        ensures { IfSome result (λ link. link ≡ opened moment) }
+    {
+        let server = server.connect().ok()?;
+        Some(Link {
+            client: End::new(client, moment),
+            server: End::new(server, moment),
+            there: Way::new(alloc),
+            back: Way::new(alloc),
+            is_accepted: false,
+        })
+    }
+
+    /// Has both sockets reported as those of the connection with this number, which is below 2^63, and moves what the client
+    /// has sent already. Whether it goes on: not where it is over, or the system refuses to report a socket.
+    pub fn start(
+        &mut self,
+        registry: &Registry,
+        number: usize,
+        moment: u64,
+        buffer: &mut Buffer,
+    ) -> bool
+        ensures there { Advances self.old.there self.new.there }
+        ensures back { self.new.back ≡ self.old.back }
+        ensures heard { IsHeard moment self.old self.new }
+        ensures ends { HandsOn self.old self.new }
+        ensures going { IsTrue result → is_over self.new ≡ false }
+        ensures watched { IsTrue result → IsWatched self.new }
+    {
+        self.carry_there(moment, buffer);
+        self.hand_on();
+        if self.is_over() {
+            return false;
+        }
+        self.watch(registry, number).is_ok() && self.watch_on(registry, number).is_ok()
+    }
+
+    /// Moves what can be moved now that a socket is ready: what its peer has sent, and what waited for room there. Whether it
+    /// goes on: not where it is over, or the system refuses to report a socket. How much a socket gives or takes is the
+    /// system's to say: one that isn't ready moves nothing.
+    pub fn turn(
+        &mut self,
+        registry: &Registry,
+        ready: Ready,
+        moment: u64,
+        buffer: &mut Buffer,
+    ) -> bool
+        ensures from { Advances (told_also (way_from ready.side self.old) ready.ahead ready.has_failed) (way_from ready.side self.new) }
+        ensures to { AdvancesIfItWaited (way_to ready.side self.old) (way_to ready.side self.new) }
+        ensures heard { IsHeard moment self.old self.new }
+        ensures ends { HandsOn self.old self.new }
+        ensures going { IsTrue result → is_over self.new ≡ false }
+        ensures watched { IsTrue result → IsWatched self.new }
+    {
+        match ready.side {
+            Side::Client => self.turn_client(ready, moment, buffer),
+            Side::Server => self.turn_server(ready, moment, buffer),
+        }
+        self.hand_on();
+        !self.is_over() && self.watch_on(registry, ready.number).is_ok()
+    }
+
+    /// The client is ready: it may have sent something, or have room for what is kept.
+    fn turn_client(&mut self, ready: Ready, moment: u64, buffer: &mut Buffer)
+        ensures there { Advances (told_also self.old.there ready.ahead ready.has_failed) self.new.there }
+        ensures back { AdvancesIfItWaited self.old.back self.new.back }
+        ensures heard { IsHeard moment self.old self.new }
+        ensures same { KeepsWhatIsKnown self.old self.new }
+    {
+        self.there.hear_of(ready.ahead, ready.has_failed);
+        self.carry_there(moment, buffer);
+        if self.back.step == Step::WaitsToWrite {
+            self.carry_back(moment, buffer);
+        }
+    }
+
+    /// The server is ready: it may have sent something, or have room for what is kept.
+    fn turn_server(&mut self, ready: Ready, moment: u64, buffer: &mut Buffer)
+        ensures back { Advances (told_also self.old.back ready.ahead ready.has_failed) self.new.back }
+        ensures there { AdvancesIfItWaited self.old.there self.new.there }
+        ensures heard { IsHeard moment self.old self.new }
+        ensures same { KeepsWhatIsKnown self.old self.new }
+    {
+        self.back.hear_of(ready.ahead, ready.has_failed);
+        self.carry_back(moment, buffer);
+        if self.there.step == Step::WaitsToWrite {
+            self.carry_there(moment, buffer);
+        }
+    }
+
+    fn carry_there(&mut self, moment: u64, buffer: &mut Buffer)
+        ensures there { Advances self.old.there self.new.there }
+        ensures back { self.new.back ≡ self.old.back }
+        ensures heard { IsHeard moment self.old self.new }
+        ensures same { KeepsWhatIsKnown self.old self.new }
+    {
+        self.there
+            .turn(&mut self.client, &mut self.server, moment, buffer);
+    }
+
+    fn carry_back(&mut self, moment: u64, buffer: &mut Buffer)
+        ensures back { Advances self.old.back self.new.back }
+        ensures there { self.new.there ≡ self.old.there }
+        ensures heard { IsHeard moment self.old self.new }
+        ensures same { KeepsWhatIsKnown self.old self.new }
+    {
+        self.back
+            .turn(&mut self.server, &mut self.client, moment, buffer);
+    }
+
+    /// Tells each side that the other has ended, where it is to be told so now: the server not before it has accepted, as the
+    /// system undoes what isn't connected yet where its writing side is shut.
+    fn hand_on(&mut self)
+        ensures ends { HandsOn self.old self.new }
+        ensures same { self.new ≡ record self.old { accepted = self.new.accepted; client_told = self.new.client_told; server_told = self.new.server_told } }
+    {
+        if self.owes_client() {
+            self.client.tell_end();
+        }
+        if self.owes_server() && self.is_accepted() {
+            self.server.tell_end();
+        }
+    }
+
+    /// Whether the server has ended and the client is still to be told so. Where the connection is over, closing tells it.
+    fn owes_client(&self) -> bool
+        ensures { result ≡ owes_client self.now }
+    {
+        self.back.step == Step::Ended && !self.is_over() && !self.client.is_told
+    }
+
+    /// Whether the client has ended and the server is still to be told so.
+    fn owes_server(&self) -> bool
+        ensures { result ≡ owes_server self.now }
+    {
+        self.there.step == Step::Ended && !self.is_over() && !self.server.is_told
+    }
+
+    /// Whether both directions have ended, or one has failed.
+    fn is_over(&self) -> bool
+        ensures { result ≡ is_over self.now }
+    {
+        match (self.there.step, self.back.step) {
+            (Step::Failed(_), _) | (_, Step::Failed(_)) => true,
+            (Step::Ended, Step::Ended) => true,
+            _ => false,
+        }
+    }
+
+    fn watch(&mut self, registry: &Registry, number: usize) -> io::Result<()>
+        ensures same { self.new ≡ self.old }
+    {
+        self.client.watch(registry, Side::Client.token(number))?;
+        self.server.watch(registry, Side::Server.token(number))
+    }
+
+    /// Has the sockets reported for which a direction waits, or which has more to do.
+    fn watch_on(&mut self, registry: &Registry, number: usize) -> io::Result<()>
+        ensures same { self.new ≡ record self.old { client_watched = self.new.client_watched; server_watched = self.new.server_watched } }
+        ensures watched { OnOk result (IsWatched self.new) }
+    {
+        let (client, server) = (Side::Client.token(number), Side::Server.token(number));
+        match self.there.step {
+            Step::WaitsToWrite => self.server.watch_room(registry, server)?,
+            Step::Yields => self.client.watch_again(registry, client)?,
+            // It has room as soon as it has accepted.
+            Step::Ended if self.owes_server() => self.server.watch_room(registry, server)?,
+            _ => {}
+        }
+        match self.back.step {
+            Step::WaitsToWrite => self.client.watch_room(registry, client),
+            Step::Yields => self.server.watch_again(registry, server),
+            _ => Ok(()),
+        }
+    }
+
+    /// Whether the server has accepted the connection: it has where something has passed there, and else the system is asked.
+    fn is_accepted(&mut self) -> bool
+        ensures same { self.new ≡ record self.old { accepted = result } }
+        ensures known { must_be_accepted self.old ≡ true → result ≡ true }
+    {
+        if !self.is_accepted {
+            self.is_accepted = self.has_passed() || self.server.socket.peer_addr().is_ok();
+        }
+        self.is_accepted
+    }
+
+    /// Whether a byte or an end has passed to or from the server.
+    fn has_passed(&self) -> bool
+        ensures { result ≡ has_passed self.now }
+    {
+        self.there.direction.written() > 0
+            || self.back.direction.read() > 0
+            || self.back.step == Step::Ended
+            || self.client.is_told
+    }
+
+    /// Whether one side has ended.
+    fn has_ended(&self) -> bool
+        ensures { result ≡ has_ended self.now }
+    {
+        self.there.step == Step::Ended || self.back.step == Step::Ended
+    }
+
+    /// Whether, at a moment in ms, a peer has been silent for as long as it may, or longer: the server until it has accepted the
+    /// connection, and then each of both that isn't held up by the other. Silence counts from when something passed last, or from a later moment `since`. Where
+    /// nothing has passed at the server, the system is asked whether it has accepted.
+    pub fn is_late(&mut self, moment: u64, since: u64, timeouts: &Timeouts) -> bool
+        ensures late { result ≡ is_late self.new moment since timeouts.now }
+        ensures same { self.new ≡ record self.old { accepted = self.new.accepted } }
+        ensures known { must_be_accepted self.old ≡ true → self.new.accepted ≡ true }
+    {
+        if !self.is_accepted() {
+            return self
+                .server
+                .is_silent_for(moment, since, Some(timeouts.connect));
+        }
+        let client = timeouts.limit(self.has_ended(), timeouts.client);
+        let server = timeouts.limit(self.has_ended(), timeouts.server);
+        let (there, back) = (self.there.step, self.back.step);
+        !is_held_up(there, back) && self.client.is_silent_for(moment, since, client)
+            || !is_held_up(back, there) && self.server.is_silent_for(moment, since, server)
+    }
+
+    /// How many bytes came in and went out: those that were read of the client, and those that were written to it. None where
+    /// the server took and gave nothing. Of each direction, what was read is what was written and what waits, until it fails.
+    pub fn bytes(&self) -> (u64, u64)
+        ensures exact { result ≡ bytes self.now }
+        ensures there { IsWay self.now.there }
+        ensures back { IsWay self.now.back }
+    {
+        let counted = (self.there.direction.read(), self.back.direction.written());
+        if self.has_passed() { counted } else { (0, 0) }
+    }
+    /// Closes both sockets: in order where nothing has failed, and where a socket has, the other by a reset, so that what was
+    /// carried doesn't look whole. Of a server that never accepted the client reads an end.
+    pub fn close(self, rt: &impl Net) {
+        let closing = self.closing();
+        let Link { client, server, .. } = self;
+        client.close(rt, closing.resets_client);
+        server.close(rt, closing.resets_server);
+    }
+
+    /// Which of both sockets is reset where it closes now.
+    fn closing(&self) -> Closing
+        ensures { result ≡ closing self.now.there.step self.now.back.step (must_be_accepted self.now) }
+    {
+        let is_accepted = self.is_accepted || self.has_passed();
+        Closing::of(self.there.step, self.back.step, is_accepted)
+    }
+}
+
+/// Whether a side's bytes wait to be read as the other side has no room, while this one takes what it is sent, by the direction
+/// from it and the one to it.
+fn is_held_up(from: Step, to: Step) -> bool
+    ensures { result ≡ is_held_up from to }
+{
+    from == Step::WaitsToWrite && to != Step::WaitsToWrite
+}

@@ -1,0 +1,95 @@
+//! One direction of a connection between two sockets.
+
+use crate::buffer::ROOM;
+use crate::end::End;
+use crate::incoming::Incoming;
+use crate::{Ahead, Buffer};
+use std::alloc::Global;
+use tcp_flow::{Cause, Direction, ReadyStream, Step};
+
+/// How many reads a direction makes in one turn at most, before other connections have theirs.
+const READS: u32 = 2;
+
+/// A direction, and how far it is.
+#[derive(Drop)]
+pub(crate) struct Way {
+    pub(crate) direction: Direction,
+    pub(crate) step: Step,
+    /// What is known of the bytes that its sender still sends.
+    pub(crate) ahead: Ahead,
+}
+
+impl Way {
+    ghost use Rattle.std.specs.Prelude.{◌≡◌, true};
+    ghost use Rattle.tcp_link.specs.Silence.{heard_last};
+    ghost use Rattle.tcp_link.specs.Ways.{Advances, IsWay, has_read, has_written, has_written_more, has_written_more_than, told_also, unbegun_way};
+
+    pub(crate) fn new(alloc: Global) -> Way
+        ensures { result ≡ unbegun_way }
+    {
+        Way {
+            direction: Direction::new(alloc),
+            step: Step::WaitsToRead,
+            ahead: Ahead::More,
+        }
+    }
+
+    /// Moves what can be moved now. Something that passes is heard at both ends, at this moment in ms. What follows the first
+    /// bytes is sent as it comes.
+    pub(crate) fn turn(&mut self, from: &mut End, to: &mut End, moment: u64, buffer: &mut Buffer)
+        requires way { IsWay self.old }
+        ensures way { IsWay self.new }
+        ensures advances { Advances self.old self.new }
+        ensures from { from.new ≡ record from.old { heard = heard_last (has_read self.old self.new) moment from.old.heard } }
+        ensures to { to.new ≡ record to.old { sends_at_once = to.new.sends_at_once; heard = heard_last (has_written self.old self.new) moment to.old.heard } }
+        ensures at_once { has_written_more self.old self.new ≡ true → to.new.sends_at_once ≡ true }
+    {
+        let (read, written) = (self.direction.read(), self.direction.written());
+        self.carry(from, to, buffer);
+        if self.has_written_more(read, written) {
+            to.send_at_once();
+        }
+        from.hear(self.direction.read() > read, moment);
+        to.hear(self.direction.written() > written, moment);
+    }
+
+    /// Whether it has written since it had read and written so much, and perhaps not for the first time: it had read bytes
+    /// before, or as many are written as one read takes at most, or reads stop short, so that there may have been several.
+    fn has_written_more(&self, read: u64, written: u64) -> bool
+        ensures { result ≡ has_written_more_than written read self.now }
+    {
+        let now = self.direction.written();
+        now > written && (read > 0 || now >= ROOM as u64 || self.ahead.is_until_empty())
+    }
+
+    /// Moves what can be moved now.
+    fn carry(&mut self, from: &End, to: &End, buffer: &mut Buffer)
+        requires way { IsWay self.old }
+        ensures way { IsWay self.new }
+        ensures advances { Advances self.old self.new }
+    {
+        if self.direction.is_over() {
+            return;
+        }
+        let mut reader = ReadyStream::new(Incoming::new(&from.socket, self.ahead));
+        let mut writer = ReadyStream::new(&to.socket);
+        let bytes = buffer.bytes.as_mut_slice();
+        let until_end = self.ahead != Ahead::More;
+        self.step = self
+            .direction
+            .turn(&mut reader, &mut writer, bytes, READS, until_end);
+    }
+
+    /// Takes in what is told of its sender: what is ahead, and whether its socket has failed. What had ended in order has then
+    /// failed. What hasn't finds the failure by its next read.
+    pub(crate) fn hear_of(&mut self, ahead: Ahead, has_failed: bool)
+        requires way { IsWay self.old }
+        ensures way { IsWay self.new }
+        ensures told { self.new ≡ told_also self.old ahead has_failed }
+    {
+        self.ahead = self.ahead.with(ahead);
+        if has_failed && self.step == Step::Ended {
+            self.step = Step::Failed(Cause::Read);
+        }
+    }
+}

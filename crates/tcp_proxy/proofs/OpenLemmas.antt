@@ -1,0 +1,57 @@
+-- The tables of a setup, opened one after another.
+use Rattle.std.proofs.Common.{◌≡◌, ℕ, ◌+◌, ◌<◌, sym, ap, ◌∙◌, Bool, All, List, [], ◌∷◌, ◌++◌, length, map, take, get_or, vec_len, slice_get, Option, Some, None, arith}
+use Rattle.std.specs.Global.{Vec}
+use Rattle.std.proofs.lemmas.List.{length-append, length-map, map-append, map_more}
+use Rattle.std.proofs.lemmas.List.Elements.{All-push}
+use Rattle.std.proofs.lemmas.List.FromFn.{length-map-range_with_len}
+use Rattle.std.proofs.lemmas.Option.{slice_get-map}
+use Rattle.std.specs.Option.{option_map}
+use Rattle.rule_model.specs.declared.sections.NamedSpec.{NamedSpec}
+use Rattle.rule_model.specs.declared.sections.Setup.{Setup}
+use Rattle.tcp_relay.specs.Serving.{AreSeats, AreTablesOf}
+use Rattle.shard_book.specs.SeatState.{SeatState, fresh}
+use Rattle.shard_locks.specs.ShardsState.{ShardsState, fresh_seats}
+use Rattle.tcp_proxy.specs.Opened.{AreDeclared, but_for_seed, declared_table}
+
+-- fresh seats are as many as were asked for
+pub seats_counted : (seats : Vec SeatState) (count : ℕ) (keep : Bool) → seats.items ≡ fresh_seats count keep → vec_len seats ≡ count
+seats_counted seats count keep is =
+    let counted : length seats.items ≡ count = ap length is ∙ length-map-range_with_len (λ number. fresh number keep) 0 count in
+    seats.ok.0 ∙ counted
+
+-- one item more
+pub one_more : {X : Type 0} (old new : List X) (x : X) (count : ℕ) → length old ≡ count → new ≡ old ++ x ∷ [] → length new ≡ count + 1
+one_more old new x count were more =
+    let joined : length new ≡ length old + 1 = ap length more ∙ length-append old (x ∷ []) in
+    omega arith
+
+-- and its seats
+pub seats_more : (old new : List (Vec SeatState)) (seats : Vec SeatState) (count : ℕ) → All (λ (of_table : Vec SeatState). vec_len of_table ≡ count) old → vec_len seats ≡ count → new ≡ old ++ seats ∷ [] → All (λ (of_table : Vec SeatState). vec_len of_table ≡ count) new
+seats_more old new seats count were one more = rw more (All-push (λ (of_table : Vec SeatState). vec_len of_table ≡ count) old seats were one)
+
+-- one table more
+pub declared_more : (shards : ℕ) (keep : Bool) (items : List NamedSpec) (i : ℕ) (named : NamedSpec) (old new : List ShardsState) (table : ShardsState) → AreDeclared shards keep (take i items) old → i < length items → named ≡ get_or items i named
+    → but_for_seed table ≡ declared_table shards keep named → new ≡ old ++ table ∷ [] → AreDeclared shards keep (take (i + 1) items) new
+declared_more shards keep items i named old new table were within is one more =
+    let last : but_for_seed table ≡ declared_table shards keep (get_or items i named) = one ∙ ap (declared_table shards keep) is in
+    ap (map but_for_seed) more ∙ map-append but_for_seed old (table ∷ []) ∙ (λ k. were k ++ last k ∷ []) ∙ sym (map_more (declared_table shards keep) items i named within)
+
+-- a declared table is in as many shards as was asked for
+in_shards : (shards : ℕ) (keep : Bool) (named : Option NamedSpec) (table : ShardsState) → option_map (declared_table shards keep) named ≡ Some (but_for_seed table) → table.shards ≡ shards
+in_shards shards keep None table is = cc
+in_shards shards keep (Some named) table is =
+    let same : declared_table shards keep named ≡ but_for_seed table = cc in
+    sym (ap (λ (it : ShardsState). it.shards) same)
+
+-- the declared tables are those that connections are served by
+pub declared_served : (setup : Setup) (keep : Bool) (tables : List ShardsState) → AreDeclared setup.shards keep setup.tables tables → AreTablesOf setup tables
+declared_served setup keep tables declared = record {
+  count = sym (length-map tables but_for_seed) ∙ ap length declared ∙ length-map setup.tables (declared_table setup.shards keep);
+  shards = λ i table at. in_shards setup.shards keep (slice_get setup.tables i) table
+      (sym (slice_get-map (declared_table setup.shards keep) setup.tables i) ∙ sym (ap (λ items. slice_get items i) declared) ∙ slice_get-map but_for_seed tables i ∙ ap (option_map but_for_seed) at);
+}
+
+-- and so many seats of each go to the threads that serve
+pub seated : (setup : Setup) (keep : Bool) (workers : ℕ) (tables : List ShardsState) (seats : Vec (Vec SeatState)) → AreDeclared setup.shards keep setup.tables tables → length seats.items ≡ length setup.tables
+    → All (λ (of_table : Vec SeatState). vec_len of_table ≡ workers) seats.items → AreSeats (length tables) workers seats
+seated setup keep workers tables seats declared count each = (count ∙ sym ((declared_served setup keep tables declared).count), each)

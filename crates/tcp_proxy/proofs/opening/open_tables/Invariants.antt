@@ -1,0 +1,12 @@
+use Rattle.std.proofs.Common.{◌≡◌, All, length, take, vec_len}
+use Rattle.tcp_proxy.specs.Opened.{AreDeclared}
+use Rattle.tcp_proxy.proofs.opening.open_tables.Given as goal
+
+abbrev pub invariant-loop-named : goal.invariant-loop-named
+invariant-loop-named g l =
+    AreDeclared l.setup.shards l.keep (take l.named-index l.named-items) l.opened.tables.items
+    × (length l.opened.workers.items ≡ l.named-index)
+    × All (λ seats. vec_len seats ≡ l.workers) l.opened.workers.items
+    × (length l.opened.commands.items ≡ l.named-index)
+    × All (λ seats. vec_len seats ≡ l.clients) l.opened.commands.items
+    × (length l.opened.keepers.items ≡ l.named-index)

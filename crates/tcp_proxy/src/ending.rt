@@ -1,0 +1,157 @@
+//! The tables of a setup are settled, once nobody calls them any more.
+
+use rule_model::Setup;
+use shard_book::{Seat, TrackRef};
+use shard_locks::Shards;
+use shard_settling::{Fault, Settled, Unsettled, settle};
+use std::alloc::Global;
+use std::fmt::{Display, Formatter, Write};
+use std::{fmt, io, mem, str};
+use stick_table::Table;
+
+/// What callers of the tables of a setup leave: of each table its seats, and the references that are out.
+pub(crate) struct Left {
+    pub seats: Vec<Vec<Seat>>,
+    pub refs: Vec<Vec<TrackRef>>,
+}
+
+/// How many events the shards of a settled table have counted, and how many references are out there.
+#[derive(Clone, Copy)]
+struct Tally {
+    calls: u64,
+    references: u64,
+}
+
+impl Display for Tally {
+    fn fmt<W: Write>(&self, f: &mut Formatter<W>) -> fmt::Result {
+        let Tally { calls, references } = *self;
+        write!(f, "{calls} calls, {references} references")
+    }
+}
+
+/// What a settled table has counted, up to 2^64 - 1.
+fn tally_of<T: Table>(settled: &Settled<T>) -> Tally {
+    let mut tally = Tally {
+        calls: 0,
+        references: 0,
+    };
+    for count in settled.counts.iter() {
+        tally.calls = tally.calls.saturating_add(*count);
+    }
+    for tickets in settled.tickets.iter() {
+        let references = tickets.as_slice().len() as u64;
+        tally.references = tally.references.saturating_add(references);
+    }
+    tally
+}
+
+/// What a table that isn't settled is said to lack.
+fn code_of(fault: Fault) -> &'static str {
+    match fault {
+        Fault::MissingCalls(_) => "S1",
+        Fault::MissingRefs(_) => "S2",
+        Fault::Mismatch(_) => "S3",
+        Fault::Memory => "S4",
+    }
+}
+
+/// The references are given up: their tickets stay out.
+pub(crate) fn give_up(mut refs: Vec<TrackRef>) {
+    while let Some(reference) = refs.pop() {
+        reference.abandon();
+    }
+    refs.destroy_empty();
+}
+
+/// All references of all tables are given up.
+pub(crate) fn give_up_all(mut refs: Vec<Vec<TrackRef>>) {
+    while let Some(of_table) = refs.pop() {
+        give_up(of_table);
+    }
+    refs.destroy_empty();
+}
+
+/// Settles a table.
+fn settle_table<T: Table>(
+    alloc: Global,
+    table: Shards<T>,
+    seats: Vec<Seat>,
+    refs: Vec<TrackRef>,
+) -> Result<Tally, Fault> {
+    match settle(alloc, table, seats, refs) {
+        Ok(settled) => Ok(tally_of(&settled)),
+        Err(unsettled) => {
+            let Unsettled {
+                fault,
+                found: _,
+                shards: _,
+                seats: _,
+                refs,
+            } = unsettled;
+            give_up(refs);
+            Err(fault)
+        }
+    }
+}
+
+/// The name of the table of a place, as it is printed.
+fn name_at(setup: &Setup, place: usize) -> &str {
+    match setup.tables.as_slice().get(place) {
+        Some(named) => str::from_utf8(named.name.as_slice()).unwrap_or("?"),
+        None => "?",
+    }
+}
+
+/// Takes the list of a place out of a list of lists.
+fn take_list<T>(alloc: Global, lists: &mut Vec<Vec<T>>, place: usize) -> Vec<T> {
+    match lists.get_mut(place) {
+        Some(list) => mem::replace(list, Vec::new(alloc)),
+        None => Vec::new(alloc),
+    }
+}
+
+/// Settles each table of a setup by the seats and the references that its callers left, and prints, in order of declaration,
+/// `settled NAME: C calls, R references`, or `unsettled NAME: S1` and its kin on standard error. Answers whether all were
+/// settled.
+pub(crate) fn settle_all<T: Table, R: Print + Eprint>(
+    alloc: Global,
+    rt: &R,
+    setup: &Setup,
+    tables: Vec<Shards<T>>,
+    left: Left,
+) -> io::Result<bool> {
+    let Left {
+        mut seats,
+        mut refs,
+    } = left;
+    let mut all = Ok(true);
+    for (place, table) in tables.into_iter().enumerate() {
+        let seats = take_list(alloc, &mut seats, place);
+        let refs = take_list(alloc, &mut refs, place);
+        let ended = settle_table(alloc, table, seats, refs);
+        all = print_end(rt, name_at(setup, place), ended, all);
+    }
+    give_up_all(refs);
+    all
+}
+
+/// Prints how a table ended, unless printing failed before; answers whether all are settled so far.
+fn print_end<R: Print + Eprint>(
+    rt: &R,
+    name: &str,
+    ended: Result<Tally, Fault>,
+    before: io::Result<bool>,
+) -> io::Result<bool> {
+    let all = before?;
+    match ended {
+        Ok(tally) => {
+            println!(rt; "settled {name}: {tally}")?;
+            Ok(all)
+        }
+        Err(fault) => {
+            let code = code_of(fault);
+            eprintln!(rt; "unsettled {name}: {code}")?;
+            Ok(false)
+        }
+    }
+}

@@ -1,0 +1,150 @@
+//! The tables of a setup are opened, for threads to share.
+
+ghost use Rattle.std.specs.Prelude.{◌≡◌, ◌≤◌, ◌+◌, ◌++◌, ◌∷◌, [], length, vec_len, IfOk, OnOk};
+ghost use Rattle.stick_model.specs.Limits.{IsTableSpec};
+ghost use Rattle.admit_drive.specs.Tables.{CanOpen};
+ghost use Rattle.tcp_relay.specs.Serving.{AreSeats, AreTablesOf};
+ghost use Rattle.tcp_proxy.specs.Opened.{AreDeclared, but_for_seed, declared_table};
+
+use base_sequence::NoMemory;
+use rule_model::{NamedSpec, Setup};
+use shard_book::Seat;
+use shard_locks::Shards;
+use std::alloc::Global;
+use std::io;
+use std::random::RandomSource;
+use stick_table::Table;
+
+/// Why tables can't be opened.
+#[derive(Debug, Drop, thiserror::Error)]
+pub(crate) enum OpenFault {
+    #[error("out of memory")]
+    NoMemory,
+    #[error("no random numbers can be had: {0}")]
+    NoSeed(io::Error),
+}
+
+impl From<NoMemory> for OpenFault {
+    fn from(_refused: NoMemory) -> OpenFault {
+        OpenFault::NoMemory
+    }
+}
+
+/// A table, and the seats by which it is asked.
+#[derive(Drop)]
+struct OpenTable<T: Table> {
+    table: Shards<T>,
+    workers: Vec<Seat>,
+    commands: Vec<Seat>,
+    keeper: Seat,
+}
+
+/// The tables of a setup, and of each the seats by which it is asked: one for each worker, one for each thread that answers
+/// commands, and one for housekeeping.
+#[derive(Drop)]
+pub(crate) struct OpenTables<T: Table> {
+    pub tables: Vec<Shards<T>>,
+    pub workers: Vec<Vec<Seat>>,
+    pub commands: Vec<Vec<Seat>>,
+    pub keepers: Vec<Seat>,
+}
+
+impl<T: Table> OpenTables<T> {
+    /// One table more.
+    fn add(&mut self, opened: OpenTable<T>) -> Result<(), NoMemory>
+        ensures tables { OnOk result (self.new.tables.items ≡ self.old.tables.items ++ opened.table ∷ []) }
+        ensures workers { OnOk result (self.new.workers.items ≡ self.old.workers.items ++ opened.workers ∷ []) }
+        ensures commands { OnOk result (self.new.commands.items ≡ self.old.commands.items ++ opened.commands ∷ []) }
+        ensures keepers { OnOk result (self.new.keepers.items ≡ self.old.keepers.items ++ opened.keeper ∷ []) }
+    {
+        self.tables.push(opened.table)?;
+        self.workers.push(opened.workers)?;
+        self.commands.push(opened.commands)?;
+        self.keepers.push(opened.keeper)?;
+        Ok(())
+    }
+}
+
+/// A number that nobody outside can foresee.
+fn draw_seed(rt: &impl RandomSource) -> io::Result<u64> {
+    let mut bytes = [0u8; 8];
+    rt.fill_bytes(&mut bytes)?;
+    Ok(u64::from_le_bytes(bytes))
+}
+
+/// The last of some seats.
+fn take_last(seats: &mut Vec<Seat>) -> Seat
+    requires { 1 ≤ vec_len seats.old }
+    ensures { vec_len seats.new + 1 ≡ vec_len seats.old }
+{
+    seats.pop().unwrap()
+}
+
+/// A table and its seats. Strangers choose its keys: so its hashes are made with this seed.
+fn open_table<T: Table>(
+    alloc: Global,
+    named: &NamedSpec,
+    seed: u64,
+    shards: u32,
+    workers: u32,
+    clients: u32,
+    keep: bool,
+) -> Result<OpenTable<T>, NoMemory>
+    requires spec { IsTableSpec named.now.spec }
+    requires shards { (1 ≤ shards) × (shards ≤ 64) }
+    requires places { shards ≤ named.now.spec.size }
+    requires workers { (1 ≤ workers) × (workers ≤ 64) }
+    requires clients { (1 ≤ clients) × (clients ≤ 64) }
+    ensures table { IfOk result (λ opened. but_for_seed opened.table ≡ declared_table shards keep named.now) }
+    ensures workers { IfOk result (λ opened. vec_len opened.workers ≡ workers) }
+    ensures commands { IfOk result (λ opened. vec_len opened.commands ≡ clients) }
+{
+    let mut spec = named.spec.copy()?;
+    spec.seed = seed;
+    let (table, mut seats) = Shards::new(alloc, spec, shards, workers + clients + 1, keep)?;
+    let keeper = take_last(&mut seats);
+    let commands = seats.split_off(workers as usize)?;
+    Ok(OpenTable {
+        table,
+        workers: seats,
+        commands,
+        keeper,
+    })
+}
+
+/// Opens the tables of a setup, in order of declaration, each in the setup's number of shards and by a seed of its own.
+/// With `keep` their seats keep receipts. There are so many workers, and so many threads that answer clients' commands, each 1
+/// to 64.
+pub(crate) fn open_tables<T: Table>(
+    alloc: Global,
+    rt: &impl RandomSource,
+    setup: &Setup,
+    workers: u32,
+    clients: u32,
+    keep: bool,
+) -> Result<OpenTables<T>, OpenFault>
+    requires can_open { CanOpen setup.now }
+    requires workers { (1 ≤ workers) × (workers ≤ 64) }
+    requires clients { (1 ≤ clients) × (clients ≤ 64) }
+    ensures tables { IfOk result (λ opened. AreDeclared setup.now.shards keep setup.now.tables opened.tables.items) }
+    ensures served { IfOk result (λ opened. AreTablesOf setup.now opened.tables.items) }
+    ensures workers { IfOk result (λ opened. AreSeats (length opened.tables.items) workers opened.workers) }
+    ensures commands { IfOk result (λ opened. AreSeats (length opened.tables.items) clients opened.commands) }
+    ensures keepers { IfOk result (λ opened. length opened.keepers.items ≡ length setup.now.tables) }
+{
+    let mut opened = OpenTables {
+        tables: Vec::new(alloc),
+        workers: Vec::new(alloc),
+        commands: Vec::new(alloc),
+        keepers: Vec::new(alloc),
+    };
+    for named in setup.tables.as_slice() {
+        let seed = match draw_seed(rt) {
+            Ok(seed) => seed,
+            Err(reason) => return Err(OpenFault::NoSeed(reason)),
+        };
+        let one = open_table(alloc, named, seed, setup.shards, workers, clients, keep)?;
+        opened.add(one)?;
+    }
+    Ok(opened)
+}

@@ -1,0 +1,308 @@
+//! The proxy runs: its tables are opened, its sockets bound, its threads started, and in the end its tables are settled.
+
+ghost use Rattle.std.specs.Prelude.{◌≡◌, ◌≤◌, length, is_some, true};
+ghost use Rattle.admit_drive.specs.Tables.{CanOpen};
+ghost use Rattle.tcp_relay.specs.Serving.{AreSeats, AreTablesOf};
+
+use crate::ending::{Left, give_up_all, settle_all};
+use crate::opening::{OpenTables, open_tables};
+use crate::plan::Plan;
+use crate::service_threads::{NOBODY, ServiceThread};
+use crate::serving::serve_all;
+use crate::shared::{ProxyRuntime, Shared};
+use crate::sockets::{Sockets, bind_sockets};
+use base_sequence::NoMemory;
+use log::{Log, info};
+use rule_model::{Name, Setup};
+use rule_warnings::{StartPlan, Warning, allowed_descriptors, warnings_of};
+use shard_book::Seat;
+use shard_locks::Shards;
+use std::alloc::Global;
+use std::io;
+use std::random::RandomSource;
+use std::rt::Files;
+use std::sync::atomic::AtomicBool;
+use stick_pooled::StickTable;
+use stick_table::Table;
+use table_socket::remove_own;
+use tcp_relay::{FaultKind, ServeFault, Served};
+
+/// The names of a setup's tables.
+fn names_of(alloc: Global, setup: &Setup) -> Result<Vec<Name>, NoMemory> {
+    let mut names = Vec::new(alloc);
+    for named in setup.tables.as_slice() {
+        names.push(named.name.copy()?)?;
+    }
+    Ok(names)
+}
+
+/// The seats of each table, and one more of each.
+fn with_more(mut seats: Vec<Vec<Seat>>, more: Vec<Seat>) -> Result<Vec<Vec<Seat>>, NoMemory> {
+    for (place, seat) in more.into_iter().enumerate() {
+        if let Some(of_table) = seats.get_mut(place) {
+            of_table.push(seat)?;
+        }
+    }
+    Ok(seats)
+}
+
+/// All seats of each table, with those of the threads beside the listener.
+fn all_seats(
+    mut seats: Vec<Vec<Seat>>,
+    service_threads: Vec<ServiceThread>,
+) -> Result<Vec<Vec<Seat>>, NoMemory> {
+    for service_thread in service_threads {
+        seats = with_more(seats, service_thread.seats)?;
+    }
+    Ok(seats)
+}
+
+/// The last seat of each table, which is taken out of its list.
+fn take_one_of_each(alloc: Global, seats: &mut Vec<Vec<Seat>>) -> Result<Vec<Seat>, NoMemory> {
+    let mut taken = Vec::new(alloc);
+    for of_table in seats.iter_mut() {
+        if let Some(seat) = of_table.pop() {
+            taken.push(seat)?;
+        }
+    }
+    Ok(taken)
+}
+
+/// Says why serving ended with a fault.
+fn report<R: Eprint>(rt: &R, kind: FaultKind) -> io::Result<()> {
+    match kind {
+        FaultKind::Waiting => eprintln!(rt; "stickd: a thread can't wait for connections"),
+        FaultKind::Thread => eprintln!(rt; "stickd: a thread can't be started"),
+        FaultKind::NoMemory => eprintln!(rt; "stickd: out of memory"),
+    }
+}
+
+/// Runs the proxy of a setup that has a `bind` and a server: opens its tables, binds its sockets, and serves. It stops once
+/// the connections of the plan have ended, and then settles the tables and prints what they come to; without such a number
+/// it stops only where a thread can't wait for connections. Answers whether all went well; what didn't is said on standard
+/// error. An error is one of printing.
+pub fn run_proxy<
+    T: Table + Send,
+    R: ProxyRuntime + Files + RandomSource + Print + Eprint + AllocGlobal,
+>(alloc: Global, rt: &R, setup: &Setup, plan: Plan<'_>) -> io::Result<bool>
+    requires can_open { CanOpen setup.now }
+    requires threads { (1 ≤ plan.threads) × (plan.threads ≤ 64) }
+    requires clients { (1 ≤ plan.socket.clients) × (plan.socket.clients ≤ 64) }
+{
+    let Some(bind) = setup.bind else {
+        eprintln!(rt; "stickd: the configuration has no bind")?;
+        return Ok(false);
+    };
+    if setup.server.is_none() {
+        eprintln!(rt; "stickd: the configuration has no server")?;
+        return Ok(false);
+    }
+    let keep = plan.stop_after.is_some();
+    let clients = plan.socket.clients;
+    let opened = match open_tables::<T>(alloc, rt, setup, plan.threads, clients, keep) {
+        Ok(opened) => opened,
+        Err(fault) => {
+            eprintln!(rt; "stickd: {fault}")?;
+            return Ok(false);
+        }
+    };
+    let OpenTables {
+        tables,
+        workers,
+        commands,
+        keepers,
+    } = opened;
+    let Ok(service_threads) = make_service_threads(alloc, setup, clients, commands, keepers) else {
+        report(rt, FaultKind::NoMemory)?;
+        return Ok(false);
+    };
+    let Ok(warnings) = warnings_of(alloc, setup, start_plan(plan, allowed_descriptors())) else {
+        report(rt, FaultKind::NoMemory)?;
+        return Ok(false);
+    };
+    let Some(sockets) = bind_sockets(rt, bind, plan)? else {
+        return Ok(false);
+    };
+    say_warnings(rt, warnings.as_slice());
+    serve_and_settle(
+        alloc,
+        rt,
+        setup,
+        plan,
+        &sockets,
+        tables,
+        workers,
+        service_threads,
+    )
+}
+
+/// Says on standard error what may surprise whoever starts it so, a warning a line. Whether that can be said changes nothing.
+fn say_warnings<R: Eprint>(rt: &R, warnings: &[Warning]) {
+    for warning in warnings {
+        let _ = eprintln!(rt; "stickd: warning: {warning}");
+    }
+}
+
+/// What a run is warned of by, where the process may have so many descriptors.
+fn start_plan(plan: Plan<'_>, descriptors: Option<u64>) -> StartPlan
+    ensures numbers { (result.connections ≡ plan.entry.limits.connections) × (result.threads ≡ plan.entry.threads) × (result.socket_clients ≡ plan.entry.socket.clients) }
+    ensures descriptors { result.descriptors ≡ descriptors }
+    ensures client { result.has_client_timeout ≡ is_some plan.entry.limits.timeouts.client }
+    ensures server { result.has_server_timeout ≡ is_some plan.entry.limits.timeouts.server }
+{
+    StartPlan {
+        connections: plan.limits.connections,
+        threads: plan.threads,
+        socket_clients: plan.socket.clients,
+        descriptors,
+        has_client_timeout: plan.limits.timeouts.client.is_some(),
+        has_server_timeout: plan.limits.timeouts.server.is_some(),
+    }
+}
+
+/// How serving ended: the fault, if any; how many connections were admitted, rejected, and not accepted; and what the threads
+/// that served them have left.
+struct Ended {
+    fault: Option<FaultKind>,
+    admitted: u64,
+    rejected: u64,
+    unaccepted: u64,
+    left: Left,
+}
+
+/// How serving ended.
+fn end_of(served: Result<Served, ServeFault>) -> Ended {
+    let (fault, served) = match served {
+        Ok(served) => (None, served),
+        Err(ServeFault { kind, served }) => (Some(kind), served),
+    };
+    let Served {
+        admitted,
+        rejected,
+        unaccepted,
+        seats,
+        refs,
+    } = served;
+    Ended {
+        fault,
+        admitted,
+        rejected,
+        unaccepted,
+        left: Left { seats, refs },
+    }
+}
+
+/// The threads beside the listener: so many that answer commands, and the one that does the housekeeping. All have their memory.
+fn make_service_threads(
+    alloc: Global,
+    setup: &Setup,
+    clients: u32,
+    mut commands: Vec<Vec<Seat>>,
+    keepers: Vec<Seat>,
+) -> Result<Vec<ServiceThread>, NoMemory> {
+    let mut service_threads = Vec::new(alloc);
+    for _ in 0..clients {
+        let names = names_of(alloc, setup)?;
+        let seats = take_one_of_each(alloc, &mut commands)?;
+        service_threads.push(ServiceThread::for_commands(names, seats))?;
+    }
+    service_threads.push(ServiceThread::for_housekeeping(alloc, keepers))?;
+    Ok(service_threads)
+}
+
+/// The same on pooled tables, of which an event costs the same whatever their size.
+pub fn run_pooled<R: ProxyRuntime + Files + RandomSource + Print + Eprint + AllocGlobal>(
+    alloc: Global,
+    rt: &R,
+    setup: &Setup,
+    plan: Plan<'_>,
+) -> io::Result<bool>
+    requires can_open { CanOpen setup.now }
+    requires threads { (1 ≤ plan.threads) × (plan.threads ≤ 64) }
+    requires clients { (1 ≤ plan.socket.clients) × (plan.socket.clients ≤ 64) }
+{
+    run_proxy::<StickTable, R>(alloc, rt, setup, plan)
+}
+
+/// Serves, removes the socket's file, and then settles the tables where receipts were kept.
+fn serve_and_settle<T: Table + Send, R: ProxyRuntime + Files + Print + Eprint>(
+    alloc: Global,
+    rt: &R,
+    setup: &Setup,
+    plan: Plan<'_>,
+    sockets: &Sockets,
+    tables: Vec<Shards<T>>,
+    workers: Vec<Vec<Seat>>,
+    mut service_threads: Vec<ServiceThread>,
+) -> io::Result<bool>
+    requires server { is_some setup.now.server ≡ true }
+    requires tables { AreTablesOf setup.now tables.items }
+    requires seats { AreSeats (length tables.items) plan.threads workers }
+    requires threads { (1 ≤ plan.threads) × (plan.threads ≤ 64) }
+{
+    let stop = AtomicBool::new(false);
+    let shared = Shared {
+        alloc,
+        rt,
+        setup,
+        tables: tables.as_slice(),
+        listener: &sockets.listener,
+        socket: &sockets.socket.listener,
+        silence: plan.socket.timeout,
+        threads: plan.threads,
+        limits: plan.limits,
+        stop_after: plan.stop_after,
+        roll_at: plan.roll_at,
+        start: sockets.start,
+        stop: &stop,
+    };
+    let ended = end_of(serve_all(&shared, workers, service_threads.as_mut_slice()));
+    remove_own(rt, plan.socket.path, sockets.socket.file);
+    settle_where(alloc, rt, setup, plan, tables, ended, service_threads)
+}
+
+/// Says what the clients of the command socket came to, on all threads together.
+fn log_clients<R: Log>(rt: &R, service_threads: &[ServiceThread]) {
+    let mut all = NOBODY;
+    for service_thread in service_threads {
+        all = all.with(service_thread.served);
+    }
+    let (clients, commands) = (all.clients, all.commands);
+    info!(rt; "commands: {clients} clients, {commands} commands");
+}
+
+/// Says how serving ended, and settles the tables where it ended well and receipts were kept.
+fn settle_where<T: Table, R: ProxyRuntime + Print + Eprint>(
+    alloc: Global,
+    rt: &R,
+    setup: &Setup,
+    plan: Plan<'_>,
+    tables: Vec<Shards<T>>,
+    ended: Ended,
+    service_threads: Vec<ServiceThread>,
+) -> io::Result<bool> {
+    let Ended {
+        fault,
+        admitted,
+        rejected,
+        unaccepted,
+        left: Left { seats, refs },
+    } = ended;
+    log_clients(rt, service_threads.as_slice());
+    info!(rt; "connections: {admitted} admitted, {rejected} rejected, {unaccepted} failed to be accepted");
+    if let Some(kind) = fault {
+        give_up_all(refs);
+        report(rt, kind)?;
+        return Ok(false);
+    }
+    if plan.stop_after.is_none() {
+        give_up_all(refs);
+        return Ok(true);
+    }
+    let Ok(seats) = all_seats(seats, service_threads) else {
+        give_up_all(refs);
+        report(rt, FaultKind::NoMemory)?;
+        return Ok(false);
+    };
+    settle_all(alloc, rt, setup, tables, Left { seats, refs })
+}

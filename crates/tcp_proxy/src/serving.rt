@@ -1,0 +1,99 @@
+//! The threads of the proxy, until it stops.
+
+ghost use Rattle.std.specs.Prelude.{◌≡◌, length};
+ghost use Rattle.tcp_relay.specs.Serving.{AreSeats};
+
+use crate::service_threads::ServiceThread;
+use crate::shared::{ProxyRuntime, Shared};
+use shard_book::Seat;
+use std::alloc::Global;
+use std::sync::atomic::Ordering;
+use std::thread;
+use std::thread::Scope;
+use stick_table::Table;
+use tcp_relay::{FaultKind, Gate, ServeFault, Served, serve};
+
+/// Connections pass between their verdict and their end without being watched.
+struct Open;
+
+impl Gate for Open {
+    fn pass(&self, _connection: u64) {}
+}
+
+/// The fault of a thread that can't be started, before any connection was served.
+fn unserved(alloc: Global, seats: Vec<Vec<Seat>>) -> ServeFault {
+    ServeFault {
+        kind: FaultKind::Thread,
+        served: Served {
+            admitted: 0,
+            rejected: 0,
+            unaccepted: 0,
+            seats,
+            refs: Vec::new(alloc),
+        },
+    }
+}
+
+/// Starts the threads beside the listener. Answers whether all could be started.
+fn start_all<'s, E, T: Table + Send, R: ProxyRuntime>(
+    scope: &Scope<'s, E>,
+    shared: &'s Shared<'_, T, R>,
+    service_threads: &'s mut [ServiceThread],
+) -> bool {
+    for service_thread in service_threads.iter_mut() {
+        if scope.spawn(move || service_thread.run(shared)).is_err() {
+            return false;
+        }
+    }
+    true
+}
+
+/// Serves connections until serving stops, with commands and housekeeping beside it. All seats come back, those of the threads
+/// beside it in their own lists.
+pub(crate) fn serve_all<T: Table + Send, R: ProxyRuntime>(
+    shared: &Shared<'_, T, R>,
+    seats: Vec<Vec<Seat>>,
+    service_threads: &mut [ServiceThread],
+) -> Result<Served, ServeFault>
+    requires seats { AreSeats (length shared.now.tables.now) shared.now.threads seats }
+{
+    thread::scope(
+        thread::scope_env(),
+        shared.rt,
+        |scope| -> Result<Served, ServeFault>
+            requires seats { AreSeats (length shared.now.tables.now) shared.now.threads seats }
+        {
+            let all_started = start_all(scope, shared, service_threads);
+            let served = serve_where(shared, seats, all_started);
+            // Each of the threads looks at it within 100 ms, whatever its client does.
+            shared.stop.store(true, Ordering::SeqCst);
+            served
+        },
+    )
+}
+
+/// Serves connections, where all threads beside the listener could be started.
+fn serve_where<T: Table + Send, R: ProxyRuntime>(
+    shared: &Shared<'_, T, R>,
+    seats: Vec<Vec<Seat>>,
+    all_started: bool,
+) -> Result<Served, ServeFault>
+    requires seats { AreSeats (length shared.now.tables.now) shared.now.threads seats }
+{
+    if !all_started {
+        return Err(unserved(shared.alloc, seats));
+    }
+    serve(
+        shared.alloc,
+        shared.rt,
+        shared.listener,
+        shared.tables,
+        seats,
+        shared.setup,
+        &Open,
+        shared.threads,
+        shared.limits,
+        shared.stop_after,
+        shared.start,
+    )
+}

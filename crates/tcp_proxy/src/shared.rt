@@ -1,0 +1,55 @@
+//! What the threads of the proxy share.
+
+ghost use Rattle.std.specs.Prelude.{◌≡◌, ◌≤◌, is_some, true};
+ghost use Rattle.tcp_relay.specs.Serving.{AreTablesOf};
+
+use log::Log;
+use rule_model::Setup;
+use shard_locks::Shards;
+use std::alloc::Global;
+use std::net::{Net, TcpListener, TcpStream};
+use std::os::unix::net::UnixListener;
+use std::sync::Wait;
+use std::sync::atomic::AtomicBool;
+use std::thread::Threads;
+use std::time::{Clock, Instant};
+use stick_table::Table;
+use tcp_relay::Limits;
+
+/// What the proxy asks of the system: sockets, threads, locks, a clock and a log.
+pub trait ProxyRuntime: Net<Listener = TcpListener, Stream = TcpStream>
+    + Threads
+    + Wait
+    + Clock
+    + Log
+    + Sync {}
+
+impl<
+    R: Net<Listener = TcpListener, Stream = TcpStream> + Threads + Wait + Clock + Log + Sync,
+> ProxyRuntime for R {}
+
+/// What the threads of the proxy share, each by reference: the tables of its setup, its sockets, and whether it stops.
+#[derive(Drop)]
+pub(crate) struct Shared<'a, T: Table, R> {
+    pub alloc: Global,
+    pub rt: &'a R,
+    pub setup: &'a Setup,
+    pub tables: &'a [Shards<T>],
+    pub listener: &'a TcpListener,
+    pub socket: &'a UnixListener,
+    /// How long a client of the socket may send or take nothing, in ms.
+    pub silence: u64,
+    /// How many threads serve connections.
+    pub threads: u32,
+    pub limits: Limits,
+    /// The number of connections after which the proxy stops, if it does.
+    pub stop_after: Option<u64>,
+    /// A shard's record begins again once it has so many calls.
+    pub roll_at: u64,
+    /// The moment 0.
+    pub start: Instant,
+    pub stop: &'a AtomicBool,
+    ghost are_tables: { AreTablesOf setup.now tables.now },
+    ghost has_server: { is_some setup.now.server ≡ true },
+    ghost few: { (1 ≤ threads) × (threads ≤ 64) },
+}

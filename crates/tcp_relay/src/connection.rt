@@ -1,0 +1,83 @@
+//! A connection that a worker holds.
+
+ghost use Rattle.std.specs.Prelude.{◌≡◌, true, is_some, IfOk};
+ghost use Rattle.admit_core.specs.Conn.{needed};
+ghost use Rattle.admit_core.specs.declared.need.Need.TheVariants.{Rest};
+ghost use Rattle.tcp_relay.specs.Connections.{IsConnection};
+
+use crate::width::Width;
+use admit_core::Conn;
+use mio::Registry;
+use shard_book::TrackRef;
+use std::marker::PhantomData;
+use tcp_link::{Buffer, Link, Ready, Timeouts};
+
+/// A connection that a worker holds: its sockets as long as it is open; without them, it holds references of which a release
+/// was refused.
+pub(crate) struct Connection<'a, W: Width> {
+    pub(crate) conn: Conn<'a, TrackRef>,
+    pub(crate) link: Option<Link>,
+    pub(crate) of: PhantomData<W>,
+    ghost is: { IsConnection W.tables conn },
+    ghost rests: { is_some link ≡ true → needed conn ≡ Rest },
+}
+
+impl<'a, W: Width> Connection<'a, W> {
+    /// A connection that is open.
+    pub(crate) fn open(conn: Conn<'a, TrackRef>, link: Link) -> Connection<'a, W>
+        requires connection { IsConnection W.tables conn }
+        requires rests { needed conn ≡ Rest }
+    {
+        Connection {
+            conn,
+            link: Some(link),
+            of: PhantomData,
+        }
+    }
+
+    /// A connection that still holds references once it is closed.
+    pub(crate) fn kept(conn: Conn<'a, TrackRef>) -> Connection<'a, W>
+        requires connection { IsConnection W.tables conn }
+    {
+        Connection {
+            conn,
+            link: None,
+            of: PhantomData,
+        }
+    }
+
+    /// The connection and its sockets, where it is open; else itself.
+    pub(crate) fn parts(self) -> Result<(Conn<'a, TrackRef>, Link), Connection<'a, W>>
+        ensures connection { IfOk result (λ parts. IsConnection W.tables parts.0) }
+        ensures rests { IfOk result (λ parts. needed parts.0 ≡ Rest) }
+    {
+        let Connection { conn, link, of: _ } = self;
+        match link {
+            Some(link) => Ok((conn, link)),
+            None => Err(Connection::kept(conn)),
+        }
+    }
+
+    /// Gives it its turn, as a socket of it is ready. Whether it is over now.
+    pub(crate) fn turn(
+        &mut self,
+        registry: &Registry,
+        ready: Ready,
+        moment: u64,
+        buffer: &mut Buffer,
+    ) -> bool {
+        match &mut self.link {
+            Some(link) => !link.turn(registry, ready, moment, buffer),
+            None => false,
+        }
+    }
+
+    /// Whether it is open, and a peer of it has been silent for longer than it may, at a moment in ms. Silence counts from `since` on
+    /// at the earliest.
+    pub(crate) fn is_late(&mut self, moment: u64, since: u64, timeouts: &Timeouts) -> bool {
+        match &mut self.link {
+            Some(link) => link.is_late(moment, since, timeouts),
+            None => false,
+        }
+    }
+}

@@ -1,0 +1,31 @@
+//! Calls of tables in shards for tests and benchmarks: events drawn at random, and asked by callers that hold references.
+//!
+//! The calls of a table in shards, one by one, and what becomes of the table where it is shown for settling: for the program
+//! `test_tour`, whose allocations are refused in turn, and for `test_settling`. They stand apart so that they are proved once
+//! for both.
+//!
+//! Worlds of connections from a few addresses under one limit, and what is counted of them: for the program `test_lead`, whose
+//! allocations are refused in turn, and for `test_script`. They stand apart so that they are proved once for both.
+#![tactic(auto)]
+
+mod asking;
+mod books;
+mod caller;
+mod counts;
+mod draws;
+mod random_numbers;
+mod settle_asking;
+mod setups;
+mod showing;
+mod tables;
+
+pub use asking::{ask, ticket_of};
+pub use books::books_of;
+pub use caller::{Caller, Drawing, Held};
+pub use counts::{admitted, go_on, held, open_world, out, phase, visit};
+pub use draws::{event, key, spec};
+pub use random_numbers::Random;
+pub use settle_asking::{Call, get, has, list, make, put, track};
+pub use setups::limiting;
+pub use showing::{abandon_all, references_of};
+pub use tables::{Opened, Outcome, open, place, show};

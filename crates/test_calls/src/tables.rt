@@ -1,0 +1,122 @@
+//! A table of 12 entries in two shards, and what is shown when it is settled.
+
+ghost use Rattle.std.specs.Prelude.{◌<◌};
+
+use crate::caller::Held;
+use crate::draws::spec;
+use crate::showing::{abandon_all, references_of};
+use base_sequence::NoMemory;
+use shard_book::{Seat, TrackRef};
+use shard_locks::Shards;
+use shard_settling::{Fault, Settled, Unsettled, settle};
+use std::alloc::Global;
+use stick_table::PlainTable;
+
+/// A table and its seats.
+pub type Opened = (Shards<PlainTable>, Vec<Seat>);
+
+/// A table of 12 entries in two shards, each of which may have 5 references, and two seats.
+pub fn open(alloc: Global, keep: bool) -> Result<Opened, NoMemory> {
+    let spec = spec(alloc, 12, 5, 1 << 62)?;
+    Shards::new(alloc, spec, 2, 2, keep)
+}
+
+/// The shard of a number, of which there are as many as the table has.
+pub fn place(table: &Shards<PlainTable>, number: u32) -> u32
+    ensures { result < table.now.shards }
+{
+    number % table.shards()
+}
+
+/// Whether a reference is of this ticket.
+fn is_of(reference: &TrackRef, held: &Held) -> bool {
+    held.shard == reference.shard() && held.ticket == reference.ticket()
+}
+
+/// Whether references are those of these tickets, in their order.
+fn are_of(refs: &[TrackRef], held: &[Held]) -> bool {
+    if refs.len() != held.len() {
+        return false;
+    }
+    for place in 0..refs.len() {
+        if !is_of(&refs[place], &held[place]) {
+            return false;
+        }
+    }
+    true
+}
+
+/// The number of a seat, its calls of each of two shards, and its receipts.
+type Account = [u64; 4];
+
+/// The account of a seat, where there are so many.
+fn account(seats: &[Seat], place: usize) -> Option<Account> {
+    match seats.get(place) {
+        Some(seat) => Some([
+            u64::from(seat.number()),
+            seat.calls(0),
+            seat.calls(1),
+            seat.receipts().len() as u64,
+        ]),
+        None => None,
+    }
+}
+
+/// The accounts of three seats, or of those that there are.
+fn accounts(seats: &[Seat]) -> [Option<Account>; 3] {
+    [account(seats, 0), account(seats, 1), account(seats, 2)]
+}
+
+/// What becomes of a table that is shown for settling.
+#[derive(Drop)]
+pub enum Outcome {
+    Settled(Settled<PlainTable>),
+    /// All that was shown came back.
+    Unsettled(Fault, Opened),
+    /// There was no memory to show it, or something else came back than was shown.
+    Lost,
+}
+
+/// What comes back, where it is what was shown: so many shards, seats of these accounts, and the references of these
+/// tickets.
+fn handed_back(
+    unsettled: Unsettled<PlainTable>,
+    shards: u32,
+    shown: [Option<Account>; 3],
+    held: &[Held],
+) -> Outcome {
+    let Unsettled {
+        fault,
+        found: _,
+        shards: table,
+        seats,
+        refs,
+    } = unsettled;
+    let are_back = are_of(refs.as_slice(), held);
+    abandon_all(refs);
+    if are_back && accounts(seats.as_slice()) == shown && table.shards() == shards {
+        Outcome::Unsettled(fault, (table, seats))
+    } else {
+        Outcome::Lost
+    }
+}
+
+/// Settles a table.
+fn settled(
+    alloc: Global,
+    opened: Opened,
+    refs: Vec<TrackRef>,
+) -> Result<Settled<PlainTable>, Unsettled<PlainTable>> {
+    let (table, seats) = opened;
+    settle(alloc, table, seats, refs)
+}
+
+/// Settles a table, its callers showing these seats, and references by these tickets.
+pub fn show(alloc: Global, opened: Opened, held: &[Held]) -> Outcome {
+    let shards = opened.0.shards();
+    let shown = accounts(opened.1.as_slice());
+    match settled(alloc, opened, references_of(alloc, held)) {
+        Ok(settled) => Outcome::Settled(settled),
+        Err(unsettled) => handed_back(unsettled, shards, shown, held),
+    }
+}

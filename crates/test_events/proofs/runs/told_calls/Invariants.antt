@@ -1,0 +1,9 @@
+use Rattle.std.proofs.Common.{All}
+use Rattle.stick_model.specs.Limits.{IsTableEvent}
+use Rattle.stick_model.specs.Run.{StoredRun}
+use Rattle.stick_model.specs.declared.events.Stored.{Stored}
+use Rattle.test_events.proofs.runs.told_calls.Given as goal
+
+-- the calls so far are those of a run from the base to the table
+abbrev pub invariant-loop-row : goal.invariant-loop-row
+invariant-loop-row l = StoredRun l.base l.calls.items l.replies.items l.table × All (λ (call : Stored). IsTableEvent call.event) l.calls.items

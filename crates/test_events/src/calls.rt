@@ -1,0 +1,172 @@
+//! Calls of tables and of books, one in each function. What a table promises of a call is long, and the tests compare
+//! answers: so little or nothing is promised here, and the proofs of the tests have nothing of it to carry.
+
+ghost use Rattle.std.specs.Prelude.{◌≡◌, All, IfOk};
+ghost use Rattle.stick_model.specs.Limits.{IsTableEvent, IsTableSpec};
+ghost use Rattle.stick_model.specs.Run.{CanRedo, CanRedoAll};
+ghost use Rattle.stick_model.specs.Step.{Step, slot_of};
+ghost use Rattle.stick_model.specs.declared.events.Stored.{Stored as ItsStored};
+
+use base_sequence::{NoMemory, Sequence};
+use shard_book::Book;
+use std::alloc::Global;
+use stick_table::{Event, PlainTable, Refusal, Reply, Spec, Stored, Table, redo_all, run};
+
+/// What an event is answered.
+pub type Answer = Result<Reply, Refusal>;
+
+/// What an event is answered at two times: twice at once, or again when the same call is made again.
+pub type Answers = (Answer, Answer);
+
+/// Both answers are this refusal.
+fn refused(refusal: Refusal) -> Answers {
+    (Err(refusal), Err(refusal))
+}
+
+/// An empty table.
+pub fn open<T: Table>(alloc: Global, spec: Spec) -> Result<T, NoMemory>
+    requires { IsTableSpec spec }
+{
+    T::open(alloc, spec)
+}
+
+/// What a table answers an event.
+pub fn step<T: Table>(table: &mut T, event: &Event) -> Answer
+    requires { IsTableEvent event.now }
+{
+    table.step(event)
+}
+
+/// What a table answers an event, twice.
+pub fn step_twice<T: Table>(table: &mut T, event: &Event) -> Answers
+    requires { IsTableEvent event.now }
+{
+    match table.step_twice(event) {
+        Ok((reply, again)) => (Ok(reply), Ok(again)),
+        Err(refusal) => refused(refusal),
+    }
+}
+
+/// A plain copy of a table.
+pub fn copied<T: Table>(table: &T) -> Result<PlainTable, NoMemory>
+    ensures { IfOk result (λ copy. copy ≡ T.state table.now) }
+{
+    table.to_plain()
+}
+
+/// What a table replies to an event, and the call by which it is made again.
+pub fn step_stored<T: Table>(table: &mut T, event: Event) -> Result<(Stored, Reply), Refusal>
+    requires { IsTableEvent event }
+    ensures step { IfOk result (λ told. Step (T.state table.old) told.0.event told.1 (T.state table.new)) }
+    ensures slot { IfOk result (λ told. told.0.slot ≡ slot_of told.1) }
+    ensures event { IfOk result (λ told. IsTableEvent told.0.event) }
+{
+    let reply = table.step(&event)?;
+    let slot = reply.slot();
+    Ok((Stored { event, slot }, reply))
+}
+
+/// What a plain table answers a call that is made again.
+fn redo(table: &mut PlainTable, stored: &Stored) -> Answer
+    requires event { IsTableEvent stored.now.event }
+    requires slot { CanRedo table.old stored.now }
+{
+    table.redo(stored)
+}
+
+/// What a table answers an event, and what a plain copy of it, as it was before, answers the same call made again.
+/// Where there is no copy, the event is not made.
+#[tactic(auto, using(stick_model::proofs::RunLemmas::can_redo))]
+pub fn step_and_redo<T: Table>(table: &mut T, event: Event) -> Answers
+    requires { IsTableEvent event }
+{
+    let Ok(mut copy) = copied(table) else {
+        return refused(Refusal::Memory);
+    };
+    match step_stored(table, event) {
+        Ok((stored, reply)) => (Ok(reply), redo(&mut copy, &stored)),
+        Err(refusal) => refused(refusal),
+    }
+}
+
+/// What a table answers events, one after another.
+pub fn run_all(
+    alloc: Global,
+    table: &mut PlainTable,
+    events: &[Event],
+) -> Result<Sequence<Reply>, Refusal>
+    requires { All IsTableEvent events.now }
+{
+    run(alloc, table, events)
+}
+
+/// What a plain table answers calls that are made again, one after another.
+pub fn redo_run(
+    alloc: Global,
+    table: &mut PlainTable,
+    calls: &[Stored],
+) -> Result<Sequence<Reply>, Refusal>
+    requires events { All (λ (call : ItsStored). IsTableEvent call.event) calls.now }
+    requires slots { CanRedoAll table.old calls.now }
+{
+    redo_all(alloc, table, calls)
+}
+
+/// The book of an empty plain table.
+pub fn open_book(alloc: Global, spec: Spec) -> Result<Book<PlainTable>, NoMemory>
+    requires { IsTableSpec spec }
+{
+    Book::open(alloc, spec)
+}
+
+/// What a book answers an event. The call is recorded with seat 7.
+pub fn call(book: &mut Book<PlainTable>, event: Event) -> Answer
+    requires { IsTableEvent event }
+{
+    book.call(7, event)
+}
+
+/// What a book answers an event, twice. The call is recorded with seat 7.
+pub fn call_twice(book: &mut Book<PlainTable>, event: Event) -> Answers
+    requires { IsTableEvent event }
+{
+    match book.call_twice(7, event) {
+        Ok((reply, again)) => (Ok(reply), Ok(again)),
+        Err(refusal) => refused(refusal),
+    }
+}
+
+/// The record of a book begins again at its live state.
+pub fn roll(book: &mut Book<PlainTable>) -> Result<(), NoMemory> {
+    book.roll()
+}
+
+/// Whether a book has counted so many events.
+pub fn has_counted(book: &Book<PlainTable>, events: u64) -> bool {
+    book.events() == events
+}
+
+/// How many events the live table of a book has counted.
+pub fn live_events(book: &Book<PlainTable>) -> u64 {
+    book.live().events()
+}
+
+/// Whether the base of a book is an empty table.
+pub fn is_base_new(book: &Book<PlainTable>) -> bool {
+    book.base().is_new()
+}
+
+/// How many events the base of a book has counted.
+pub fn base_events(book: &Book<PlainTable>) -> u64 {
+    book.base().events()
+}
+
+/// How many references are out at the base of a book.
+pub fn base_references(book: &Book<PlainTable>) -> usize {
+    book.base().tickets().len()
+}
+
+/// How many calls a book has recorded since its base.
+pub fn recorded(book: &Book<PlainTable>) -> usize {
+    book.calls().len()
+}

@@ -1,0 +1,54 @@
+//! What the system is told of silent peers.
+
+ghost use Rattle.libc.specs.Net.{SockOption};
+
+use crate::peers::pair_at;
+use libc::net as system;
+use std::net::{Net, TcpListener, TcpStream};
+use std::os::fd::{AsRawFd, RawFd};
+use tcp_link::Keepalive;
+
+/// A number that a socket has for an option of TCP. None where the system doesn't tell.
+fn option(socket: RawFd, level: i32, name: i32) -> Option<u32>
+    requires { SockOption level name }
+{
+    let mut value = [0u8; 16];
+    let mut size = 4u32;
+    if unsafe { system::getsockopt(socket, level, name, &mut value, &mut size) } < 0 {
+        return None;
+    }
+    let [a, b, c, d, ..] = value;
+    Some(u32::from_ne_bytes([a, b, c, d]))
+}
+
+/// What a socket says of silent peers: whether they are asked, when, how soon again, how often, and how long bytes may stay
+/// unacknowledged.
+fn keepalive(socket: RawFd) -> Option<[u32; 5]> {
+    Some([
+        option(socket, system::SOL_SOCKET, system::SO_KEEPALIVE)?,
+        option(socket, system::IPPROTO_TCP, system::TCP_KEEPIDLE)?,
+        option(socket, system::IPPROTO_TCP, system::TCP_KEEPINTVL)?,
+        option(socket, system::IPPROTO_TCP, system::TCP_KEEPCNT)?,
+        option(socket, system::IPPROTO_TCP, system::TCP_USER_TIMEOUT)?,
+    ])
+}
+
+/// What the sockets say that a listener accepts which was told so.
+fn accepted<R: Net<Listener = TcpListener, Stream = TcpStream>>(
+    rt: &R,
+    time: u64,
+) -> Option<[u32; 5]> {
+    let listener = TcpListener::bind(rt, "127.0.0.1:0").ok()?;
+    Keepalive::of(time).apply(rt, &listener).ok()?;
+    let (_here, there) = pair_at(rt, &listener)?;
+    keepalive(there.as_raw_fd())
+}
+
+#[test]
+fn accepted_sockets_ask_silent_peers(rt: HostRuntime) {
+    assert!(rt; accepted(&rt, 0) == Some([1, 1, 1, 3, 4_000]));
+    assert!(rt; accepted(&rt, 3_000) == Some([1, 3, 1, 3, 6_000]));
+    assert!(rt; accepted(&rt, 3_001) == Some([1, 4, 2, 3, 10_000]));
+    assert!(rt; accepted(&rt, 60_000) == Some([1, 60, 20, 3, 120_000]));
+    assert!(rt; accepted(&rt, u64::MAX) == Some([1, 32_767, 10_923, 3, 65_536_000]));
+}

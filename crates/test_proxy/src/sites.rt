@@ -1,0 +1,212 @@
+//! A listener, and what is served there.
+
+ghost use Rattle.std.specs.Prelude.{◌≡◌, All, IfSome, length, vec_len};
+ghost use Rattle.tcp_relay.specs.Serving.{AreSeats};
+
+use crate::setups::setup;
+use crate::tables::give_up;
+use rule_addresses::{Address, Endpoint};
+use rule_model::Setup;
+use shard_book::{Seat, TrackRef};
+use shard_locks::Shards;
+use std::alloc::Global;
+use std::net::{Net, TcpListener, TcpStream};
+use std::slice;
+use std::sync::Wait;
+use std::thread::Threads;
+use std::time::{Clock, Instant};
+use stick_table::PlainTable;
+use tcp_link::Timeouts;
+use tcp_relay::{FaultKind, Gate, Limits, ServeFault, Served, serve};
+
+/// Each of two threads holds two connections, and a server has five seconds to accept one.
+const LIMITS: Limits = Limits {
+    connections: 4,
+    timeouts: Timeouts {
+        connect: 5_000,
+        client: None,
+        server: None,
+        fin: None,
+    },
+    keepalive: None,
+};
+
+/// A listener, and the setup by which its connections are served.
+#[derive(Drop)]
+pub struct Site<'a, R> {
+    pub alloc: Global,
+    pub rt: &'a R,
+    pub listener: TcpListener,
+    setup: Setup,
+    start: Instant,
+}
+
+/// The port of a listener, at an address of this machine.
+fn at(host: [u8; 4], listener: &TcpListener) -> Option<Endpoint> {
+    match listener.local_addr() {
+        Ok(address) => Some(Endpoint {
+            address: Address::V4(host),
+            port: address.port(),
+        }),
+        Err(_) => None,
+    }
+}
+
+/// Where the server is. Without one it is an address of this machine where nobody listens.
+fn endpoint(server: Option<&TcpListener>, listener: &TcpListener) -> Option<Endpoint> {
+    match server {
+        Some(server) => at([127, 0, 0, 1], server),
+        None => at([127, 0, 0, 77], listener),
+    }
+}
+
+/// A site in front of a server, or of nobody.
+pub fn open_site<'a, R: Net<Listener = TcpListener, Stream = TcpStream> + Clock>(
+    rt: &'a R,
+    alloc: Global,
+    limit: Option<u64>,
+    server: Option<&TcpListener>,
+) -> Option<Site<'a, R>> {
+    let Ok(listener) = TcpListener::bind(rt, "127.0.0.1:0") else {
+        return None;
+    };
+    let endpoint = endpoint(server, &listener)?;
+    let (Ok(setup), Ok(start)) = (setup(alloc, limit, endpoint), Instant::now(rt)) else {
+        return None;
+    };
+    Some(Site {
+        alloc,
+        rt,
+        listener,
+        setup,
+        start,
+    })
+}
+
+/// A client that has connected.
+pub fn client<R: Net<Listener = TcpListener, Stream = TcpStream>>(
+    site: &Site<'_, R>,
+) -> Option<TcpStream> {
+    let Ok(address) = site.listener.local_addr() else {
+        return None;
+    };
+    TcpStream::connect(site.rt, address).ok()
+}
+
+/// What serving came to.
+#[derive(Drop)]
+pub struct Ended {
+    pub fault: Option<FaultKind>,
+    pub admitted: u64,
+    pub rejected: u64,
+    pub unaccepted: u64,
+    pub seats: Vec<Seat>,
+    /// How many references weren't given back, and for how many there are places.
+    pub left: usize,
+    pub places: usize,
+}
+
+fn give_up_all(mut refs: Vec<Vec<TrackRef>>) {
+    while let Some(of_table) = refs.pop() {
+        give_up(of_table);
+    }
+    refs.destroy_empty();
+}
+
+/// How many references of the one table there are, and for how many there are places.
+fn account(refs: &[Vec<TrackRef>]) -> Option<(usize, usize)> {
+    match refs {
+        [of_table] => Some((of_table.len(), of_table.capacity())),
+        _ => None,
+    }
+}
+
+/// What serving came to. None where it wasn't of one table.
+fn end_of(fault: Option<FaultKind>, served: Served) -> Option<Ended> {
+    let Served {
+        admitted,
+        rejected,
+        unaccepted,
+        mut seats,
+        refs,
+    } = served;
+    let counted = account(refs.as_slice());
+    give_up_all(refs);
+    let (left, places) = counted?;
+    let seats = seats.pop()?;
+    Some(Ended {
+        fault,
+        admitted,
+        rejected,
+        unaccepted,
+        seats,
+        left,
+        places,
+    })
+}
+
+/// The seats of the one table.
+fn of_one(alloc: Global, seats: Vec<Seat>) -> Option<Vec<Vec<Seat>>>
+    ensures { IfSome result (AreSeats 1 (vec_len seats)) }
+{
+    let mut of_each = Vec::new(alloc);
+    match of_each.push(seats) {
+        Ok(()) => Some(of_each),
+        Err(_) => None,
+    }
+}
+
+/// Serves so many connections on two threads over one table.
+fn serve_among<
+    R: Net<Listener = TcpListener, Stream = TcpStream> + Threads + Wait + Clock + Sync,
+    G: Gate + Sync,
+>(
+    site: &Site<'_, R>,
+    tables: &[Shards<PlainTable>],
+    seats: Vec<Vec<Seat>>,
+    gate: &G,
+    last: u64,
+) -> Option<Ended>
+    requires one { length tables.now ≡ 1 }
+    requires shards { All (λ table. table.shards ≡ 1) tables.now }
+    requires seats { AreSeats 1 2 seats }
+{
+    let setup = &site.setup;
+    if setup.server.is_none() || setup.tables.as_slice().len() != 1 || setup.shards != 1 {
+        return None;
+    }
+    match serve(
+        site.alloc,
+        site.rt,
+        &site.listener,
+        tables,
+        seats,
+        setup,
+        gate,
+        2,
+        LIMITS,
+        Some(last),
+        site.start,
+    ) {
+        Ok(served) => end_of(None, served),
+        Err(ServeFault { kind, served }) => end_of(Some(kind), served),
+    }
+}
+
+/// The same, with the seats of the two threads.
+pub fn serve_on<
+    R: Net<Listener = TcpListener, Stream = TcpStream> + Threads + Wait + Clock + Sync,
+    G: Gate + Sync,
+>(
+    site: &Site<'_, R>,
+    table: &Shards<PlainTable>,
+    seats: Vec<Seat>,
+    gate: &G,
+    last: u64,
+) -> Option<Ended> {
+    if seats.as_slice().len() != 2 || table.shards() != 1 {
+        return None;
+    }
+    let seats = of_one(site.alloc, seats)?;
+    serve_among(site, slice::from_ref(table), seats, gate, last)
+}

@@ -1,0 +1,120 @@
+//! A table in one shard, what it shows, and what it is settled with.
+
+ghost use Rattle.std.specs.Prelude.{◌≡◌, ◌≤◌};
+
+use crate::setups::spec;
+use base_clock::StoppedClock;
+use base_sequence::{NoMemory, Sequence};
+use byte_ports::MemorySink;
+use shard_book::{Keeper, Named, Seat, TrackRef};
+use shard_locks::{Seated, Shards};
+use shard_settling::{Settled, Unsettled, settle};
+use std::alloc::Global;
+use std::sync::Wait;
+use stick_table::PlainTable;
+use table_cli::answer;
+
+/// A table, the seats of its two workers, and one to look at it.
+#[derive(Drop)]
+pub struct Opened {
+    pub table: Shards<PlainTable>,
+    pub seats: Vec<Seat>,
+    pub looking: Seat,
+}
+
+/// The empty table `t`, whose seats keep receipts.
+pub fn open(alloc: Global) -> Option<Opened> {
+    let Ok(spec) = spec(alloc) else {
+        return None;
+    };
+    let Ok((table, mut seats)) = Shards::new(alloc, spec, 1, 3, true) else {
+        return None;
+    };
+    let looking = seats.pop()?;
+    Some(Opened {
+        table,
+        seats,
+        looking,
+    })
+}
+
+/// A list of a table by the name `t`.
+pub fn named<K: Keeper + Drop>(alloc: Global, keeper: K) -> Result<Vec<Named<K>>, NoMemory> {
+    let name = Sequence::from_slice(alloc, b"t")?;
+    let mut tables = Vec::new(alloc);
+    tables.push(Named { name, keeper })?;
+    Ok(tables)
+}
+
+/// Whether `show table t` is answered that.
+fn is_shown<K: Keeper>(alloc: Global, tables: &mut [Named<K>], wanted: &[u8]) -> bool {
+    let mut clock = StoppedClock::at(1 << 40);
+    let mut writer = MemorySink::new(alloc, 1_000, None);
+    match answer(alloc, tables, &mut clock, b"show table t", &mut writer) {
+        Ok(_) => writer.written() == wanted,
+        Err(_) => false,
+    }
+}
+
+/// The seat by which the table was asked, where `show table t` is answered that.
+pub fn shows(
+    rt: &impl Wait,
+    alloc: Global,
+    table: &Shards<PlainTable>,
+    looking: Seat,
+    wanted: &[u8],
+) -> Option<Seat> {
+    let Ok(mut tables) = named(alloc, Seated::new(table, rt, looking)) else {
+        return None;
+    };
+    if !is_shown(alloc, tables.as_mut_slice(), wanted) {
+        return None;
+    }
+    Some(tables.pop()?.keeper.into_seat())
+}
+
+/// References are given up: their tickets stay out.
+pub fn give_up(mut refs: Vec<TrackRef>) {
+    while let Some(reference) = refs.pop() {
+        reference.abandon();
+    }
+    refs.destroy_empty();
+}
+
+/// How many calls were made of the table, where it settles with these seats, and no reference is out.
+fn settled(alloc: Global, table: Shards<PlainTable>, seats: Vec<Seat>) -> Option<u64> {
+    match settle(alloc, table, seats, Vec::new(alloc)) {
+        Ok(
+            Settled {
+                books: _,
+                counts,
+                tickets: _,
+            },
+        ) => counts.as_slice().first().copied(),
+        Err(
+            Unsettled {
+                fault: _,
+                found: _,
+                shards: _,
+                seats: _,
+                refs,
+            },
+        ) => {
+            give_up(refs);
+            None
+        }
+    }
+}
+
+/// The same with the seats of the workers, and the one that looked.
+pub fn calls(
+    alloc: Global,
+    table: Shards<PlainTable>,
+    mut seats: Vec<Seat>,
+    looking: Seat,
+) -> Option<u64> {
+    if seats.push(looking).is_err() {
+        return None;
+    }
+    settled(alloc, table, seats)
+}

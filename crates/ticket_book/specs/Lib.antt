@@ -1,2 +1,0 @@
-pub mod Tickets
-pub mod Places

@@ -1,9 +1,0 @@
-use Rattle.std.proofs.Common.{◌≡◌, ◌*◌, rules, replicate, ℕ}
-use Rattle.value_rows.proofs.CutLemmas.{new-rows}
-use Rattle.value_rows.proofs.Rows.new.Goals as goal
-
-pub returns : goal.returns
-returns c =
-    let total : c.in-Some.all ≡ c.args.count * c.width-width.result = search rules in
-    let zeros : c.in_ok-words.words.items ≡ replicate {A = ℕ} c.in-Some.all 0 = search rules in
-    new-rows c.args.columns c.args.count c.width-width.result c.in-Some.all c.in_ok-words.words.items total zeros

@@ -1,2 +1,0 @@
-pub mod Grid
-pub mod Cut

@@ -1,4 +1,0 @@
-pub mod WakeLemmas
-pub mod WorldLemmas
-pub mod RunLemmas
-pub mod ScheduleLemmas

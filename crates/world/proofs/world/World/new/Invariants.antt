@@ -1,8 +1,0 @@
-use Rattle.std.proofs.Common.{map, take}
-use Rattle.world.specs.WorldCode.{AreVisitors}
-use Rattle.world.proofs.ScheduleLemmas.{come}
-use Rattle.world.proofs.world.World.new.Given as goal
-
--- a connection has come for each visit so far
-abbrev pub invariant-loop-visit : goal.invariant-loop-visit
-invariant-loop-visit g l = AreVisitors l.visitors.items (take l.visit-index l.visits) (map (come l.setup) (take l.visit-index l.visits))

@@ -1,5 +1,0 @@
-use Rattle.world_laws.proofs.LimitedLemmas.{limit_law}
-use Rattle.world_laws.proofs.laws.limit.Goals as goal
-
-pub returns : goal.returns
-returns c = limit_law

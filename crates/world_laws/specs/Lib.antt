@@ -1,4 +1,0 @@
-pub mod Limit
-pub mod Shown
-pub mod Schedules
-pub mod Alike
