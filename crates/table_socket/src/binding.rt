@@ -7,7 +7,7 @@ use crate::SocketFault;
 use crate::file_id::{FileId, is_own};
 use crate::mode::is_narrowed;
 use crate::patient_stream::set_patience;
-use std::fs::{self, Files, Permissions};
+use std::fs::{self, Files, Metadata, Permissions};
 use std::io;
 use std::net::Net;
 use std::os::fd::{AsFd, AsRawFd, OwnedFd};
@@ -66,11 +66,15 @@ pub fn remove_own(rt: &impl Files, path: &str, made: FileId) {
 
 /// Which file is at a path; a link is a file of its own.
 fn id_at(rt: &impl Files, path: &str) -> io::Result<FileId> {
-    let found = fs::symlink_metadata(rt, path)?;
-    Ok(FileId {
+    Ok(id_of(&fs::symlink_metadata(rt, path)?))
+}
+
+/// Which file this is said of.
+fn id_of(found: &Metadata) -> FileId {
+    FileId {
         device: found.dev(),
         inode: found.ino(),
-    })
+    }
 }
 
 /// A socket with a file at a path where there is none, to which nobody can connect yet. The system gives the file the socket's
@@ -93,7 +97,7 @@ fn open_to<R: Files>(
     access: Access,
 ) -> Result<BoundSocket, SocketFault> {
     let file = id_at(rt, path).map_err(SocketFault::System)?;
-    match listen(rt, path, socket, access) {
+    match listen(rt, path, file, socket, access) {
         Ok(listener) => Ok(BoundSocket { listener, file }),
         Err(reason) => {
             remove_own(rt, path, file);
@@ -106,11 +110,12 @@ fn open_to<R: Files>(
 fn listen<R: Files>(
     rt: &R,
     path: &str,
+    made: FileId,
     socket: OwnedFd,
     access: Access,
 ) -> Result<UnixListener, SocketFault> {
-    widen_mode(rt, path, access.mode).map_err(SocketFault::System)?;
-    if access.group.is_some() {
+    widen_mode(rt, path, made, access.mode).map_err(SocketFault::System)?;
+    if access.group.is_some() && is_own(made, id_at(rt, path).ok()) {
         lchown(rt, path, None, access.group).map_err(SocketFault::Group)?;
     }
     // The system's time for reading a socket holds for accepting too, and is set by a stream's method alone.
@@ -123,10 +128,10 @@ fn listen<R: Files>(
     Ok(listener)
 }
 
-/// Gives the file at a path what the umask has taken away of its mode.
-fn widen_mode(rt: &impl Files, path: &str, mode: u32) -> io::Result<()> {
+/// Gives the file that was made at a path what the umask has taken away of its mode. Another's file there keeps its own.
+fn widen_mode(rt: &impl Files, path: &str, made: FileId, mode: u32) -> io::Result<()> {
     let found = fs::symlink_metadata(rt, path)?;
-    if found.file_type().is_socket() && is_narrowed(mode, found.mode()) {
+    if is_own(made, Some(id_of(&found))) && is_narrowed(mode, found.mode()) {
         return fs::set_permissions(rt, path, Permissions::from_mode(mode));
     }
     Ok(())
