@@ -2,7 +2,7 @@
 
 use crate::client::{DONE, FAILED, answer_of, is_on_terminal, say_no_memory, show};
 use crate::columns::{Texts, columns};
-use crate::ctl::HOME;
+use crate::asking::HOME;
 use crate::errors::is_error;
 use crate::lines::{bare_name, is_row, key_of, name_of, number_of_word, read_header, value_of};
 use crate::ranking::greatest;
@@ -164,7 +164,7 @@ fn grid(
 }
 
 /// A picture of the table that an answer shows.
-fn picture(
+fn draw(
     alloc: Global,
     answer: &[u8],
     asked: &Top<'_>,
@@ -283,7 +283,7 @@ fn show_once<R: Net + Env + Print + Eprint + AllocGlobal>(
     } else {
         usize::MAX
     };
-    match picture(rt.alloc(), &answer, asked, width) {
+    match draw(rt.alloc(), &answer, asked, width) {
         Ok(Picture::Lines(lines)) => {
             if in_place {
                 show(rt, HOME)?;

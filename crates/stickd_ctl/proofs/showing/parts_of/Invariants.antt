@@ -1,5 +1,5 @@
 use Rattle.std.proofs.Common.{Unit, length}
-use Rattle.stickd_ctl.proofs.top.parts_of.Given as goal
+use Rattle.stickd_ctl.proofs.showing.parts_of.Given as goal
 
 abbrev pub decreases-loop-part : goal.decreases-loop-part
 decreases-loop-part l = length l.parts
