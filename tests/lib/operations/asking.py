@@ -1,12 +1,14 @@
 """Trials of `stickd ctl`: what it shows, its status, JSON, and answers that are shown again and again."""
 import json
+import os
 import re
+import shlex
 import subprocess
 import tempfile
 
 from lib.operations.base import OTHER, OnTerminal, answers, asked, fill, running
-from lib.places import stickd
-from lib.proxy import PATIENCE
+from lib.places import TOP, stickd
+from lib.proxy import PATIENCE, Proxy, Server, echoes
 
 # What says why a command did nothing: the words of a command, and its answer.
 REFUSALS = [
@@ -128,5 +130,26 @@ def what_changed_is_marked():
         assert terminal.pictures(4)[3] == '  # table: www, type: ip, size:1024, used:1\n  \n', terminal.written
 
 
-TRIALS = [answers_are_shown_as_they_come, what_did_nothing_has_status_1, nobody_answers, what_is_no_line_is_not_sent,
+def sessions():
+    """The commands of the guide's section on asking, each with what it shows."""
+    with open(os.path.join(TOP, 'docs', 'OPERATING.md'), encoding='utf-8') as guide:
+        section = re.search(r'^## Asking a running stickd\n(.*?)^## ', guide.read(), re.M | re.S)[1]
+    lines = [line[4:] for line in section.splitlines() if line.startswith('    ') or not line]
+    for part in '\n'.join(lines).split('\n$ ')[1:]:
+        command, _, shown = part.partition('\n')
+        yield command, shown.rstrip('\n')
+
+
+def the_example_of_the_guide():
+    """What the guide for operators shows of both commands is what they print."""
+    with Server(echoes) as server, Proxy(server.port, ['stick-table type ip size 1k store conn_cur,gpc0'], threads=1) as proxy:
+        told = list(sessions())
+        assert len(told) == 5, told
+        for command, shown in told:
+            words = [proxy.path if word == '/run/stickd.sock' else word for word in shlex.split(command)]
+            done = subprocess.run([stickd(), *words[1:]], stdin=subprocess.DEVNULL, stdout=subprocess.PIPE, text=True, timeout=PATIENCE)
+            assert (done.returncode, done.stdout.rstrip('\n')) == (0, shown), (command, done.stdout)
+
+
+TRIALS = [the_example_of_the_guide, answers_are_shown_as_they_come, what_did_nothing_has_status_1, nobody_answers, what_is_no_line_is_not_sent,
           json_says_what_the_answer_says, watching_ends_with_the_program, what_changed_is_marked]
