@@ -1,7 +1,6 @@
 -- An answer as JSON.
 use Rattle.std.specs.Prelude.{ℕ, Bool, nat_eq, ◌==◌, ◌-◌, Option, Some, None, is_some, List, [], ◌∷◌, ◌++◌, length, take, codes, decimal, if◌then◌else◌}
 use Rattle.std.specs.List.{list_any, flat_map, ends_with}
-use Rattle.std.specs.Option.{option_map_or}
 use Rattle.base_lines.specs.Parts.{parts, first_part, is_byte, is_line_end}
 use Rattle.stickd_ctl.specs.Lines.{HeaderText, header_of, is_row, key_of, number_of_word, words}
 use Rattle.stickd_ctl.specs.Strings.{string_text}
@@ -32,9 +31,17 @@ header_json name kind size used =
 abbrev pub name_of : List ℕ → List ℕ
 name_of word = first_part (is_byte 61) word
 
+-- the number of a word, 0 where it has none
+abbrev pub or_zero : Option ℕ → ℕ
+or_zero None = 0
+or_zero (Some n) = n
+
+abbrev pub number_or_zero : List ℕ → ℕ
+number_or_zero word = or_zero (number_of_word word)
+
 -- a number of an entry behind those before it, with its name
 abbrev pub number_json : List ℕ → List ℕ
-number_json word = codes ", " ++ string_text (name_of word) ++ codes ": " ++ decimal (option_map_or (λ n. n) (number_of_word word) 0)
+number_json word = codes ", " ++ string_text (name_of word) ++ codes ": " ++ decimal (number_or_zero word)
 
 -- what stands behind an entry's address and key
 abbrev pub numbers_in : List (List ℕ) → List (List ℕ)

@@ -34,25 +34,33 @@ pub record HeaderText : Type 0 where
 abbrev pub header_text : Header → HeaderText
 header_text header = record { name = header.name.now; kind = header.kind.now; size = header.size; used = header.used }
 
--- with the number of its entries
-abbrev pub with_used : List ℕ → List ℕ → ℕ → Option ℕ → Option HeaderText
-with_used name kind size None = None
-with_used name kind size (Some used) = Some (record { name = name; kind = kind; size = size; used = used })
+-- no part is left behind a header
+abbrev pub at_end : HeaderText → List (List ℕ) → Option HeaderText
+at_end header [] = Some header
+at_end header (part ∷ parts) = None
 
--- with its size
-abbrev pub with_size : List ℕ → List ℕ → List ℕ → Option ℕ → Option HeaderText
-with_size name kind used None = None
-with_size name kind used (Some size) = with_used name kind size (number_behind (codes " used:") used)
+-- the number of entries, and what is left
+abbrev pub with_used : List ℕ → List ℕ → ℕ → List (List ℕ) → Option ℕ → Option HeaderText
+with_used name kind size parts None = None
+with_used name kind size parts (Some used) = at_end (record { name = name; kind = kind; size = size; used = used }) parts
 
--- with what its keys are
-abbrev pub with_kind : List ℕ → List ℕ → List ℕ → Option (List ℕ) → Option HeaderText
-with_kind name size used None = None
-with_kind name size used (Some kind) = with_size name kind used (number_behind (codes " size:") size)
+-- the size, and then the number of entries
+abbrev pub with_size : List ℕ → List ℕ → List (List ℕ) → Option ℕ → Option HeaderText
+with_size name kind parts None = None
+with_size name kind [] (Some size) = None
+with_size name kind (used ∷ parts) (Some size) = with_used name kind size parts (number_behind (codes " used:") used)
+
+-- what the keys are, and then the size
+abbrev pub with_kind : List ℕ → List (List ℕ) → Option (List ℕ) → Option HeaderText
+with_kind name parts None = None
+with_kind name [] (Some kind) = None
+with_kind name (size ∷ parts) (Some kind) = with_size name kind parts (number_behind (codes " size:") size)
 
 -- NAME, type: TYPE, size:N, used:N
 abbrev pub header_parts : List (List ℕ) → Option HeaderText
-header_parts (name ∷ kind ∷ size ∷ used ∷ []) = with_kind name size used (behind_prefix (codes " type: ") kind)
-header_parts _ = None
+header_parts [] = None
+header_parts (name ∷ []) = None
+header_parts (name ∷ kind ∷ parts) = with_kind name parts (behind_prefix (codes " type: ") kind)
 
 -- # table: and these parts, with commas between them
 abbrev pub header_of : List ℕ → Option HeaderText

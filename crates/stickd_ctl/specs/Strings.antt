@@ -1,5 +1,5 @@
 -- JSON's strings.
-use Rattle.std.specs.Prelude.{ℕ, suc, Bool, ◌==◌, ◌&&◌, ◌||◌, ◌+◌, ◌-◌, ◌/◌, ◌%◌, nat_le, nat_lt, List, [], ◌∷◌, ◌++◌, length, take, slice_index, codes, if◌then◌else◌}
+use Rattle.std.specs.Prelude.{ℕ, zero, suc, Bool, ◌==◌, ◌&&◌, ◌||◌, ◌+◌, ◌-◌, ◌/◌, ◌%◌, nat_le, nat_lt, List, [], ◌∷◌, ◌++◌, length, take, slice_index, codes, if◌then◌else◌}
 use Rattle.std.specs.Str.{is_utf8}
 
 -- whether bytes begin with so many bytes that are UTF-8
@@ -39,7 +39,7 @@ char_text bytes count =
 -- what stands between the quotes, once so many bytes are left out that belong to the last character
 abbrev pub string_body : ℕ → List ℕ → List ℕ
 string_body skipped [] = []
-string_body 0 (byte ∷ bytes) = char_text (byte ∷ bytes) (char_length (byte ∷ bytes)) ++ string_body (char_length (byte ∷ bytes) - 1) bytes
+string_body zero (byte ∷ bytes) = char_text (byte ∷ bytes) (char_length (byte ∷ bytes)) ++ string_body (char_length (byte ∷ bytes) - 1) bytes
 string_body (suc skipped) (byte ∷ bytes) = string_body skipped bytes
 
 abbrev pub string_text : List ℕ → List ℕ

@@ -1,9 +1,5 @@
 //! Rows of texts as columns.
 
-ghost use Rattle.std.specs.Prelude.{◌≡◌, ◌++◌, OnOk, IfOk};
-ghost use Rattle.stickd_ctl.specs.Columns as spec;
-ghost use Rattle.stickd_ctl.specs.Columns.{padded};
-
 use base_sequence::NoMemory;
 use std::alloc::Global;
 
@@ -11,9 +7,7 @@ use std::alloc::Global;
 pub(crate) type Texts = Vec<Vec<u8>>;
 
 /// Adds a text behind as many blanks as make it so wide.
-fn push_padded(text: &mut Vec<u8>, cell: &[u8], width: usize) -> Result<(), NoMemory>
-    ensures { OnOk result (text.new.items ≡ text.old.items ++ padded width cell.now) }
-{
+fn push_padded(text: &mut Vec<u8>, cell: &[u8], width: usize) -> Result<(), NoMemory> {
     for _place in cell.len()..width {
         text.push(b' ')?;
     }

@@ -23,28 +23,26 @@ enum Written {
     Other,
 }
 
-/// Adds what parts a new object of the array from what was written last.
-fn push_between(text: &mut Vec<u8>, last: Written) -> Result<(), NoMemory>
-    ensures { OnOk result (text.new.items ≡ text.old.items ++ spec.between last) }
+/// What parts a new object of the array from what was written last.
+fn between(last: Written) -> &'static [u8]
+    ensures { result.now ≡ spec.between last }
 {
     match last {
-        Written::Nothing => text.extend_from_slice(b"[\n")?,
-        Written::Table | Written::Entry => text.extend_from_slice(b"]},\n")?,
-        Written::Other => text.extend_from_slice(b",\n")?,
+        Written::Nothing => b"[\n",
+        Written::Table | Written::Entry => b"]},\n",
+        Written::Other => b",\n",
     }
-    Ok(())
 }
 
-/// Adds what ends the array.
-fn push_end(text: &mut Vec<u8>, last: Written) -> Result<(), NoMemory>
-    ensures { OnOk result (text.new.items ≡ text.old.items ++ spec.ending last) }
+/// What ends the array.
+fn ending(last: Written) -> &'static [u8]
+    ensures { result.now ≡ spec.ending last }
 {
     match last {
-        Written::Nothing => text.extend_from_slice(b"[]\n")?,
-        Written::Table | Written::Entry => text.extend_from_slice(b"]}\n]\n")?,
-        Written::Other => text.extend_from_slice(b"\n]\n")?,
+        Written::Nothing => b"[]\n",
+        Written::Table | Written::Entry => b"]}\n]\n",
+        Written::Other => b"\n]\n",
     }
-    Ok(())
 }
 
 /// Adds a table's object, up to its entries.
@@ -63,6 +61,16 @@ fn push_header(text: &mut Vec<u8>, header: &Header<'_>) -> Result<(), NoMemory>
     Ok(())
 }
 
+/// The number of a word, 0 where it has none.
+fn number_or_zero(word: &[u8]) -> u64
+    ensures { result ≡ spec.number_or_zero word.now }
+{
+    match number_of_word(word) {
+        Some(number) => number,
+        None => 0,
+    }
+}
+
 /// Adds a number of an entry behind those before it, with its name.
 fn push_number(text: &mut Vec<u8>, word: &[u8]) -> Result<(), NoMemory>
     ensures { OnOk result (text.new.items ≡ text.old.items ++ number_json word.now) }
@@ -70,7 +78,7 @@ fn push_number(text: &mut Vec<u8>, word: &[u8]) -> Result<(), NoMemory>
     text.extend_from_slice(b", ")?;
     push_string(text, name_of(word))?;
     text.extend_from_slice(b": ")?;
-    push_decimal(text, number_of_word(word).unwrap_or(0))?;
+    push_decimal(text, number_or_zero(word))?;
     Ok(())
 }
 
@@ -119,28 +127,52 @@ fn push_answer(text: &mut Vec<u8>, answer: &[u8]) -> Result<(), NoMemory>
     Ok(())
 }
 
-/// Adds a line's object of the array that isn't a table's, and answers what was written last then.
+/// Adds a line's object, with its text alone.
+fn push_plain(text: &mut Vec<u8>, last: Written, line: &[u8]) -> Result<(), NoMemory>
+    ensures { OnOk result (text.new.items ≡ text.old.items ++ spec.plain_json last line.now) }
+{
+    text.extend_from_slice(between(last))?;
+    push_answer(text, line)?;
+    Ok(())
+}
+
+/// Adds the object of an entry's line. It belongs to the table before it; where there is none, it is a line as any other.
+fn push_member(text: &mut Vec<u8>, last: Written, line: &[u8]) -> Result<(), NoMemory>
+    ensures { OnOk result (text.new.items ≡ text.old.items ++ spec.entry_json last line.now) }
+{
+    match last {
+        Written::Table => {
+            text.extend_from_slice(b"\n")?;
+            push_entry(text, line)
+        }
+        Written::Entry => {
+            text.extend_from_slice(b",\n")?;
+            push_entry(text, line)
+        }
+        Written::Nothing | Written::Other => push_plain(text, last, line),
+    }
+}
+
+/// What was written last behind an entry's line.
+fn behind_member(last: Written) -> Written
+    ensures { result ≡ spec.entry_written last }
+{
+    match last {
+        Written::Table | Written::Entry => Written::Entry,
+        Written::Nothing | Written::Other => Written::Other,
+    }
+}
+
+/// Adds a line's object that isn't a table's, and answers what was written last then.
 fn push_other(text: &mut Vec<u8>, last: Written, line: &[u8]) -> Result<Written, NoMemory>
     ensures text { OnOk result (text.new.items ≡ text.old.items ++ spec.other_json last line.now) }
     ensures last { IfOk result (λ written. written ≡ spec.other_written last line.now) }
 {
     if is_row(line) {
-        match last {
-            Written::Table => {
-                text.extend_from_slice(b"\n")?;
-                push_entry(text, line)?;
-                return Ok(Written::Entry);
-            }
-            Written::Entry => {
-                text.extend_from_slice(b",\n")?;
-                push_entry(text, line)?;
-                return Ok(Written::Entry);
-            }
-            Written::Nothing | Written::Other => {}
-        }
+        push_member(text, last, line)?;
+        return Ok(behind_member(last));
     }
-    push_between(text, last)?;
-    push_answer(text, line)?;
+    push_plain(text, last, line)?;
     Ok(Written::Other)
 }
 
@@ -156,7 +188,7 @@ fn push_line(text: &mut Vec<u8>, last: Written, line: &[u8]) -> Result<Written, 
     let Some(header) = read_header(line) else {
         return push_other(text, last, line);
     };
-    push_between(text, last)?;
+    text.extend_from_slice(between(last))?;
     push_header(text, &header)?;
     Ok(Written::Table)
 }
@@ -170,7 +202,18 @@ fn push_array(text: &mut Vec<u8>, answer: &[u8]) -> Result<(), NoMemory>
     while let Some(line) = lines.next() {
         last = push_line(text, last, line)?;
     }
-    push_end(text, last)
+    text.extend_from_slice(ending(last))?;
+    Ok(())
+}
+
+/// Whether a line is a table's.
+fn is_table(line: &[u8]) -> bool
+    ensures { result ≡ spec.is_table line.now }
+{
+    match read_header(line) {
+        Some(_header) => true,
+        None => false,
+    }
 }
 
 /// Whether a line of an answer is a table's.
@@ -179,7 +222,7 @@ fn has_table(answer: &[u8]) -> bool
 {
     let mut lines = Parts::new(answer, b'\n');
     while let Some(line) = lines.next() {
-        if read_header(line).is_some() {
+        if is_table(line) {
             return true;
         }
     }

@@ -1,6 +1,6 @@
 //! The lines of an answer: a table's, and those of its entries.
 
-ghost use Rattle.std.specs.Prelude.{◌≡◌, None, Some, MatchOption, codes, option_map};
+ghost use Rattle.std.specs.Prelude.{◌≡◌, None, Some, MatchOption, option_map};
 ghost use Rattle.std.specs.List.{list_all};
 ghost use Rattle.base_lines.specs.Parts.{first_part, is_byte};
 ghost use Rattle.stickd_ctl.specs.Lines as spec;
@@ -57,15 +57,15 @@ pub fn read_header(line: &[u8]) -> Option<Header<'_>>
     let kind = after(parts.next()?, b" type: ")?;
     let size = number_after(parts.next()?, b" size:")?;
     let used = number_after(parts.next()?, b" used:")?;
-    if !parts.is_done() {
-        return None;
+    match parts.next() {
+        Some(_more) => None,
+        None => Some(Header {
+            name,
+            kind,
+            size,
+            used,
+        }),
     }
-    Some(Header {
-        name,
-        kind,
-        size,
-        used,
-    })
 }
 
 /// The number behind a word's first `=`.

@@ -2,9 +2,7 @@
 
 ghost use Rattle.std.specs.Prelude.{◌≡◌, ◌++◌, OnOk};
 ghost use Rattle.stickd_ctl.specs.Marks as spec;
-ghost use Rattle.stickd_ctl.specs.Marks.{marked_line, marked_lines, marked};
-ghost use Rattle.base_lines.specs.Parts.{parts, is_byte};
-ghost use Rattle.std.specs.List.{flat_map};
+ghost use Rattle.stickd_ctl.specs.Marks.{marked_line, marked};
 
 use base_lines::Parts;
 use base_sequence::NoMemory;
@@ -22,15 +20,25 @@ fn has_line(text: &[u8], line: &[u8]) -> bool
     false
 }
 
-/// Adds a line behind its mark: two blanks where it stood in the last answer, else an asterisk and a blank.
+/// A line's mark: two blanks where it stood in the last answer, else an asterisk and a blank.
+fn mark_of(last: &[u8], line: &[u8]) -> &'static [u8]
+    ensures { result.now ≡ spec.mark_of last.now line.now }
+{
+    if has_line(last, line) { b"  " } else { b"* " }
+}
+
+/// Whether a line is an empty one behind the last line end.
+fn is_end(line: &[u8], lines: &Parts<'_>) -> bool
+    ensures { result ≡ spec.is_end line.now lines.now }
+{
+    line.is_empty() && lines.is_done()
+}
+
+/// Adds a line behind its mark.
 fn push_line(text: &mut Vec<u8>, last: &[u8], line: &[u8]) -> Result<(), NoMemory>
     ensures { OnOk result (text.new.items ≡ text.old.items ++ marked_line last.now line.now) }
 {
-    if has_line(last, line) {
-        text.extend_from_slice(b"  ")?;
-    } else {
-        text.extend_from_slice(b"* ")?;
-    }
+    text.extend_from_slice(mark_of(last, line))?;
     text.extend_from_slice(line)?;
     text.push(b'\n')?;
     Ok(())
@@ -42,7 +50,7 @@ pub fn push_marked(text: &mut Vec<u8>, last: &[u8], answer: &[u8]) -> Result<(),
 {
     let mut lines = Parts::new(answer, b'\n');
     while let Some(line) = lines.next() {
-        if line.is_empty() && lines.is_done() {
+        if is_end(line, &lines) {
             return Ok(());
         }
         push_line(text, last, line)?;

@@ -1,8 +1,8 @@
 //! The greatest of many numbers.
 
-ghost use Rattle.std.specs.Prelude.{◌≡◌, ◌≤◌, IfOk, [], length};
+ghost use Rattle.std.specs.Prelude.{◌≡◌, ◌≤◌, IfOk, OnOk, length};
 ghost use Rattle.stickd_ctl.specs.Ranking as spec;
-ghost use Rattle.stickd_ctl.specs.Ranking.{ahead, with_one, ranked_on};
+ghost use Rattle.stickd_ctl.specs.Ranking.{ahead, with_one};
 
 use base_sequence::NoMemory;
 use std::alloc::Global;

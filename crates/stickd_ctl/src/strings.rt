@@ -1,6 +1,6 @@
 //! JSON's strings.
 
-ghost use Rattle.std.specs.Prelude.{◌≡◌, ◌≤◌, ◌++◌, ◌∷◌, [], OnOk, length, take};
+ghost use Rattle.std.specs.Prelude.{◌≡◌, ◌≤◌, ◌++◌, OnOk};
 ghost use Rattle.std.specs.Str.{is_utf8};
 ghost use Rattle.stickd_ctl.specs.Strings as spec;
 ghost use Rattle.stickd_ctl.specs.Strings.{char_text, string_body, string_text};
@@ -91,6 +91,7 @@ fn push_char(text: &mut Vec<u8>, bytes: &[u8], count: usize) -> Result<(), NoMem
 }
 
 /// Adds what stands between the quotes of a text's string.
+#[tactic(auto, using(crate::proofs::StringLemmas::body_skips, crate::proofs::StringLemmas::body_begins))]
 fn push_body(text: &mut Vec<u8>, bytes: &[u8]) -> Result<(), NoMemory>
     ensures { OnOk result (text.new.items ≡ text.old.items ++ string_body 0 bytes.now) }
 {
