@@ -18,7 +18,7 @@ REFUSALS = [
     (['show', 'table', 'www', 'data.gpc1', 'gt', '0'], 'Data type not stored in this table.'),
     (['set', 'table', 'www', 'key', '10.0.0.1', 'data.conn_cur', '1'], "Data type can't be set."),
     (['set', 'table', 'www', 'key', '10.0.0.1', 'data.gpc0', 'x'], 'Invalid value.'),
-    (['show', 'table', 'www', 'key', '10.9.9.9'], 'Key not present.'),
+    (['clear', 'table', 'www', 'key', '10.9.9.9'], 'Key not present.'),
 ]
 
 
@@ -28,7 +28,7 @@ def answers_are_shown_as_they_come():
         assert answers(proxy.path, 'set table www key 10.0.0.1 data.gpc0 7') == '\n'
         shown = answers(proxy.path, 'show', 'table', 'www')
         assert re.fullmatch(r'# table: www, type: ip, size:1024, used:1\n'
-                            r'0x0: key=10\.0\.0\.1 use=0 exp=\d+ conn_cur=0 gpc0=7 conn_rate\(10000\)=0\n\n', shown), shown
+                            r'0x0: key=10\.0\.0\.1 use=0 exp=\d+ gpc0=7 conn_rate\(10000\)=0 conn_cur=0\n\n', shown), shown
         both = answers(proxy.path, 'show table ; show table')
         assert both == 2 * '# table: www, type: ip, size:1024, used:1\n\n', both
         assert answers(proxy.path, 'clear', 'table', 'www', 'key', '10.0.0.1') == '\n'
@@ -104,17 +104,16 @@ def json_says_what_the_answer_says():
 
 def watching_ends_with_the_program():
     """Off a terminal answers come one after the other, an empty line between them, until the program is killed: status 1."""
-    for words, parted in ([], '\n\n'), (['--json'], '\n\n'):
+    for words, count in ([], 5), (['--json'], 9):
         with running() as proxy:
             watch = subprocess.Popen([stickd(), 'ctl', '--socket', proxy.path, *words, '--watch', '1', 'show', 'table'], stdin=subprocess.DEVNULL,
                                      stdout=subprocess.PIPE, stderr=subprocess.PIPE, text=True)
-            first = watch.stdout.readline()
-            lines = [first] + [watch.stdout.readline() for _ in range(5 if not words else 8)]
+            lines = [watch.stdout.readline() for _ in range(count)]
             proxy.killed()
-            rest, said = watch.communicate(timeout=PATIENCE)
-            shown = (''.join(lines) + rest).rstrip('\n').split(parted)
+            shown = (''.join(lines) + watch.stdout.read()).rstrip('\n').split('\n\n')
+            said, status = watch.stderr.read(), watch.wait(PATIENCE)
             assert len(shown) >= 3 and len(set(shown)) == 1, shown
-            assert watch.returncode == 1 and f"{proxy.path} can't be reached" in said, (watch.returncode, said)
+            assert status == 1 and f"{proxy.path} can't be reached" in said, (status, said)
             if words:
                 assert all(json.loads(text)[0]['name'] == 'www' for text in shown), shown
             else:

@@ -14,8 +14,8 @@ def the_greatest_come_first():
     with running() as proxy:
         fill(proxy, 30)
         lines, rows = top(proxy, '--by', 'gpc0')
-        assert rows[0] == ['key', 'use', 'exp', 'conn_cur', 'gpc0', 'conn_rate(10000)'], rows[0]
-        assert [row[4] for row in rows[1:]] == [str(number) for number in range(30, 10, -1)], rows
+        assert rows[0] == ['key', 'use', 'exp', 'gpc0', 'conn_rate(10000)', 'conn_cur'], rows[0]
+        assert [row[3] for row in rows[1:]] == [str(number) for number in range(30, 10, -1)], rows
         assert [row[0] for row in rows[1:]] == [f'10.0.0.{number}' for number in range(30, 10, -1)], rows
         assert all(590 <= int(row[2]) <= 600 for row in rows[1:]), rows
         assert len({len(line) for line in lines}) == 1 and lines[0].startswith('      key use exp'), lines
@@ -40,7 +40,7 @@ def of_several_tables_one_is_named():
         assert [row[0] for row in top(proxy, '--table', 'www', '--by', 'gpc0')[1]] == ['key', '10.0.0.2', '10.0.0.1']
         assert asked(proxy.path, '--table', 'none', command='top') == (1, '', 'stickd: No such table.\n')
         assert asked(proxy.path, '--table', 'www', '--by', 'gpc1', command='top') == (
-            1, '', 'stickd: its entries have no such number, but use, exp, conn_cur, gpc0, conn_rate\n')
+            1, '', 'stickd: its entries have no such number, but use, exp, gpc0, conn_rate, conn_cur\n')
 
 
 def a_terminal_is_filled():
