@@ -1,8 +1,8 @@
 //! `stickd top`: the entries of a table with the greatest numbers.
 
+use crate::asking::HOME;
 use crate::client::{DONE, FAILED, answer_of, is_on_terminal, say_no_memory, show};
 use crate::columns::{Texts, columns};
-use crate::asking::HOME;
 use crate::errors::is_error;
 use crate::lines::{bare_name, is_row, key_of, name_of, number_of_word, read_header, value_of};
 use crate::ranking::greatest;
@@ -164,12 +164,7 @@ fn grid(
 }
 
 /// A picture of the table that an answer shows.
-fn draw(
-    alloc: Global,
-    answer: &[u8],
-    asked: &Top<'_>,
-    width: usize,
-) -> Result<Picture, NoMemory> {
+fn draw(alloc: Global, answer: &[u8], asked: &Top<'_>, width: usize) -> Result<Picture, NoMemory> {
     let rows = rows_of(alloc, answer)?;
     let words = match rows.first() {
         Some(row) => numbers_of(alloc, row)?,
@@ -291,7 +286,11 @@ fn show_once<R: Net + Env + Print + Eprint + AllocGlobal>(
             show(rt, &lines)?;
             Ok(DONE)
         }
-        Ok(Picture::NoSuchNumber(names)) => say(rt, "its entries have no such number, but ", &names),
+        Ok(Picture::NoSuchNumber(names)) => say(
+            rt,
+            "its entries have no such number, but ",
+            &names,
+        ),
         Err(_) => say_no_memory(rt),
     }
 }

@@ -231,12 +231,7 @@ fn top_command<'a>(alloc: Global) -> Result<Command<'a>, AllocError> {
         .arg(socket_option(alloc));
     let command = add_argument(
         command,
-        value_option(
-            alloc,
-            "table",
-            "T",
-            "The table [default: the only one]",
-        ),
+        value_option(alloc, "table", "T", "The table [default: the only one]"),
     );
     let command = add_argument(
         command,
