@@ -24,9 +24,12 @@ is_error_line line =
 abbrev pub is_error : List ℕ → Bool
 is_error answer = list_any is_error_line (parts is_line_end answer)
 
+abbrev pub has_line_end : List ℕ → Bool
+has_line_end text = list_any is_line_end text
+
 -- no line end, and no more bytes than a line has
 abbrev pub is_command : List ℕ → Bool
-is_command text = nat_le (length text) longest_line && list_all (λ byte. not (is_line_end byte)) text
+is_command text = nat_le (length text) longest_line && not (has_line_end text)
 
 -- nothing but blanks, tabs and semicolons
 abbrev pub is_blank : List ℕ → Bool

@@ -55,11 +55,18 @@ pub fn is_error(answer: &[u8]) -> bool
     false
 }
 
+/// Whether a text has a line end.
+fn has_line_end(text: &[u8]) -> bool
+    ensures { result ≡ spec.has_line_end text.now }
+{
+    text.iter().any(|byte| *byte == b'\n')
+}
+
 /// Whether a text can be sent as one line of commands: it has no line end, and is no longer than the socket takes.
 pub fn is_command(text: &[u8]) -> bool
     ensures { result ≡ spec.is_command text.now }
 {
-    text.len() <= LINE_LIMIT && text.iter().all(|byte| *byte != b'\n')
+    text.len() <= LINE_LIMIT && !has_line_end(text)
 }
 
 /// Whether no word stands in a line of commands, so that it is answered by nothing.

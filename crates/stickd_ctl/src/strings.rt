@@ -91,7 +91,7 @@ fn push_char(text: &mut Vec<u8>, bytes: &[u8], count: usize) -> Result<(), NoMem
 }
 
 /// Adds what stands between the quotes of a text's string.
-#[tactic(auto, using(crate::proofs::StringLemmas::body_skips, crate::proofs::StringLemmas::body_begins))]
+#[tactic(auto, using(crate::proofs::StringLemmas::body_skips, crate::proofs::StringLemmas::body_goes_on))]
 fn push_body(text: &mut Vec<u8>, bytes: &[u8]) -> Result<(), NoMemory>
     ensures { OnOk result (text.new.items ≡ text.old.items ++ string_body 0 bytes.now) }
 {

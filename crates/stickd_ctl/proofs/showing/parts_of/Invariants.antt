@@ -1,4 +1,4 @@
-use Rattle.std.proofs.Common.{Unit, length}
+use Rattle.std.proofs.Common.{length}
 use Rattle.stickd_ctl.proofs.showing.parts_of.Given as goal
 
 abbrev pub decreases-loop-part : goal.decreases-loop-part
