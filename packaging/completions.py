@@ -16,7 +16,7 @@ WRITTEN = 'packaging/completions.py wrote this from the help of stickd: edit it 
 HEADING = re.compile(r'(Commands|Arguments|Options):$')
 # `  -h, --help     Print help`, `      --socket <PATH>  The Unix socket ..`
 OPTION = re.compile(r' +(?:(-\w), )?(--[\w-]+)(?: <([^>]+)>)?  +(\S.*)$')
-ARGUMENT = re.compile(r'  [<\[]([A-Z-]+)[>\]](?:\.\.\.)?  +(\S.*)$')
+ARGUMENT = re.compile(r'  [<\[]([A-Z-]+)[>\]](\.\.\.)?  +(\S.*)$')
 COMMAND = re.compile(r'  ([\w-]+)  +(\S.*)$')
 LINES = {'Commands': COMMAND, 'Arguments': ARGUMENT, 'Options': OPTION}
 # What the value of an option, or an argument, of such a name is taken from. Of all others nothing is known.
@@ -36,7 +36,7 @@ class Option(NamedTuple):
 
 
 class Argument(NamedTuple):
-    """What stands without an option."""
+    """What stands without an option. The name of one that may stand several times ends in `...`."""
     name: str
     text: str
 
@@ -78,7 +78,8 @@ def command_of(name, text, found):
     options = [Option(*parts) for section, parts in found if section == 'Options']
     if not options:
         raise Fault(f'the help of {name} has no options')
-    return Command(name, text, options, [Argument(*parts) for section, parts in found if section == 'Arguments'])
+    arguments = [Argument(parts[0] + parts[1], parts[2]) for section, parts in found if section == 'Arguments']
+    return Command(name, text, options, arguments)
 
 
 def read_program(program):
@@ -189,7 +190,8 @@ def zsh_command(command):
     """The options and arguments of a command."""
     words = [zsh_option(option) for option in command.options]
     for argument in command.arguments:
-        words.append(quoted(f':{argument.name}:' + {FILES: '_files', COMMANDS: '_stickd_commands'}[KINDS[argument.name]]))
+        action = {FILES: '_files', COMMANDS: '_stickd_commands'}.get(KINDS.get(argument.name), ' ')
+        words.append(quoted(f'{"*" if argument.name.endswith("...") else ""}:{argument.name}:{action}'))
     return ' \\\n                '.join(['_arguments', *words])
 
 
@@ -265,7 +267,8 @@ def fish(program, commands):
         lines += ['', *[fish_option(at, option) for option in command.options]]
         for argument in command.arguments:
             names = ' '.join(other.name for other in commands)
-            lines.append(f'complete -c stickd -n {at} ' + {FILES: '-F', COMMANDS: f"-a '{names}'"}[KINDS[argument.name]])
+            action = {FILES: '-F', COMMANDS: f"-a '{names}'"}.get(KINDS.get(argument.name))
+            lines += [f'complete -c stickd -n {at} {action}'] if action else []
     return '\n'.join([*lines, ''])
 
 

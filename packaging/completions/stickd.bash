@@ -11,10 +11,10 @@ _stickd() {
     fi
     # What the option before wants; else what the command has.
     case "$command $before" in
-        "adopt --frontend" | "replay --shards" | "replay --purge" | "run --threads" | "run --shards" | "run --purge" | "run --connections" | "run --backlog" | "run --timeout-connect" | "run --timeout-client" | "run --timeout-server" | "run --timeout-fin" | "run --keepalive" | "run --socket-mode" | "run --socket-clients" | "run --timeout-socket" | "run --stop-after" | "run --roll-at")
+        "adopt --frontend" | "ctl --watch" | "replay --shards" | "replay --purge" | "run --threads" | "run --shards" | "run --purge" | "run --connections" | "run --backlog" | "run --timeout-connect" | "run --timeout-client" | "run --timeout-server" | "run --timeout-fin" | "run --keepalive" | "run --socket-mode" | "run --socket-clients" | "run --timeout-socket" | "run --stop-after" | "run --roll-at" | "top --table" | "top --by" | "top --rows")
             return
             ;;
-        "run --socket")
+        "ctl --socket" | "run --socket" | "top --socket")
             compopt -o filenames 2>/dev/null
             choices=(-f)
             ;;
@@ -23,7 +23,7 @@ _stickd() {
             ;;
     esac
     if ((COMP_CWORD == 1)); then
-        choices=(-W "adopt check replay run help -h --help -V --version")
+        choices=(-W "adopt check ctl replay run top help -h --help -V --version")
     fi
     ((${#choices[@]})) || case "$command ${word:0:1}" in
         "adopt -")
@@ -40,6 +40,12 @@ _stickd() {
             compopt -o filenames 2>/dev/null
             choices=(-f)
             ;;
+        "ctl -")
+            choices=(-W "--socket --json --watch -h --help")
+            ;;
+        "ctl "*)
+            return
+            ;;
         "replay -")
             choices=(-W "--shards --purge -h --help")
             ;;
@@ -54,8 +60,11 @@ _stickd() {
             compopt -o filenames 2>/dev/null
             choices=(-f)
             ;;
+        "top -")
+            choices=(-W "--socket --table --by --rows -h --help")
+            ;;
         "help "*)
-            choices=(-W "adopt check replay run help")
+            choices=(-W "adopt check ctl replay run top help")
             ;;
     esac
     ((${#choices[@]})) && mapfile -t COMPREPLY < <(compgen "${choices[@]}" -- "$word")

@@ -10,8 +10,10 @@ complete -c stickd -n '__stickd_at' -s h -l help -d 'Print help'
 complete -c stickd -n '__stickd_at' -s V -l version -d 'Print version'
 complete -c stickd -n '__stickd_at' -a adopt -d 'Write the configuration that stickd runs in place of HAProxy\'s'
 complete -c stickd -n '__stickd_at' -a check -d 'Read a configuration, and say what is wrong with it'
+complete -c stickd -n '__stickd_at' -a ctl -d 'Send commands to a running stickd, and show what it answers'
 complete -c stickd -n '__stickd_at' -a replay -d 'Replay a timed script of connections and commands on standard input'
 complete -c stickd -n '__stickd_at' -a run -d 'Run the proxy, and answer commands on a socket'
+complete -c stickd -n '__stickd_at' -a top -d 'Show the entries of a running stickd\'s table with the greatest numbers'
 complete -c stickd -n '__stickd_at' -a help -d 'Print this message or the help of the given subcommand(s)'
 
 complete -c stickd -n '__stickd_at adopt' -l anyway -d 'Write it also where what is served changes'
@@ -24,6 +26,11 @@ complete -c stickd -n '__stickd_at adopt' -F
 complete -c stickd -n '__stickd_at check' -l explain -d 'Show the line below a fault or a warning, and say what commonly causes it, or what is lost'
 complete -c stickd -n '__stickd_at check' -s h -l help -d 'Print help'
 complete -c stickd -n '__stickd_at check' -F
+
+complete -c stickd -n '__stickd_at ctl' -l socket -r -F -d 'The Unix socket on which commands are answered'
+complete -c stickd -n '__stickd_at ctl' -l json -d 'Show answers as JSON'
+complete -c stickd -n '__stickd_at ctl' -l watch -x -d 'Ask again after so many seconds, 1 to 3600, until nobody answers'
+complete -c stickd -n '__stickd_at ctl' -s h -l help -d 'Print help'
 
 complete -c stickd -n '__stickd_at replay' -l shards -x -d 'In how many parts each table is kept, 1 to 64 [default: 1]'
 complete -c stickd -n '__stickd_at replay' -l purge -x -d 'How many of its oldest entries a full table removes for a new one, 1 to 1024 [default: 1]'
@@ -50,4 +57,10 @@ complete -c stickd -n '__stickd_at run' -l roll-at -x -d 'How many calls of a pa
 complete -c stickd -n '__stickd_at run' -s h -l help -d 'Print help'
 complete -c stickd -n '__stickd_at run' -F
 
-complete -c stickd -n '__stickd_at help' -a 'adopt check replay run help'
+complete -c stickd -n '__stickd_at top' -l socket -r -F -d 'The Unix socket on which commands are answered'
+complete -c stickd -n '__stickd_at top' -l table -x -d 'The table [default: the only one]'
+complete -c stickd -n '__stickd_at top' -l by -x -d 'The number, as conn_rate [default: conn_cur, or else the first that is stored]'
+complete -c stickd -n '__stickd_at top' -l rows -x -d 'How many entries are shown at most, 1 to 1000 [default: 20]'
+complete -c stickd -n '__stickd_at top' -s h -l help -d 'Print help'
+
+complete -c stickd -n '__stickd_at help' -a 'adopt check ctl replay run top help'

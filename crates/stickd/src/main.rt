@@ -20,6 +20,7 @@ use std::sync::Wait;
 use std::thread::Threads;
 use std::time::Clock;
 use std::{env, io};
+use stickd_ctl::{Ctl, Top, ask_running, show_top};
 use stickd_input::{Detail, Keeping, open_setup, read_command_line, read_file, read_keeping};
 use stickd_script::{BadLines, FaultKind, ReplayFault, replay_script};
 use tcp_proxy::{ProxyRuntime, run_pooled};
@@ -103,7 +104,9 @@ fn run_command<R: ProxyRuntime + RandomSource + Files + Env + Input + Print + Ep
     let done = match matches.subcommand() {
         Some(("adopt", arguments)) => return adopt_named(rt, arguments),
         Some(("check", arguments)) => check(rt, arguments)?,
+        Some(("ctl", arguments)) => return ask_named(rt, arguments),
         Some(("run", arguments)) => return serve(rt, arguments),
+        Some(("top", arguments)) => return show_greatest(rt, arguments),
         Some((_, arguments)) => replay(rt, arguments.get_str("FILE"), read_keeping(arguments))?,
         None => false,
     };
@@ -146,6 +149,34 @@ fn adopt_named<R: Files + Env + Print + Eprint + AllocGlobal>(
     };
     let path = arguments.get_str("FILE").unwrap_or("");
     Ok(ExitCode::from(adopt_file(rt, path, &asked)?))
+}
+
+/// Sends commands to a running stickd, and shows what it answers.
+fn ask_named<R: Net + Clock + Print + Eprint + AllocGlobal>(
+    rt: &R,
+    arguments: &ArgMatches<'_>,
+) -> io::Result<ExitCode> {
+    let asked = Ctl {
+        path: arguments.get_str("socket").unwrap_or(""),
+        words: arguments.get_strs("COMMAND").unwrap_or(&[]),
+        json: arguments.get_flag("json"),
+        watch: arguments.get_one::<u32>("watch").map(u64::from),
+    };
+    Ok(ExitCode::from(ask_running(rt, &asked)?))
+}
+
+/// Shows the entries of a running stickd's table with the greatest numbers.
+fn show_greatest<R: Net + Clock + Env + Print + Eprint + AllocGlobal>(
+    rt: &R,
+    arguments: &ArgMatches<'_>,
+) -> io::Result<ExitCode> {
+    let asked = Top {
+        path: arguments.get_str("socket").unwrap_or(""),
+        table: arguments.get_str("table"),
+        by: arguments.get_str("by"),
+        rows: arguments.get_one::<u32>("rows").unwrap_or(20) as usize,
+    };
+    Ok(ExitCode::from(show_top(rt, &asked)?))
 }
 
 /// Says what a configuration has.

@@ -44,6 +44,23 @@ The status is 0 where what is served is the same, and 1 where FILE can't be read
 no such frontend. It is 3 where what is served changes, and nothing is written then
 without --anyway.";
 
+/// What `stickd ctl --help` says last.
+const CTL_HELP: &str = "\
+The words are sent as one line of commands, with blanks between them. 'stickd replay
+--help' lists the commands; ';' in a word of its own, or quoted, parts several. The
+answers are written to standard output as they come. With --json a table is an object
+with its name, type, size, used and entries, and another answer {\"answer\": \"TEXT\"}.
+With --watch, on a terminal, '* ' stands before each line that wasn't there the last time.
+The status is 1 where a command did nothing, or nobody answers at PATH.
+  stickd ctl --socket /run/stickd.sock show table www data.conn_cur gt 10";
+
+/// What `stickd top --help` says last.
+const TOP_HELP: &str = "\
+Shows the entries of a table with the greatest numbers, in falling order: key, use (its
+connections), exp (the seconds until it expires) and what the table stores. On a terminal
+they are shown again each second, as wide as COLUMNS says [80 without it]; else once. The
+status is 1 where nobody answers at PATH, or there is no such table or number.";
+
 /// What `stickd replay --help` says last.
 const REPLAY_HELP: &str = "\
 Each line is a moment in ms and what is done at it:
@@ -172,6 +189,69 @@ fn adopt_command<'a>(alloc: Global) -> Result<Command<'a>, AllocError> {
             "NAME",
             "The frontend or listen section to serve [default: the first that isn't HTTP]",
         ),
+    )
+}
+
+/// `stickd ctl`.
+fn ctl_command<'a>(alloc: Global) -> Result<Command<'a>, AllocError> {
+    let command = file_command(
+        alloc,
+        "ctl",
+        "Send commands to a running stickd, and show what it answers",
+        CTL_HELP,
+        commands_argument(alloc),
+    );
+    let command = add_argument(command, socket_option(alloc));
+    let command = add_argument(command, flag_option(alloc, "json", "Show answers as JSON"));
+    add_argument(
+        command,
+        count_option(
+            alloc,
+            "watch",
+            "SECONDS",
+            3600,
+            "Ask again after so many seconds, 1 to 3600, until nobody answers",
+        ),
+    )
+}
+
+/// The words of commands.
+fn commands_argument<'a>(alloc: Global) -> Arg<'a> {
+    Arg::new(alloc, "COMMAND")
+        .required(true)
+        .num_args(1..)
+        .help("The words of the commands, as show table")
+}
+
+/// `stickd top`.
+fn top_command<'a>(alloc: Global) -> Result<Command<'a>, AllocError> {
+    let command = Command::new(alloc, "top")
+        .about("Show the entries of a running stickd's table with the greatest numbers")
+        .after_help(TOP_HELP)
+        .arg(socket_option(alloc));
+    let command = add_argument(
+        command,
+        value_option(alloc, "table", "T", "The table [default: the only one]"),
+    );
+    let command = add_argument(
+        command,
+        value_option(
+            alloc,
+            "by",
+            "DATUM",
+            "The number, as conn_rate [default: conn_cur, or else the first that is stored]",
+        ),
+    );
+    add_argument(
+        command,
+        count_option(
+            alloc,
+            "rows",
+            "N",
+            1000,
+            "How many entries are shown at most, 1 to 1000",
+        )
+        .default_value("20"),
     )
 }
 
@@ -451,8 +531,10 @@ fn bare_program<'a>(alloc: Global) -> Command<'a> {
 fn program_command<'a>(alloc: Global) -> Result<Command<'a>, AllocError> {
     let command = add_subcommand(bare_program(alloc), adopt_command(alloc))?;
     let command = add_subcommand(command, check_command(alloc))?;
+    let command = add_subcommand(command, ctl_command(alloc))?;
     let command = add_subcommand(command, replay_command(alloc))?;
-    add_subcommand(command, run_command(alloc))
+    let command = add_subcommand(command, run_command(alloc))?;
+    add_subcommand(command, top_command(alloc))
 }
 
 /// Reads the words of a command line, the program's name first.

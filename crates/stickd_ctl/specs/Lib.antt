@@ -1,0 +1,6 @@
+pub mod Lines
+pub mod Errors
+pub mod Strings
+pub mod Ranking
+pub mod Marks
+pub mod Json

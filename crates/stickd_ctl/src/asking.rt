@@ -1,0 +1,134 @@
+//! `stickd ctl`: commands to a running stickd, and its answers.
+
+use crate::client::{BAD_WORDS, DONE, FAILED, answer_of, is_on_terminal, say_no_memory, show};
+use crate::errors::{is_command, is_error};
+use crate::json::push_json;
+use crate::marks::push_marked;
+use base_sequence::NoMemory;
+use std::alloc::Global;
+use std::net::Net;
+use std::time::{Clock, Duration};
+use std::{io, thread};
+
+/// What the terminal's cursor goes home by, and what all behind it is cleared by.
+pub(crate) const HOME: &[u8] = b"\x1b[H\x1b[J";
+
+/// What `stickd ctl` is asked.
+#[derive(Clone, Copy, Drop)]
+pub struct Ctl<'a> {
+    /// Where stickd answers commands.
+    pub path: &'a str,
+    /// The words of the commands.
+    pub words: &'a [&'a str],
+    /// Whether answers are shown as JSON.
+    pub json: bool,
+    /// After how many seconds the answer is shown again, if at all.
+    pub watch: Option<u64>,
+}
+
+/// Words with a blank between any two.
+fn joined(alloc: Global, words: &[&str]) -> Result<Vec<u8>, NoMemory> {
+    let mut text = Vec::new(alloc);
+    for (place, word) in words.iter().enumerate() {
+        if place > 0 {
+            text.push(b' ')?;
+        }
+        text.extend_from_slice(word.as_bytes())?;
+    }
+    Ok(text)
+}
+
+/// What is shown of an answer: itself, or JSON.
+fn shown(alloc: Global, asked: &Ctl<'_>, answer: &[u8]) -> Result<Vec<u8>, NoMemory> {
+    let mut text = Vec::new(alloc);
+    if asked.json {
+        push_json(&mut text, answer)?;
+    } else {
+        text.extend_from_slice(answer)?;
+    }
+    Ok(text)
+}
+
+/// What is shown of an answer in place: JSON, or its lines behind marks of those that weren't there the last time.
+fn shown_in_place(
+    alloc: Global,
+    asked: &Ctl<'_>,
+    last: Option<&[u8]>,
+    answer: &[u8],
+) -> Result<Vec<u8>, NoMemory> {
+    let mut text = Vec::new(alloc);
+    text.extend_from_slice(HOME)?;
+    if asked.json {
+        push_json(&mut text, answer)?;
+    } else {
+        push_marked(&mut text, last.unwrap_or(answer), answer)?;
+    }
+    Ok(text)
+}
+
+/// Asks once, and answers the status.
+fn ask_once<R: Net + Print + Eprint + AllocGlobal>(
+    rt: &R,
+    asked: &Ctl<'_>,
+    command: &[u8],
+) -> io::Result<u8> {
+    let Some(answer) = answer_of(rt, asked.path, command)? else {
+        return Ok(FAILED);
+    };
+    let Ok(text) = shown(rt.alloc(), asked, &answer) else {
+        return say_no_memory(rt);
+    };
+    show(rt, &text)?;
+    Ok(if is_error(&answer) { FAILED } else { DONE })
+}
+
+/// Asks again and again, until nobody answers. Off a terminal, the empty line that ends an answer parts it from the next, and
+/// JSON has one of its own.
+fn ask_again<R: Net + Clock + Print + Eprint + AllocGlobal>(
+    rt: &R,
+    asked: &Ctl<'_>,
+    command: &[u8],
+    seconds: u64,
+) -> io::Result<u8> {
+    let in_place = is_on_terminal();
+    let mut last: Option<Vec<u8>> = None;
+    for turn in 0..u64::MAX {
+        let Some(answer) = answer_of(rt, asked.path, command)? else {
+            return Ok(FAILED);
+        };
+        let text = if in_place {
+            shown_in_place(rt.alloc(), asked, last.as_deref(), &answer)
+        } else {
+            shown(rt.alloc(), asked, &answer)
+        };
+        let Ok(text) = text else {
+            return say_no_memory(rt);
+        };
+        if asked.json && !in_place && turn > 0 {
+            show(rt, b"\n")?;
+        }
+        show(rt, &text)?;
+        last = Some(answer);
+        thread::sleep(rt, Duration::from_secs(seconds));
+    }
+    Ok(DONE)
+}
+
+/// Sends commands to a running stickd, shows what it answers, and answers the status: 0; 1 where a command did nothing or
+/// nobody answers, which is said on standard error; 2 where the words are no line of commands.
+pub fn ask_running<R: Net + Clock + Print + Eprint + AllocGlobal>(
+    rt: &R,
+    asked: &Ctl<'_>,
+) -> io::Result<u8> {
+    let Ok(command) = joined(rt.alloc(), asked.words) else {
+        return say_no_memory(rt);
+    };
+    if !is_command(&command) {
+        eprintln!(rt; "stickd: commands are one line of at most 16384 bytes")?;
+        return Ok(BAD_WORDS);
+    }
+    match asked.watch {
+        Some(seconds) => ask_again(rt, asked, &command, seconds),
+        None => ask_once(rt, asked, &command),
+    }
+}

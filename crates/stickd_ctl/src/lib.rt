@@ -1,0 +1,26 @@
+//! What an operator asks a running stickd on its command socket: commands and their answers, as they come or as JSON, and
+//! the entries with the greatest numbers.
+//!
+//! Answers are bytes. Their lines are read, compared and printed by pure functions, whose contracts cite the definitions in
+//! `specs`. The socket and the terminal are in `client`, `asking` and `showing`, which only call them.
+#![tactic(auto)]
+
+mod asking;
+mod client;
+mod columns;
+mod errors;
+mod json;
+mod lines;
+mod marks;
+mod ranking;
+mod showing;
+mod strings;
+
+pub use asking::{Ctl, ask_running};
+pub use errors::{is_command, is_error};
+pub use json::push_json;
+pub use lines::{Header, is_row, key_of, read_header, value_of};
+pub use marks::push_marked;
+pub use ranking::{Ranked, greatest};
+pub use showing::{Top, show_top};
+pub use strings::push_string;
