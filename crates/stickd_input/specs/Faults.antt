@@ -32,10 +32,10 @@ first_faults (suc most) text = and_later (first_faults most) text (config_of tex
 abbrev pub faults_of : List ℕ → List ConfigFault
 faults_of text = first_faults (length (lines_of text)) text
 
--- what is found of these faults: all; or as memory was short, those in front
-abbrev pub Finds : List ConfigFault → Found → Type 0
-Finds faults found = FindsUntil faults found.faults found.short
-
+-- what is found of these faults, perhaps up to a line for which memory was short: all; or else those in front
 abbrev pub FindsUntil : List ConfigFault → List ConfigFault → Option ℕ → Type 0
 FindsUntil faults found None = found ≡ faults
 FindsUntil faults found (Some line) = (later : List ConfigFault) × (faults ≡ found ++ later)
+
+abbrev pub Finds : List ConfigFault → Found → Type 0
+Finds faults found = FindsUntil faults found.faults found.short
