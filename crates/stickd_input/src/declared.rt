@@ -119,10 +119,7 @@ impl<'a> Name<'a> {
 }
 
 /// The word of a line that means a table which isn't there.
-pub(crate) fn wrong_table<'a>(
-    words: &[&'a [u8]],
-    declared: &Declared<'_>,
-) -> Option<Suspect<'a>> {
+pub(crate) fn wrong_table<'a>(words: &[&'a [u8]], declared: &Declared<'_>) -> Option<Suspect<'a>> {
     let (own, _) = declared.section();
     let has_own = declared.has(Kind::Table, own);
     let is_track = word_at(words, 2).starts_with(b"track-sc".as_slice());
@@ -164,7 +161,11 @@ pub(crate) fn wrong_acl<'a>(words: &[&'a [u8]], declared: &Declared<'_>) -> Opti
         }
         if !declared.has(Kind::Acl, bare) {
             let is_brace = bare.starts_with(b"{".as_slice());
-            let expected = if is_brace { Expected::Brace } else { Expected::Acl };
+            let expected = if is_brace {
+                Expected::Brace
+            } else {
+                Expected::Acl
+            };
             return Some(Suspect::new(bare, expected));
         }
     }

@@ -110,13 +110,15 @@ impl Expected {
     /// The same of what stands in tables and rules.
     fn rule_text(self) -> &'static str {
         match self {
-            Expected::Setting => "a table has 'type TYPE', 'size N', 'expire TIME', nopurge and 'store DATA'",
+            Expected::Setting =>
+                "a table has 'type TYPE', 'size N', 'expire TIME', nopurge and 'store DATA'",
             Expected::SettingOnce => {
                 "type, size, expire and nopurge stand once each, and 'len N' right behind 'type string' or 'type binary'"
             }
             Expected::KeyType => "TYPE is ip, ipv6, integer, string or binary",
             Expected::Size => "size N is 1 to 1g, with k, m or g behind the number or nothing",
-            Expected::Expiry => "TIME is 1ms to 2147483647ms, with us, ms, s, m, h or d behind the number or nothing",
+            Expected::Expiry =>
+                "TIME is 1ms to 2147483647ms, with us, ms, s, m, h or d behind the number or nothing",
             Expected::Length => "len N is 1 to 1024",
             Expected::Datum => {
                 "DATA are gpt0, gpc0, gpc1, gpt(N), gpc(N), conn_cnt, conn_cur, sess_cnt, bytes_in_cnt, bytes_out_cnt, and with a period as (10s) gpc0_rate, gpc1_rate, conn_rate, sess_rate, bytes_in_rate and bytes_out_rate"
@@ -124,7 +126,8 @@ impl Expected {
             Expected::DatumOnce => {
                 "a datum stands once, gpc(N) in place of gpc0 and gpc1, and gpt(N) in place of gpt0"
             }
-            Expected::Period => "a rate has its period behind it, as (10s), 1ms to 2147483647ms, and no other datum has one",
+            Expected::Period =>
+                "a rate has its period behind it, as (10s), 1ms to 2147483647ms, and no other datum has one",
             Expected::Count => "an array has its count behind it, 1 to 100, as (2)",
             Expected::Connection => "rules are 'tcp-request connection ACTION'",
             Expected::Action => {
@@ -134,8 +137,10 @@ impl Expected {
             Expected::Element => "(i,n) is an element of 0 to 99 and a slot of 0 to 2, as (1,0)",
             Expected::Value => "V is 0 to 4294967295",
             Expected::Key => "KEY is src, src_port, dst_port, int(N) or str(TEXT)",
-            Expected::BehindKey => "behind KEY stand 'table NAME', 'if CONDITION', 'unless CONDITION' or nothing",
-            Expected::BehindAction => "behind the action stand 'if CONDITION', 'unless CONDITION' or nothing",
+            Expected::BehindKey =>
+                "behind KEY stand 'table NAME', 'if CONDITION', 'unless CONDITION' or nothing",
+            Expected::BehindAction =>
+                "behind the action stand 'if CONDITION', 'unless CONDITION' or nothing",
             other => other.condition_text(),
         }
     }
@@ -144,11 +149,13 @@ impl Expected {
     fn condition_text(self) -> &'static str {
         match self {
             Expected::Table => "TABLE is the name of a section with a stick-table",
-            Expected::OwnTable => "it means the section's own table, and there is none: name another section's",
+            Expected::OwnTable =>
+                "it means the section's own table, and there is none: name another section's",
             Expected::Backend => "NAME is that of a backend or listen section",
             Expected::Acl => "NAME is that of an acl above in this section, TRUE or FALSE",
             Expected::Brace => "a brace is a word of its own, with blanks round it",
-            Expected::Term => "a term is '{ CRITERION VALUE.. }' or the NAME of an acl, perhaps with '!' in front",
+            Expected::Term =>
+                "a term is '{ CRITERION VALUE.. }' or the NAME of an acl, perhaps with '!' in front",
             Expected::ClosingBrace => "'}' closes the brace",
             Expected::Criterion => {
                 "CRITERION is src, src_port, dst_port, always_true, always_false, src_X or src_X(TABLE), or of a slot sc0_X to sc2_X or sc_X(n)"
@@ -157,7 +164,8 @@ impl Expected {
                 "VALUE is a number or a range as 1:10, perhaps behind eq; or a number behind ge, gt, le or lt"
             }
             Expected::Number => "behind ge, gt, le or lt VALUE is a number",
-            Expected::Network => "VALUE is an IP address, perhaps with '/' and a length, as 10.0.0.0/8",
+            Expected::Network =>
+                "VALUE is an IP address, perhaps with '/' and a length, as 10.0.0.0/8",
             _ => "the criterion has no values",
         }
     }

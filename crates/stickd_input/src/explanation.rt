@@ -86,12 +86,12 @@ fn print_hint<R: Eprint>(rt: &R, hint: Hint<'_>) -> io::Result<()> {
 /// Says which word of a line is at fault, where that is known.
 fn explain_word<R: Eprint + AllocGlobal>(
     rt: &R,
-    text: &[u8],
+    declaring: &[u8],
     number: u64,
     line: &[u8],
     fault: Fault,
 ) -> io::Result<()> {
-    match hint_of(rt.alloc(), text, number, line, fault) {
+    match hint_of(rt.alloc(), declaring, number, line, fault) {
         Ok(Some(hint)) => print_hint(rt, hint),
         Ok(None) => Ok(()),
         Err(_) => eprintln!(rt; "  There was no memory to look for the word at fault."),
@@ -99,9 +99,11 @@ fn explain_word<R: Eprint + AllocGlobal>(
 }
 
 /// Says below a fault what its line is, which word is at fault, and what commonly causes that fault there.
+/// Which names the file declares is told by `declaring`: the text, in which lines with faults may be blank.
 pub fn explain_fault<R: Eprint + AllocGlobal>(
     rt: &R,
     text: &[u8],
+    declaring: &[u8],
     fault: ConfigFault,
 ) -> io::Result<()> {
     let number = fault.line;
@@ -114,7 +116,7 @@ pub fn explain_fault<R: Eprint + AllocGlobal>(
     let cause = cause_of(fault.kind, line);
     eprintln!(rt; "  {number} | {shown}")?;
     if let ReadError::Wrong(kind) = fault.kind {
-        explain_word(rt, text, number, line, kind)?;
+        explain_word(rt, declaring, number, line, kind)?;
     }
     eprintln!(rt; "  {cause}")
 }

@@ -38,16 +38,16 @@ fn split_words(alloc: Global, line: &[u8]) -> Result<Vec<&[u8]>, NoMemory> {
     Ok(all)
 }
 
-/// What is said of the word at fault in the line of this number. None where none is told.
+/// What is said of the word at fault in the line of this number, where a text declares names. None where none is told.
 pub(crate) fn hint_of<'a>(
     alloc: Global,
-    text: &'a [u8],
+    declaring: &'a [u8],
     number: u64,
     line: &'a [u8],
     fault: Fault,
 ) -> Result<Option<Hint<'a>>, NoMemory> {
     let words = split_words(alloc, line)?;
-    let declared = Declared::of(alloc, text, number)?;
+    let declared = Declared::of(alloc, declaring, number)?;
     let Some(suspect) = suspect_of(fault, line, words.as_slice(), &declared) else {
         return Ok(None);
     };
@@ -86,7 +86,11 @@ fn guess_criterion<'a>(alloc: Global, name: &'a [u8]) -> Result<Option<Guess<'a>
             return Ok(Some(guess));
         }
     }
-    Ok(guess_by(b"", nearest(alloc, base, Expected::Criterion.words())?, rest))
+    Ok(guess_by(
+        b"",
+        nearest(alloc, base, Expected::Criterion.words())?,
+        rest,
+    ))
 }
 
 /// What may stand behind such a prefix, with such parentheses.

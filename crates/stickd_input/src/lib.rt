@@ -55,17 +55,18 @@ pub enum Telling {
     All,
 }
 
-/// Says what is wrong with a configuration.
+/// Says what is wrong with a configuration, of which a text declares the names.
 fn report_fault<R: Eprint + AllocGlobal>(
     rt: &R,
     text: &[u8],
+    declaring: &[u8],
     fault: ConfigFault,
     detail: Detail,
 ) -> io::Result<()> {
     eprintln!(rt; "stickd: {fault}")?;
     match detail {
         Detail::Short => Ok(()),
-        Detail::Explained => explain_fault(rt, text, fault),
+        Detail::Explained => explain_fault(rt, text, declaring, fault),
     }
 }
 
@@ -76,10 +77,10 @@ fn report_all<R: Eprint + AllocGlobal>(rt: &R, text: &[u8], detail: Detail) -> i
     };
     let found = find_faults(rt.alloc(), &mut left);
     for fault in found.faults.as_slice() {
-        report_fault(rt, text, *fault, detail)?;
+        report_fault(rt, text, left.as_slice(), *fault, detail)?;
     }
     match found.short {
-        Some(line) => report_fault(rt, text, out_of_memory(line), detail),
+        Some(line) => report_fault(rt, text, left.as_slice(), out_of_memory(line), detail),
         None => Ok(()),
     }
 }
@@ -101,7 +102,7 @@ fn report<R: Eprint + AllocGlobal>(
     detail: Detail,
 ) -> io::Result<()> {
     if telling == Telling::First || fault.kind == ReadError::OutOfMemory {
-        return report_fault(rt, text, fault, detail);
+        return report_fault(rt, text, text, fault, detail);
     }
     report_all(rt, text, detail)
 }

@@ -1,10 +1,9 @@
 //! The word at fault in a condition or in a criterion.
 
 use crate::expected::{ELEMENT_FETCHES, Expected, SLOT_FETCHES, SOURCE_FETCHES};
-use crate::suspects::{Suspect, is_among};
+use crate::suspects::{Suspect, is_among, is_element};
 use base_lines::{Parts, before_parenthesis, has_closing, inside, read_number};
 use rule_addresses::read_network;
-use rule_words::read_element;
 
 /// The values that a criterion takes.
 #[derive(Clone, Copy, PartialEq, Eq)]
@@ -104,7 +103,7 @@ fn values_of(name: &[u8]) -> Option<Values> {
         return values_of_slot(fetch);
     }
     let fetch = base.strip_prefix(b"sc_".as_slice())?;
-    if is_among(fetch, &ELEMENT_FETCHES) && inside(rest).and_then(read_element).is_some() {
+    if is_among(fetch, &ELEMENT_FETCHES) && is_element(rest) {
         return Some(Values::Integers);
     }
     if is_among(rest, &["(0)", "(1)", "(2)"]) {
@@ -181,7 +180,11 @@ fn wrong_integers<'a>(values: &[&'a [u8]], end: &'a [u8]) -> Option<Suspect<'a>>
             continue;
         }
         if read_number(value).is_none() && !(takes_range && is_range(value)) {
-            let expected = if takes_range { Expected::Pattern } else { Expected::Number };
+            let expected = if takes_range {
+                Expected::Pattern
+            } else {
+                Expected::Number
+            };
             return Some(Suspect::new(value, expected));
         }
         lacks_value = false;

@@ -4,10 +4,10 @@ use crate::declared::{Declared, wrong_acl, wrong_table};
 use crate::expected::Expected;
 use crate::suspect_tables::wrong_setting;
 use crate::suspect_terms::{wrong_condition, wrong_criterion};
-use base_lines::{before_parenthesis, has_closing, inside};
+use base_lines::{Parts, before_parenthesis, has_closing, inside};
 use rule_addresses::{read_bind, read_server};
 use rule_model::Fault;
-use rule_words::{is_name, is_plain, read_bounded, read_element};
+use rule_words::{is_name, is_plain, read_bounded};
 
 /// A word at fault, and what may stand in its place. The word is empty where one is missing at the line's end.
 #[derive(Clone, Copy)]
@@ -97,7 +97,10 @@ fn quoted_word<'a>(words: &[&'a [u8]]) -> Suspect<'a> {
 fn unknown_word<'a>(words: &[&'a [u8]]) -> Suspect<'a> {
     let keyword = word_at(words, 0);
     let value = word_at(words, 1);
-    if is_among(keyword, &["frontend", "backend", "listen", "default_backend"]) {
+    if is_among(
+        keyword,
+        &["frontend", "backend", "listen", "default_backend"],
+    ) {
         return wrong_value(words, is_name(value), Expected::Name);
     }
     if keyword == b"mode".as_slice() {
@@ -169,7 +172,7 @@ fn wrong_action<'a>(words: &[&'a [u8]]) -> Option<Suspect<'a>> {
         return Some(Suspect::new(action, Expected::Action));
     }
     let is_array = is_among(name, &["sc-inc-gpc", "sc-set-gpt"]);
-    if is_array && inside(rest).and_then(read_element).is_none() {
+    if is_array && !is_element(rest) {
         return Some(Suspect::new(action, Expected::Element));
     }
     if !is_array && !is_slot(rest) {
@@ -191,6 +194,15 @@ fn is_slot(text: &[u8]) -> bool {
         Some(number) => read_bounded(number, 0, 2).is_ok(),
         None => false,
     }
+}
+
+/// Whether a text is the index of an element and the number of a slot in parentheses.
+pub(crate) fn is_element(text: &[u8]) -> bool {
+    let mut parts = Parts::new(inside(text).unwrap_or(b""), b',');
+    let (Some(index), Some(slot)) = (parts.next(), parts.next()) else {
+        return false;
+    };
+    parts.next().is_none() && read_bounded(index, 0, 99).is_ok() && read_bounded(slot, 0, 2).is_ok()
 }
 
 /// What is wrong with what is tracked.
