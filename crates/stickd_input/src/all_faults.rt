@@ -50,6 +50,7 @@ fn blank_line(text: &mut Vec<u8>, number: u64)
 }
 
 /// Finds all faults of a text. The line of each is made blank, so that reading the text again gives the next one.
+#[tactic(auto, unfolding(crate::specs::Faults::first_faults))]
 pub(crate) fn find_faults(alloc: Global, text: &mut Vec<u8>) -> Found
     ensures { Finds (faults_of text.old.items) result }
 {

@@ -11,8 +11,8 @@ use std::alloc::Global;
 /// What a line declares.
 #[derive(Clone, Copy, Debug, PartialEq, Eq)]
 pub(crate) enum Kind {
-    Section,
-    /// A section with a server.
+    Frontend,
+    /// A section that has a server, `listen` among them.
     Backend,
     /// A section's table, which has the section's name.
     Table,
@@ -31,6 +31,8 @@ struct Name<'a> {
 #[derive(Drop)]
 pub(crate) struct Declared<'a> {
     names: Vec<Name<'a>>,
+    /// The name of the section that was declared last.
+    last: &'a [u8],
     /// The line's number.
     line: u64,
 }
@@ -38,40 +40,54 @@ pub(crate) struct Declared<'a> {
 impl<'a> Declared<'a> {
     /// What a text declares, seen from the line of this number.
     pub(crate) fn of(alloc: Global, text: &'a [u8], line: u64) -> Result<Self, NoMemory> {
-        let mut names = Vec::new(alloc);
-        let mut section: &[u8] = b"";
+        let mut declared = Declared {
+            names: Vec::new(alloc),
+            last: b"",
+            line,
+        };
         let mut lines = Lines::new(text);
-        let mut number = 0;
-        for _ in 0..=text.len() {
+        for others in 0..=text.len() {
             let Some(next) = lines.next() else {
-                break;
+                return Ok(declared);
             };
-            number += 1;
-            let mut words = Words::new(before_comment(next), Blanks::SpacesAndTabs);
-            let keyword = next_or_empty(&mut words);
-            let name = next_or_empty(&mut words);
-            if is_among(keyword, &["frontend", "backend", "listen"]) {
-                section = name;
-                names.push(Name::new(Kind::Section, number, name))?;
-            }
-            if is_among(keyword, &["backend", "listen"]) {
-                names.push(Name::new(Kind::Backend, number, name))?;
-            }
-            if keyword == b"stick-table".as_slice() {
-                names.push(Name::new(Kind::Table, number, section))?;
-            }
-            if keyword == b"acl".as_slice() {
-                names.push(Name::new(Kind::Acl, number, name))?;
-            }
+            declared.note(others as u64 + 1, next)?;
         }
-        Ok(Declared { names, line })
+        Ok(declared)
+    }
+
+    /// Notes what the line of this number declares.
+    fn note(&mut self, number: u64, line: &'a [u8]) -> Result<(), NoMemory> {
+        let mut words = Words::new(before_comment(line), Blanks::SpacesAndTabs);
+        let keyword = next_or_empty(&mut words);
+        let name = next_or_empty(&mut words);
+        if keyword == b"frontend".as_slice() {
+            self.last = name;
+            return self.push(Kind::Frontend, number, name);
+        }
+        if is_among(keyword, &["backend", "listen"]) {
+            self.last = name;
+            return self.push(Kind::Backend, number, name);
+        }
+        if keyword == b"stick-table".as_slice() {
+            return self.push(Kind::Table, number, self.last);
+        }
+        if keyword == b"acl".as_slice() {
+            return self.push(Kind::Acl, number, name);
+        }
+        Ok(())
+    }
+
+    fn push(&mut self, kind: Kind, line: u64, text: &'a [u8]) -> Result<(), NoMemory> {
+        self.names.push(Name { kind, line, text })?;
+        Ok(())
     }
 
     /// The line's section: its name, and the number of the line that begins it.
     fn section(&self) -> (&'a [u8], u64) {
         let mut found: (&[u8], u64) = (b"", 0);
         for name in &self.names {
-            if name.kind == Kind::Section && name.line <= self.line {
+            let is_heading = matches!(name.kind, Kind::Frontend | Kind::Backend);
+            if is_heading && name.line <= self.line {
                 found = (name.text, name.line);
             }
         }
@@ -109,12 +125,6 @@ impl<'a> Declared<'a> {
             }
         }
         Ok(best)
-    }
-}
-
-impl<'a> Name<'a> {
-    fn new(kind: Kind, line: u64, text: &'a [u8]) -> Self {
-        Name { kind, line, text }
     }
 }
 
