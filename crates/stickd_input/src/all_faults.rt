@@ -63,11 +63,12 @@ pub(crate) fn find_faults(alloc: Global, text: &mut Vec<u8>) -> Found
                 short: None,
             };
         };
-        if fault.kind == ReadError::OutOfMemory || faults.push(fault).is_err() {
-            return Found {
-                faults,
-                short: Some(fault.line),
-            };
+        let short = Some(fault.line);
+        let ReadError::Wrong(_kind) = fault.kind else {
+            return Found { faults, short };
+        };
+        if faults.push(fault).is_err() {
+            return Found { faults, short };
         }
         blank_line(text, fault.line);
         left -= 1;
