@@ -34,7 +34,7 @@ _stickd() {
             choices=(-f)
             ;;
         "check -")
-            choices=(-W "--explain -h --help")
+            choices=(-W "--all --explain -h --help")
             ;;
         "check "*)
             compopt -o filenames 2>/dev/null

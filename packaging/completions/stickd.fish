@@ -23,6 +23,7 @@ complete -c stickd -n '__stickd_at adopt' -l frontend -x -d 'The frontend or lis
 complete -c stickd -n '__stickd_at adopt' -s h -l help -d 'Print help'
 complete -c stickd -n '__stickd_at adopt' -F
 
+complete -c stickd -n '__stickd_at check' -l all -d 'Say every fault of the file, and not the first alone'
 complete -c stickd -n '__stickd_at check' -l explain -d 'Show the line below a fault or a warning, and say what commonly causes it, or what is lost'
 complete -c stickd -n '__stickd_at check' -s h -l help -d 'Print help'
 complete -c stickd -n '__stickd_at check' -F

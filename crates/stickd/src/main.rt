@@ -21,7 +21,9 @@ use std::thread::Threads;
 use std::time::Clock;
 use std::{env, io};
 use stickd_ctl::{Ctl, Top, ask_running, show_top};
-use stickd_input::{Detail, Keeping, open_setup, read_command_line, read_file, read_keeping};
+use stickd_input::{
+    Detail, Keeping, Telling, open_setup, read_command_line, read_file, read_keeping,
+};
 use stickd_script::{BadLines, FaultKind, ReplayFault, replay_script};
 use tcp_proxy::{ProxyRuntime, run_pooled};
 
@@ -179,18 +181,31 @@ fn show_greatest<R: Net + Clock + Env + Print + Eprint + AllocGlobal>(
     Ok(ExitCode::from(show_top(rt, &asked)?))
 }
 
+/// Which faults `stickd check` tells.
+fn read_telling(arguments: &ArgMatches<'_>) -> Telling {
+    if arguments.get_flag("all") {
+        Telling::All
+    } else {
+        Telling::First
+    }
+}
+
+/// How much `stickd check` says of them.
+fn read_detail(arguments: &ArgMatches<'_>) -> Detail {
+    if arguments.get_flag("explain") {
+        Detail::Explained
+    } else {
+        Detail::Short
+    }
+}
+
 /// Says what a configuration has.
 fn check<R: Files + Print + Eprint + AllocGlobal>(
     rt: &R,
     arguments: &ArgMatches<'_>,
 ) -> io::Result<bool> {
     let path = arguments.get_str("FILE").unwrap_or("");
-    let detail = if arguments.get_flag("explain") {
-        Detail::Explained
-    } else {
-        Detail::Short
-    };
-    let Some(config) = read_file(rt, path, detail)? else {
+    let Some(config) = read_file(rt, path, read_telling(arguments), read_detail(arguments))? else {
         return Ok(false);
     };
     let tables = config.table_count();

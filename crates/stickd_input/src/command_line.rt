@@ -28,7 +28,9 @@ const CHECK_HELP: &str = "\
 Prints 'valid: T tables, R rules'; or the first fault with the number of its line, as
 'stickd: line 3: C6 second table or name' on standard error, with status 1. Read past,
 with a warning each on standard error, are sections global and defaults, lines that
-begin with option, timeout, balance, maxconn or log, and words behind a server's address.";
+begin with option, timeout, balance, maxconn or log, and words behind a server's address.
+With --all each fault has such a line. A line with a fault counts as empty for what is
+read behind it, so a fault may follow from another: mend the first ones first.";
 
 /// What `stickd adopt --help` says last.
 const ADOPT_HELP: &str = "\
@@ -140,6 +142,15 @@ fn explain_option<'a>(alloc: Global) -> Arg<'a> {
     )
 }
 
+/// The option that asks for all faults.
+fn all_option<'a>(alloc: Global) -> Arg<'a> {
+    flag_option(
+        alloc,
+        "all",
+        "Say every fault of the file, and not the first alone",
+    )
+}
+
 /// `stickd check`.
 fn check_command<'a>(alloc: Global) -> Result<Command<'a>, AllocError> {
     let command = file_command(
@@ -149,6 +160,7 @@ fn check_command<'a>(alloc: Global) -> Result<Command<'a>, AllocError> {
         CHECK_HELP,
         file_argument(alloc, true, "The configuration"),
     );
+    let command = add_argument(command, all_option(alloc));
     add_argument(command, explain_option(alloc))
 }
 

@@ -1,5 +1,6 @@
 //! What `stickd check --explain` says below a fault, and below each line that is read past.
 
+use crate::hints::{Guess, Hint, hint_of};
 use base_lines::{Blanks, Words};
 use rule_config::ConfigFault;
 use rule_model::{Fault, ReadError};
@@ -61,8 +62,50 @@ fn first_words(line: &[u8]) -> (&[u8], &[u8]) {
     (first, next_or_empty(&mut words))
 }
 
-/// Says below a fault what its line is, and what commonly causes that fault there.
-pub fn explain_fault<R: Eprint>(rt: &R, text: &[u8], fault: ConfigFault) -> io::Result<()> {
+impl Display for Guess<'_> {
+    fn fmt<W: Write>(&self, f: &mut Formatter<W>) -> fmt::Result {
+        let (before, word, behind) = (Shown(self.before), Shown(self.word), Shown(self.behind));
+        write!(f, "{before}{word}{behind}")
+    }
+}
+
+/// Says which word is at fault, and what may stand in its place.
+fn print_hint<R: Eprint>(rt: &R, hint: Hint<'_>) -> io::Result<()> {
+    let expected = hint.suspect.expected;
+    let word = hint.suspect.word;
+    if word.is_empty() {
+        return eprintln!(rt; "  At its end: {expected}.");
+    }
+    let shown = Shown(word);
+    match hint.guess {
+        Some(guess) => eprintln!(rt; "  At '{shown}': {expected}. Did you mean '{guess}'?"),
+        None => eprintln!(rt; "  At '{shown}': {expected}."),
+    }
+}
+
+/// Says which word of a line is at fault, where that is known.
+fn explain_word<R: Eprint + AllocGlobal>(
+    rt: &R,
+    declaring: &[u8],
+    number: u64,
+    line: &[u8],
+    fault: Fault,
+) -> io::Result<()> {
+    match hint_of(rt.alloc(), declaring, number, line, fault) {
+        Ok(Some(hint)) => print_hint(rt, hint),
+        Ok(None) => Ok(()),
+        Err(_) => eprintln!(rt; "  There was no memory to look for the word at fault."),
+    }
+}
+
+/// Says below a fault what its line is, which word is at fault, and what commonly causes that fault there.
+/// Which names the file declares is told by `declaring`: the text, in which lines with faults may be blank.
+pub fn explain_fault<R: Eprint + AllocGlobal>(
+    rt: &R,
+    text: &[u8],
+    declaring: &[u8],
+    fault: ConfigFault,
+) -> io::Result<()> {
     let number = fault.line;
     // A file without lines has a fault where memory is short.
     let line = match number.checked_sub(1) {
@@ -72,6 +115,9 @@ pub fn explain_fault<R: Eprint>(rt: &R, text: &[u8], fault: ConfigFault) -> io::
     let shown = Shown(line);
     let cause = cause_of(fault.kind, line);
     eprintln!(rt; "  {number} | {shown}")?;
+    if let ReadError::Wrong(kind) = fault.kind {
+        explain_word(rt, declaring, number, line, kind)?;
+    }
     eprintln!(rt; "  {cause}")
 }
 

@@ -6,16 +6,25 @@ ghost use Rattle.rule_model.specs.Served.{AreTables, AreTableSpecs, setup_of as 
 ghost use Rattle.rule_warnings.specs.Warnings.{table_warnings as warnings_for};
 ghost use Rattle.admit_drive.specs.Tables.{CanOpen};
 
+mod all_faults;
 mod command_line;
+mod declared;
+mod expected;
 mod explanation;
+mod guesses;
+mod hints;
+mod suspect_tables;
+mod suspect_terms;
+mod suspects;
 
+use all_faults::find_faults;
 use base_sequence::{NoMemory, Sequence};
 pub use command_line::{
     CLIENT, CONNECT, FIN, KEEPALIVE, Keeping, SERVER, SOCKET, read_command_line, read_keeping,
 };
 use explanation::{explain_fault, explain_warnings};
 use rule_config::{ConfigFault, read_config};
-use rule_model::{Config, NamedSpec, Setup};
+use rule_model::{Config, NamedSpec, ReadError, Setup};
 use rule_warnings::{Warning, table_warnings};
 use std::alloc::Global;
 use std::rt::Files;
@@ -37,18 +46,65 @@ pub enum Detail {
     Explained,
 }
 
-/// Says what is wrong with a configuration.
-fn report_fault<R: Eprint>(
+/// Which faults of a configuration are told.
+#[derive(Clone, Copy, Debug, PartialEq, Eq)]
+pub enum Telling {
+    /// The first one.
+    First,
+    /// All of them.
+    All,
+}
+
+/// Says what is wrong with a configuration, of which a text declares the names.
+fn report_fault<R: Eprint + AllocGlobal>(
     rt: &R,
     text: &[u8],
+    declaring: &[u8],
     fault: ConfigFault,
     detail: Detail,
 ) -> io::Result<()> {
     eprintln!(rt; "stickd: {fault}")?;
     match detail {
         Detail::Short => Ok(()),
-        Detail::Explained => explain_fault(rt, text, fault),
+        Detail::Explained => explain_fault(rt, text, declaring, fault),
     }
+}
+
+/// Says all that is wrong with a configuration: each fault, and behind them where memory was too short for more.
+fn report_all<R: Eprint + AllocGlobal>(rt: &R, text: &[u8], detail: Detail) -> io::Result<()> {
+    let Ok(mut left) = Vec::from_slice(rt.alloc(), text) else {
+        return eprintln!(rt; "stickd: out of memory");
+    };
+    let found = find_faults(rt.alloc(), &mut left);
+    for fault in found.faults.as_slice() {
+        report_fault(rt, text, left.as_slice(), *fault, detail)?;
+    }
+    match found.short {
+        Some(line) => report_fault(rt, text, left.as_slice(), out_of_memory(line), detail),
+        None => Ok(()),
+    }
+}
+
+/// The fault of a line for which memory was short.
+fn out_of_memory(line: u64) -> ConfigFault {
+    ConfigFault {
+        line,
+        kind: ReadError::OutOfMemory,
+    }
+}
+
+/// Says what is wrong with a configuration of which reading told this fault.
+fn report<R: Eprint + AllocGlobal>(
+    rt: &R,
+    text: &[u8],
+    fault: ConfigFault,
+    telling: Telling,
+    detail: Detail,
+) -> io::Result<()> {
+    if telling == Telling::First || fault.kind == ReadError::OutOfMemory {
+        return report_fault(rt, text, text, fault, detail);
+    }
+    report_all(rt, text, detail)
 }
 
 /// Prints a warning for each line that is read past.
@@ -101,6 +157,7 @@ fn warn_of_tables<R: Eprint + AllocGlobal>(rt: &R, config: &Config) -> io::Resul
 pub fn read_file<R: Files + Eprint + AllocGlobal>(
     rt: &R,
     path: &str,
+    telling: Telling,
     detail: Detail,
 ) -> io::Result<Option<Config>>
     ensures { IfOk result (λ read. IfSome read (λ config. AreTables config.sections)) }
@@ -115,7 +172,7 @@ pub fn read_file<R: Files + Eprint + AllocGlobal>(
     let config = match read_config(rt.alloc(), text.as_slice()) {
         Ok(config) => config,
         Err(fault) => {
-            report_fault(rt, text.as_slice(), fault, detail)?;
+            report(rt, text.as_slice(), fault, telling, detail)?;
             return Ok(None);
         }
     };
@@ -159,7 +216,7 @@ pub fn open_setup<R: Files + Eprint + AllocGlobal>(
     ensures { IfOk result (λ opened. IfSome opened CanOpen) }
 {
     let made = match path {
-        Some(path) => match read_file(rt, path, Detail::Short)? {
+        Some(path) => match read_file(rt, path, Telling::First, Detail::Short)? {
             Some(config) => setup_of(rt.alloc(), &config, keeping.shards),
             None => return Ok(None),
         },

@@ -26,7 +26,7 @@ COMPLETED = {
 AT_LEAST = {
     'stickd ': ['check', 'replay', 'run', 'help'],
     'stickd -': ['-h', '--help', '-V', '--version'],
-    'stickd check -': ['--explain', '--help', '-h'],
+    'stickd check -': ['--all', '--explain', '--help', '-h'],
     'stickd replay --': ['--shards', '--purge', '--help']}
 # Bash has the `=` as a word of its own.
 SPLIT = {
