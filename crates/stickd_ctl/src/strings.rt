@@ -101,7 +101,7 @@ fn push_body(text: &mut Vec<u8>, bytes: &[u8]) -> Result<(), NoMemory>
             skipped -= 1;
             continue;
         }
-        let rest = &bytes[place..];
+        let (_, rest) = bytes.split_at(place);
         let count = char_length(rest);
         push_char(text, rest, count)?;
         skipped = count.saturating_sub(1);
