@@ -1,4 +1,4 @@
-//! Decimal numbers.
+//! Decimal numbers, read and printed; readers of configurations, commands, scripts and options call it.
 
 ghost use Rattle.std.specs.Prelude.{◌≡◌, ◌+◌, ◌*◌, ◌<◌, ◌^◌, ◌++◌, OnOk, OnErr, decimal};
 ghost use Rattle.std.specs.Option.{SomeIff};
