@@ -1,5 +1,5 @@
-//! What moves of a direction keep, whatever the order in which its devices are ready. Each law is the contract of a function
-//! that does nothing.
+//! Laws of the moves of a direction, whatever the order in which its devices are ready. Each is the contract of an empty
+//! function, which no code calls.
 
 ghost use Rattle.tcp_flow.specs.Passage.{JoinLaw, PrefixLaw};
 ghost use Rattle.tcp_flow.specs.Turns.{GoesOnLaw};
