@@ -1,4 +1,4 @@
-//! stickd: stick tables whose answers are proved.
+//! The program `stickd`: it checks a configuration, replays a script, adopts a configuration of HAProxy or runs the proxy.
 #![tactic(auto)]
 
 ghost use Rattle.std.specs.Prelude.{◌≤◌};
