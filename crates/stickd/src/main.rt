@@ -1,4 +1,5 @@
-//! The program `stickd`: it checks a configuration, replays a script, adopts a configuration of HAProxy or runs the proxy.
+//! The program `stickd`, which operators start: it checks a configuration, replays a script, adopts one of HAProxy, or runs the
+//! proxy.
 #![tactic(auto)]
 
 ghost use Rattle.std.specs.Prelude.{◌≤◌};

@@ -1,5 +1,6 @@
-//! Laws of the moves of a direction, whatever the order in which its devices are ready. Each is the contract of an empty
-//! function, which no code calls.
+//! Laws of a direction's moves; each is the contract of an empty function, which no code calls.
+//!
+//! They hold whatever the order in which its devices are ready.
 
 ghost use Rattle.tcp_flow.specs.Passage.{JoinLaw, PrefixLaw};
 ghost use Rattle.tcp_flow.specs.Turns.{GoesOnLaw};
