@@ -1,4 +1,4 @@
-//! What is asked of an entry: of a slot's, or of that of the client's address.
+//! What is asked of an entry: of a slot's, or of that of the client's address; `fetches` calls it.
 
 use crate::calls::{element_text, slot_of, slot_text};
 use crate::fetches::{Form, Subject};

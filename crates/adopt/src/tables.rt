@@ -1,4 +1,4 @@
-//! Lines `stick-table` in stickd's spelling.
+//! Lines `stick-table` in stickd's spelling; `proxy_lines` calls it.
 
 use crate::keywords::is_one_of;
 use crate::reasons::{Refusal, Why};

@@ -1,4 +1,4 @@
-//! What the first word of a criterion asks.
+//! What the first word of a criterion asks; `criteria` and `conditions` call it.
 
 ghost use Rattle.std.specs.Prelude.{◌≡◌, map, ok_or, option_map};
 ghost use Rattle.rule_model.specs.Reading.{Gives};

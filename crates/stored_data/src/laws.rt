@@ -1,4 +1,4 @@
-//! What follows from the definitions of the stored data.
+//! Laws of the stored data; each is the contract of an empty function, which no code calls.
 ghost use Rattle.stored_data.specs.Laws.{NamesDiffer, StaysInRange, CountsNeverLower, PutIsRead, KeepsData, NewShowsZero, RatesTally, RatesCount};
 
 /// No two data have one name.
