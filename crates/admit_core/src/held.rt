@@ -1,4 +1,4 @@
-//! The references that a connection holds.
+//! The references that a connection holds, one a slot; `Conn` keeps them here.
 ghost use Rattle.std.specs.Prelude.{◌≡◌, ◌∷◌, [], Some, None, IsSome, slice_get};
 ghost use Rattle.std.specs.Option.{option_map};
 ghost use Rattle.rule_model.specs.declared.actions.Slot.TheVariants.{Sc0, Sc1, Sc2};

@@ -1,4 +1,4 @@
-//! What every connection keeps, whatever its references are. Each law is the contract of a function that does nothing.
+//! Laws of every connection, whatever its references are; each is the contract of an empty function, which no code calls.
 ghost use Rattle.admit_core.specs.History.{AdmittedLaw, EndedLaw, HeldLaw, RejectedLaw};
 ghost use Rattle.admit_core.specs.Life.{LifeLaw};
 ghost use Rattle.admit_core.specs.Shown.{LookLaw, ReadingLaw, RowLaw};

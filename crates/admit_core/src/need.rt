@@ -1,4 +1,4 @@
-//! How far a connection is, and what it wants next.
+//! How far a connection is, and what it wants next; `Conn` answers it, and drivers and scripts act by it.
 
 ghost use Rattle.std.specs.Prelude.{◌≡◌};
 ghost use Rattle.admit_core.specs.Connection.{is_judged as specified_judged};

@@ -1,4 +1,4 @@
-//! What a connection asks of a shard.
+//! What a connection asks of a shard; `drive` makes it of each want.
 
 ghost use Rattle.std.specs.Prelude.{◌≡◌};
 

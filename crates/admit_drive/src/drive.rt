@@ -1,4 +1,4 @@
-//! A connection goes on by one event, or by one change of phase.
+//! One move of a connection on its table's book; `admit_world` calls `advance`, and `stickd_script` `advance_to_rest`.
 
 ghost use Rattle.std.specs.Prelude.{◌≡◌, ◌<◌, ◌≤◌, ◌+◌, ◌^◌, ℕ, IsOk, Some, true, false, is_some, slice_get, IfOk, IfErr, OnErr};
 ghost use Rattle.stick_model.specs.Limits.{IsTableEvent};

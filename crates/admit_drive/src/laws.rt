@@ -1,4 +1,4 @@
-//! What every move of a connection keeps. Each law is the contract of a function that does nothing.
+//! Laws of every move of a connection; each is the contract of an empty function, which no code calls.
 ghost use Rattle.admit_drive.specs.Laws.{HomeLaw, OneRestLaw};
 
 /// Where the references that are out of each shard are of keys that lie on it, a move leaves it so.

@@ -1,11 +1,11 @@
-//! A connection goes on by the books of a setup's tables: by one event of one shard, or by one change of phase.
+//! A connection goes on by the books of a setup's tables, one move each time; `admit_world` and `stickd_script` lead connections
+//! by it.
 //!
-//! `specs/Moves.antt` says what that does to it and to the tables.
+//! A move is one event of one shard, or one change of phase. `specs/Moves.antt` says what that does to the connection and to the
+//! tables.
 //!
-//! The laws of a connection's moves over the books of a setup's tables, as `admit_drive` defines them: what is out of
-//! a shard lies on it, and what comes of moves at which nothing is refused.
-//!
-//! Those who lead connections, in a world or by a script, take what they prove of single moves from its lemmas.
+//! `laws` says what every move keeps: what is out of a shard lies on it, and connections at which nothing is refused come to one
+//! end. Those who lead connections, in a world or by a script, take what they prove of single moves from its lemmas.
 #![tactic(auto)]
 
 mod call;

@@ -1,4 +1,4 @@
-//! The tables of a setup, as they are opened.
+//! The tables of a setup, as they are opened; `stickd_script` and `admit_world` call it.
 
 ghost use Rattle.std.specs.Prelude.{◌≡◌, IfOk};
 ghost use Rattle.admit_drive.specs.Tables.{AreTablesOf, CanOpen, empty_tables, table_states};

@@ -1,4 +1,4 @@
-//! A reference to an entry of a shard.
+//! A reference to an entry of a shard; `drive` makes it, and connections of scripts and worlds hold it.
 
 use stick_table::Ticket;
 

@@ -1,4 +1,4 @@
-//! What a connection wants is asked of its table, by the table's seat.
+//! What a connection wants, asked of its table by the table's seat; `advance` calls it for each want.
 
 ghost use Rattle.std.specs.Prelude.{◌≡◌, ◌≢◌, ◌+◌, ◌≤◌, ◌<◌, ◌^◌, ℕ, true};
 ghost use Rattle.stick_model.specs.Key.{Key};

@@ -1,4 +1,6 @@
-//! A connection goes on by one call of a table, or by one change of phase.
+//! One move of a connection: one call of a table, or one change of phase; `visit` calls `advance`.
+//!
+//! The program doesn't call `advance_to_rest`.
 
 ghost use Rattle.std.specs.Prelude.{◌≡◌, ◌≢◌, ◌+◌, ◌≤◌, ◌<◌, ◌^◌, false};
 ghost use Rattle.admit_core.specs.Conn.{needed};

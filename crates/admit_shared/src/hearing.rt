@@ -1,4 +1,4 @@
-//! A connection hears what became of what it wanted.
+//! What a connection hears of what it wanted; `asking` and `drive` tell it.
 
 ghost use Rattle.std.specs.Prelude.{◌≡◌, ◌+◌, ◌≤◌, ◌<◌, ℕ, None, Some, true, false, is_some};
 ghost use Rattle.rule_eval.specs.declared.wants.Answer.TheVariants.{Released};

@@ -1,11 +1,11 @@
-//! A connection goes on by tables that threads share: by one call of one of them, or by one change of phase.
+//! A connection goes on by tables that threads share, one move each time; `tcp_relay`'s workers judge and end each connection by
+//! it.
 //!
-//! `specs/Moves.antt` says what that does to it and to the seats by which the tables are asked.
+//! A move is one call of a table, or one change of phase. `specs/Moves.antt` says what that does to the connection and to the
+//! seats by which the tables are asked.
 //!
-//! The visit of a connection to tables that threads share: it comes, its rules judge it, and it leaves, each of its moves at
-//! the moment that a clock shows then.
-//!
-//! `specs/Visit.antt` says what such moves are; each is one of `admit_shared`.
+//! A visit of a connection is its arrival, its judgement by the rules and its end, each move at the moment that a clock shows
+//! then. `specs/Visit.antt` says what such moves are.
 #![tactic(auto)]
 
 mod asking;

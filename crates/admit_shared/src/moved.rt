@@ -1,4 +1,4 @@
-//! What became of what a connection wanted.
+//! What became of what a connection wanted; `advance` answers it, and `visit` decides by it when to stop.
 
 /// What a move of a connection came to.
 #[derive(Clone, Copy, Debug, PartialEq, Eq)]

@@ -1,4 +1,4 @@
-//! A connection comes, is judged, and goes on until it stands still.
+//! A visit's parts: a connection comes, is judged, and goes on until it stands still; `tcp_relay` calls them.
 
 ghost use Rattle.std.specs.Prelude.{◌≡◌, ◌≢◌, ◌+◌, ◌≤◌, true, false};
 ghost use Rattle.rule_model.specs.declared.sections.Setup.{Setup as ASetup};

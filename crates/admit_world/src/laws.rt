@@ -1,4 +1,4 @@
-//! What every world keeps. Each law is the contract of a function that does nothing.
+//! Laws of every world; each is the contract of an empty function, which no code calls.
 ghost use Rattle.admit_world.specs.Alike.{OneWorldLaw};
 ghost use Rattle.admit_world.specs.Limit.{AdmittedLimitLaw, AdmittedPassedLaw, ReferencesLaw};
 ghost use Rattle.admit_world.specs.Schedules.{SchedulesJoinLaw};

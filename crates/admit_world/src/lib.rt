@@ -1,8 +1,6 @@
-//! Connections that share the tables of a setup, and go on in any order. What holds of all that comes of it, `admit_world`
-//! says.
+//! Worlds: connections that share the tables of a setup, and go on in any order; only tests run them.
 //!
-//! The laws of worlds: what holds of connections that share the tables of a setup, whatever the schedule by which they go
-//! on. `admit_world::World::run` leads through such schedules alone.
+//! `World::run` leads through schedules. The laws say what holds of connections whatever the schedule by which they go on.
 #![tactic(auto)]
 
 pub mod laws;

@@ -1,4 +1,4 @@
-//! A connection that will come.
+//! A connection that will come; `World::new` takes one for each connection.
 
 use rule_eval::Samples;
 

@@ -1,4 +1,4 @@
-//! A connection of a world.
+//! A connection of a world, with the bytes that it will have had; `World` keeps them and closes one that rests.
 
 ghost use Rattle.std.specs.Prelude.{◌≡◌, false, is_some};
 ghost use Rattle.admit_core.specs.Conn.{progress_of, Stands};

@@ -1,4 +1,4 @@
-//! Connections that share the tables of a setup.
+//! Connections that share the tables of a setup, and go on by a schedule; tests run it.
 
 ghost use Rattle.std.specs.Prelude.{◌≡◌, ◌<◌, ◌^◌, List, length, Some, slice_get, IfOk};
 ghost use Rattle.admit_core.specs.Connection.{Connection};

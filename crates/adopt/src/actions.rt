@@ -1,4 +1,4 @@
-//! What rules do, in stickd's spelling.
+//! What rules do, in stickd's spelling; `rules` converts by it, and `guards` and `rule_lines` ask parts.
 
 use crate::calls::{read_call, slot_of};
 use crate::keywords::is_one_of;

@@ -1,4 +1,4 @@
-//! Addresses of clients, listeners and servers in stickd's spelling.
+//! Addresses of clients, listeners and servers in stickd's spelling; `values`, `listeners` and `servers` call it.
 
 use crate::reasons::{Refusal, Why};
 use crate::texts::{append, append_str, copy_text, is_word, split_at_byte, text_of, word_at};

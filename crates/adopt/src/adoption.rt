@@ -1,4 +1,4 @@
-//! A whole file, adopted.
+//! A whole file, adopted; `file` calls `adopt` with what it has read.
 
 ghost use Rattle.std.specs.Prelude.{◌≡◌, ◌++◌, ℕ, List, IfOk, IfSome};
 ghost use Rattle.adopt.specs.Lines.{own_lines, own_raws};

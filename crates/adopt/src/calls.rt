@@ -1,4 +1,4 @@
-//! Words such as `sc_conn_cur(0,T)`, and their parts.
+//! Words such as `sc_conn_cur(0,T)`, and their parts; `fetches`, `entries` and `actions` read and write them.
 
 use crate::fetches::constant;
 use crate::reasons::{Refusal, Why};

@@ -1,4 +1,4 @@
-//! What is written, read by the program that is to run it.
+//! What is written, read by `rule_config` as the program will; `adoption` calls it before it gives the text.
 
 ghost use Rattle.std.specs.Prelude.{◌≡◌, OnOk, IfOk, IsNone, None};
 ghost use Rattle.adopt.specs.Checked.{IsTaken};

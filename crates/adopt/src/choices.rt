@@ -1,4 +1,4 @@
-//! Which frontend of a file is served, and by which server.
+//! Which frontend of a file is served, and by which server; `adoption` makes its plan by it.
 
 ghost use Rattle.std.specs.Prelude.{◌≡◌, IfOk};
 

@@ -1,4 +1,4 @@
-//! The command line that stands for lines of limits and times.
+//! The command line that stands for lines of limits and times; `adoption` writes it.
 
 use crate::options::CommandOption;
 use crate::texts::{append, append_str, copy_text};

@@ -1,4 +1,4 @@
-//! Conditions of rules.
+//! Conditions of rules in stickd's spelling; `rules` and `guards` call it.
 
 use crate::addresses::dotted;
 use crate::calls::truth_text;

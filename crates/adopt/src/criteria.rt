@@ -1,4 +1,4 @@
-//! Criteria, and the ACLs that name them.
+//! Criteria in stickd's spelling, and the ACLs that name them; `conditions`, `headings` and `proxy_lines` call it.
 
 use crate::fetches::read_subject;
 use crate::plan::{Plan, begins};

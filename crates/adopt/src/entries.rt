@@ -1,4 +1,4 @@
-//! What is asked of an entry: of a slot's, or of that of the client's address.
+//! What is asked of an entry: of a slot's, or of that of the client's address; `fetches` calls it.
 
 use crate::calls::{element_text, slot_of, slot_text};
 use crate::fetches::{Form, Subject};
@@ -9,24 +9,7 @@ use crate::texts::{append, is_word, text_of, word_at};
 use base_lines::read_number;
 use base_sequence::NoMemory;
 use std::alloc::Global;
-
-/// What can be read of a slot's entry and of a source's.
-const READ: [&str; 14] = [
-    "conn_cnt",
-    "conn_cur",
-    "conn_rate",
-    "sess_cnt",
-    "sess_rate",
-    "bytes_in_rate",
-    "bytes_out_rate",
-    "gpc0_rate",
-    "gpc1_rate",
-    "get_gpc0",
-    "get_gpc1",
-    "get_gpt0",
-    "kbytes_in",
-    "kbytes_out",
-];
+use stored_data::read_fetch;
 
 /// What can be asked of a slot's entry alone.
 const SLOT_ONLY: [&str; 5] = ["inc_gpc0", "inc_gpc1", "clr_gpc0", "clr_gpc1", "trackers"];
@@ -163,7 +146,7 @@ fn tracked_subject(alloc: Global, plan: &Plan, asked: &Asked<'_>) -> Result<Subj
             slot,
         });
     }
-    if is_one_of(asked.name, &READ) || is_one_of(asked.name, &SLOT_ONLY) {
+    if read_fetch(asked.name).is_some() || is_one_of(asked.name, &SLOT_ONLY) {
         return Ok(Subject {
             word,
             form: Form::Integer,
@@ -189,7 +172,7 @@ fn source_name<'a>(asked: &Asked<'a>) -> Result<&'a [u8], Refusal> {
         },
         None => asked.name,
     };
-    if is_one_of(name, &READ) {
+    if read_fetch(name).is_some() {
         Ok(name)
     } else {
         Err(Refusal::Lost(Why::OtherTable))

@@ -1,4 +1,4 @@
-//! What becomes of each line.
+//! What becomes of each line; `adoption` calls `fates_of`, and the modules of lines make fates.
 
 use crate::headings::{add_table_of_all, of_heading};
 use crate::keywords::{is_one_of, left_out};

@@ -1,4 +1,4 @@
-//! What a criterion asks, in stickd's spelling.
+//! What a criterion asks, in stickd's spelling; `criteria` calls it, and `values` reads what it found.
 
 use crate::calls::{Call, numbered, read_call, slot_text, truth_text};
 use crate::entries::{asked_of, slot_subject, source_subject};

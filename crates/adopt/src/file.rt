@@ -1,4 +1,4 @@
-//! Adopting a file that is named: what is read, and what is written where.
+//! The adoption of a named file: what is read, and what is written where; `stickd` calls `adopt_file`.
 
 use crate::adoption::{Adoption, adopt, wanted_files};
 use crate::lexer::Variable;

@@ -1,8 +1,8 @@
-//! An `accept` of one phase, which rules of a later phase are not kept off by.
+//! An `accept` of one phase, which doesn't end the rules of later ones; `rule_lines` leaves it out, and `rules` adds its terms.
 //!
-//! In HAProxy `tcp-request connection accept` ends the rules of `connection` alone, and those of `session` and `content`
-//! run all the same. Here all rules run as one list. So such an `accept` is left out where rules of both its own phase and
-//! a later one follow, and each of those that it kept off gets its condition, negated.
+//! In HAProxy `tcp-request connection accept` ends the rules of `connection` alone, and those of `session` and `content` run all
+//! the same. Here all rules run as one list. So such an `accept` is left out where rules of both its own phase and a later one
+//! follow, and each of those that it kept off gets its condition, negated.
 
 use crate::actions::condition_place;
 use crate::conditions::{Condition, Term, acl_name, convert_condition};

@@ -1,4 +1,4 @@
-//! What becomes of the first line of a proxy, and what is added behind the frontend's.
+//! What becomes of the first line of a proxy, and what is added behind the frontend's; `fates` calls it.
 
 use crate::actions::add_words;
 use crate::conditions::acl_name;

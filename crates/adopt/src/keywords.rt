@@ -1,4 +1,5 @@
-//! The keywords that HAProxy has and stickd lacks: what becomes of their lines.
+//! The keywords that HAProxy has and stickd lacks, and what becomes of their lines; `fates`, `proxy_lines`, `servers` and
+//! `listeners` ask it.
 
 ghost use Rattle.std.specs.Prelude.{◌≡◌, map};
 ghost use Rattle.adopt.specs.Keywords as spec;

@@ -1,4 +1,6 @@
-//! The words of a line, as HAProxy reads them.
+//! The words of a line, as HAProxy reads them; `adoption` calls `read_lines`, and the plan keeps its lines.
+//!
+//! Quotes, escapes and variables are resolved (HAProxy Configuration Manual 2.6, sections 2.2 and 2.3).
 
 ghost use Rattle.std.specs.Prelude.{◌≡◌, IfOk};
 ghost use Rattle.adopt.specs.Lines as spec;

@@ -1,13 +1,10 @@
-//! An HAProxy configuration carried over: the configuration that stickd runs in its place, the command line, and a
-//! report of what became of each line.
+//! The adoption of an HAProxy configuration: what stickd runs in its place, and a report; `stickd adopt` calls `adopt_file`.
 //!
-//! The lines of an HAProxy configuration as words: quotes, escapes and variables resolved (HAProxy Configuration Manual
-//! 2.6, sections 2.2 and 2.3); and small work on words.
+//! What is written is a configuration and a command line. The report says of each line whether it is kept, rewritten, or left out
+//! with a reason.
 //!
-//! What becomes of each line of an HAProxy configuration: it is kept, rewritten, or left out with a reason.
-//!
-//! A file is read into a `Plan`: its sections, the one frontend that is served and its backend, and what their rules
-//! track. Then each line has a `Fate`, and options of the command line stand for lines of limits and times.
+//! A file is read into a `Plan`: its sections, the one frontend that is served and its backend, and what their rules track. Then
+//! each line has a `Fate`, and options of the command line stand for lines of limits and times.
 #![tactic(auto)]
 
 mod actions;

@@ -1,4 +1,5 @@
-//! Lines `bind`: where the frontend listens.
+//! Lines `bind`, where the frontend listens, in stickd's spelling; `proxy_lines` converts by it, and `options` and `servers` ask
+//! it.
 
 use crate::addresses::{endpoints_of, port_of, without_family};
 use crate::keywords::{BIND_FLAGS, BIND_VALUES, is_one_of};

@@ -1,4 +1,4 @@
-//! The command line: options that stand for lines.
+//! Options of the command line that stand for lines; `adoption` makes them, and `command` and `fates` go by them.
 
 use crate::listeners::{first_bind, option_value};
 use crate::plan::{Plan, begins};

@@ -1,4 +1,4 @@
-//! A file, what is served of it, and what its rules track.
+//! A file, what is served of it, and what its rules track; `choices` makes it, and the conversions read it.
 
 use crate::lexer::SourceLine;
 use crate::sections::Section;

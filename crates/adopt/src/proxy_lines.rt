@@ -1,4 +1,4 @@
-//! What becomes of the other lines of a proxy.
+//! What becomes of the lines of a proxy other than its first and its rules; `fates` calls it.
 
 use crate::actions::add_words;
 use crate::addresses::endpoints_of;

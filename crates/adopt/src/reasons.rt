@@ -1,4 +1,4 @@
-//! Why a line is left out, or what it loses.
+//! Why a line is left out, or what it loses; the conversions answer it, and the report prints it.
 
 use base_sequence::NoMemory;
 use std::alloc::AllocFailed;

@@ -1,4 +1,4 @@
-//! What is said of each line.
+//! The report of what became of each line; `file` prints it.
 
 use crate::adoption::Adoption;
 use crate::fates::{Fate, FateKind};

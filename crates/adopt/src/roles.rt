@@ -1,4 +1,4 @@
-//! What a section is for what is served.
+//! What a section is for what is served; `headings`, `proxy_lines` and `fates` ask it.
 
 use crate::headings::is_used;
 use crate::plan::{Plan, begins};

@@ -1,4 +1,4 @@
-//! What becomes of rules.
+//! What becomes of lines with rules; `fates` and `proxy_lines` call it, and `headings` asks what is written of a rule.
 
 use crate::actions::is_idle;
 use crate::fates::{Fate, FateKind, left, stands};

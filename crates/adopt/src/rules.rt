@@ -1,4 +1,4 @@
-//! Rules in stickd's spelling, and the order in which they run.
+//! Rules in stickd's spelling, and the order in which they run; `rule_lines` converts by it, and `choices` plans by it.
 
 use crate::actions::{add_words, condition_place, convert_action, is_idle, tracked_slot};
 use crate::calls::slot_of;

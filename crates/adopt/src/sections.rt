@@ -1,4 +1,4 @@
-//! The sections of a file.
+//! The sections of a file; `choices` reads them, and the plan has them.
 
 use crate::lexer::SourceLine;
 use crate::plan::begins;

@@ -1,4 +1,5 @@
-//! Lines `server`: where accepted connections go.
+//! Lines `server`, where accepted connections go, in stickd's spelling; `proxy_lines` converts by it, and `options` asks which is
+//! kept.
 
 use crate::addresses::server_endpoint;
 use crate::keywords::{SERVER_FLAGS, SERVER_VALUES, is_one_of};

@@ -1,4 +1,4 @@
-//! Lines that stand in place of others.
+//! Lines that stand in place of others; `headings`, `proxy_lines` and `rule_lines` make their fates by it.
 
 use crate::fates::{Fate, FateKind, left, plain};
 use crate::lexer::SourceLine;

@@ -1,4 +1,4 @@
-//! The exit status of what became of all lines.
+//! The exit status of what became of all lines; `adoption` calls it, and `file` answers it.
 
 ghost use Rattle.std.specs.Prelude.{◌≡◌};
 ghost use Rattle.std.specs.List.{list_any};

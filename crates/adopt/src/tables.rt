@@ -1,4 +1,4 @@
-//! Lines `stick-table` in stickd's spelling.
+//! Lines `stick-table` in stickd's spelling; `proxy_lines` calls it.
 
 use crate::keywords::is_one_of;
 use crate::reasons::{Refusal, Why};
@@ -9,6 +9,7 @@ use crate::texts::{
 use base_lines::read_number;
 use base_sequence::NoMemory;
 use std::alloc::Global;
+use stored_data::read_datum;
 
 /// What is read of a line `stick-table`.
 #[derive(Drop)]
@@ -21,30 +22,6 @@ struct Reading {
     /// What the next word is for: 0 a keyword, 1 a value that is kept, 2 one that is left out, 3 columns.
     next: u8,
 }
-
-/// Data that a table can store in stickd.
-const STORED: [&str; 10] = [
-    "gpt0",
-    "gpc0",
-    "conn_cnt",
-    "conn_cur",
-    "sess_cnt",
-    "bytes_in_cnt",
-    "bytes_out_cnt",
-    "gpc1",
-    "gpt",
-    "gpc",
-];
-
-/// Rates that a table can store in stickd.
-const RATES: [&str; 6] = [
-    "gpc0_rate",
-    "conn_rate",
-    "sess_rate",
-    "bytes_in_rate",
-    "bytes_out_rate",
-    "gpc1_rate",
-];
 
 /// The name of a column, without its parentheses.
 fn column_name(column: &[u8]) -> &[u8] {
@@ -119,7 +96,7 @@ impl Reading {
                 continue;
             }
             let name = column_name(piece);
-            if is_one_of(name, &STORED) || is_one_of(name, &RATES) {
+            if read_datum(name).is_some() {
                 self.add_column(copy_text(alloc, piece)?)?;
             }
         }

@@ -1,4 +1,4 @@
-//! Small work on texts and words.
+//! Small work on texts and words; most modules here call it, and `stickd` copies the words of its command line by `text_of`.
 
 ghost use Rattle.std.specs.Prelude.{◌≡◌, IfOk};
 

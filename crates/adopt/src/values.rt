@@ -1,4 +1,4 @@
-//! What a criterion compares with.
+//! What a criterion compares with, in stickd's spelling; `criteria` calls it.
 
 use crate::addresses::source_pattern;
 use crate::calls::truth_text;

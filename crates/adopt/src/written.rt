@@ -1,4 +1,4 @@
-//! What is written of each line.
+//! What is written of each line; `adoption` joins the pieces, and `status` looks them through.
 
 ghost use Rattle.std.specs.Prelude.{◌≡◌, ◌++◌, OnOk, OnErr, map, if◌then◌else◌};
 ghost use Rattle.std.specs.Str.{is_utf8};

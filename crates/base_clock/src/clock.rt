@@ -1,4 +1,4 @@
-//! What tells the moment.
+//! The trait `Clock`, which tells the moment; command services, housekeeping and connections on shared tables read it.
 
 /// A clock, in ms.
 pub trait Clock {

@@ -1,6 +1,5 @@
-//! Moments in ms, from 0 to `MAX_MOMENT`, and the clocks that tell them.
-//!
-//! A clock that runs: the moments of a program that serves.
+//! Moments in ms, from 0 to `MAX_MOMENT`, and the clocks that tell them; command services, housekeeping, connections, scripts and
+//! the proxy read them.
 #![tactic(auto)]
 
 mod clock;

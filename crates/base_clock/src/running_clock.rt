@@ -1,4 +1,4 @@
-//! A clock that runs.
+//! The clock of a program that serves, in ms since its start; `tcp_proxy` and `tcp_relay` make one for each thread.
 
 ghost use Rattle.std.specs.Prelude.{◌≡◌, ◌≤◌, ◌<◌, ◌-◌, ◌/◌, ◌^◌, min, max, IfOk, IfErr};
 ghost use Rattle.std.specs.Duration.{as_nanos};

@@ -1,4 +1,4 @@
-//! A clock that stands.
+//! A clock that stands at one moment; `stickd_script` makes one for a line, `tcp_relay` for a verdict or an end.
 
 ghost use Rattle.std.specs.Prelude.{◌≡◌, ◌<◌, ◌^◌};
 

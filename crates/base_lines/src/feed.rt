@@ -1,4 +1,4 @@
-//! Serving the lines that a piece of a text ends.
+//! The service of each line that ends in a piece of a text; `serve_lines` calls it for each read.
 
 ghost use Rattle.std.specs.Prelude.{◌≡◌, ◌≤◌, ◌+◌, ◌++◌, ℕ, List, [], length, MatchResult, OnOk, OnErr};
 ghost use Rattle.byte_ports.specs.Bytes.{Grows, IsOneMore};

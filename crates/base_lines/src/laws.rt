@@ -1,4 +1,4 @@
-//! Laws on the definitions, each the contract of a function that does nothing.
+//! Laws of the definitions of parts and numbers; each is the contract of an empty function, which no code calls.
 
 ghost use Rattle.base_lines.specs.Laws.{PartsAreSplit, PartsJoinBack, NumbersAreNumerals, NumbersReadBack};
 

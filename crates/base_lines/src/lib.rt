@@ -1,14 +1,12 @@
-//! Lines, words and decimal numbers of bytes, for every reader of text; and work that is done one item at a time.
+//! Lines, words and decimal numbers of bytes, and the service of a reader's lines; configurations, commands, scripts and `adopt`
+//! read by it.
 //!
-//! Contracts cite the definitions in `specs`: `Parts` (the parts of bytes round those that part them), `Words`,
-//! `Parentheses`, `Line` (a line that is not too long), `Number`, and `Chain` (items done one after another, their texts
-//! joined; how far such work is done; where it stops within an item).
+//! Contracts cite the definitions in `specs`: `Parts` (the parts of bytes round those that part them), `Words`, `Parentheses`,
+//! `Line` (a line that is not too long), `Number`, and `Chain`. The last is of items done one after another, their texts joined:
+//! how far such work is done, and where it stops within an item.
 //!
-//! A crate above cites the lemmas on them by their files in `proofs`: `PartLemmas` (parts of a text that grows),
-//! `WordLemmas`, `LineLemmas`, `NumberLemmas` and `ChainLemmas`, as in
-//! `use Rattle.base_lines.proofs.PartLemmas.{parts_join}`.
-//!
-//! Serving the lines of a reader, one after another, until it ends.
+//! A crate above cites the lemmas on them by their files in `proofs`: `PartLemmas` (parts of a text that grows), `WordLemmas`,
+//! `LineLemmas`, `NumberLemmas`, `ChainLemmas` and `ServiceLemmas`, as in `use Rattle.base_lines.proofs.PartLemmas.{parts_join}`.
 #![tactic(auto)]
 
 mod feed;

@@ -1,4 +1,4 @@
-//! The line that is being read.
+//! The line that is read at present, on the stack, and its end without the carriage return; `feed` and `serve_lines` extend it.
 
 ghost use Rattle.std.specs.Prelude.{◌≡◌, ℕ, ◌≤◌, Some, List, [], ◌∷◌, ◌++◌, option_map};
 ghost use Rattle.base_lines.specs.Line as spec;

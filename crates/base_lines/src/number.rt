@@ -1,4 +1,5 @@
-//! Decimal numbers.
+//! Decimal numbers, read and printed; readers of configurations, commands and scripts call it, and printers of answers and of
+//! adopted files.
 
 ghost use Rattle.std.specs.Prelude.{◌≡◌, ◌+◌, ◌*◌, ◌<◌, ◌^◌, ◌++◌, OnOk, OnErr, decimal};
 ghost use Rattle.std.specs.Option.{SomeIff};

@@ -1,4 +1,4 @@
-//! What stands in parentheses behind a name.
+//! What stands in parentheses behind a name; readers of rules call it (`rule_words`, `rule_config`, `adopt`).
 
 ghost use Rattle.std.specs.Prelude.{◌≡◌, MatchOption, None, Some};
 ghost use Rattle.base_lines.specs.Parentheses as spec;

@@ -1,4 +1,4 @@
-//! The parts of a slice round a byte.
+//! A cursor over the parts of a slice at a byte; readers of configurations and commands cut lines, commands and lists by it.
 
 ghost use Rattle.std.specs.Prelude.{◌≡◌, ◌≤◌, ◌+◌, [], ◌∷◌, ◌↔◌, length, IsTrue, MatchOption};
 ghost use Rattle.base_lines.specs.Parts.{parts, is_byte};

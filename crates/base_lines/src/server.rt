@@ -1,4 +1,4 @@
-//! What serves lines.
+//! The trait `LineServer`, what serves lines; `table_cli` and `stickd_script` implement it, and `serve_lines` calls it.
 
 use byte_ports::{Failed, Sink};
 

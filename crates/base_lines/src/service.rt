@@ -1,4 +1,4 @@
-//! Serving the lines of a reader.
+//! The service of each line of a reader, until that ends; `table_cli` calls it for clients, `stickd_script` for scripts.
 
 ghost use Rattle.std.specs.Prelude.{◌≡◌, ◌≤◌, ◌⊎◌, ℕ, List, length, IfErr, OnOk};
 ghost use Rattle.byte_ports.specs.Bytes.{Grows, IsAtEnd, IsOneMore, Takes};

@@ -1,4 +1,4 @@
-//! The words of a line.
+//! A cursor over the words of a line; readers of configurations, commands and scripts take words from it.
 
 ghost use Rattle.std.specs.Prelude.{◌≡◌, ◌≤◌, ◌<◌, [], ◌∷◌, take, drop, length, MatchOption, slice_index, false};
 ghost use Rattle.std.specs.List.{filter};

@@ -1,4 +1,4 @@
-//! A list of values that contracts see as a list, and the error of a growth that was refused.
+//! A list that contracts see as the list of its items, and the error of a refused growth; crates from keys to programs use it.
 #![tactic(auto)]
 
 pub use std::alloc::AllocError as NoMemory;

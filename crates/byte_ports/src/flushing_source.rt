@@ -1,4 +1,4 @@
-//! A source that has what is gathered written before it reads.
+//! A source that writes what is gathered before each read; `table_socket` reads its clients through it.
 
 ghost use Rattle.std.specs.Prelude.{◌≡◌};
 

@@ -1,4 +1,4 @@
-//! A sink that gathers what it takes.
+//! A sink that gathers bytes for the sink behind it; `table_socket` shares one between `SharedSink` and `FlushingSource`.
 
 ghost use Rattle.std.specs.Prelude.{◌≡◌, ◌≤◌, ◌<◌, ◌++◌, [], length, take, IfOk, OnOk, OnErr};
 ghost use Rattle.byte_ports.specs.Bytes.{Grows, IsOneMore};

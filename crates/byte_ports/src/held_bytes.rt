@@ -1,4 +1,4 @@
-//! Bytes that are held on the stack.
+//! A buffer of bytes on the stack; `GatheringSink` gathers in it.
 
 ghost use Rattle.std.specs.Prelude.{◌≡◌, ◌+◌, ◌<◌, ◌++◌, [], length, take, OnOk, OnErr};
 ghost use Rattle.byte_ports.specs.declared.held_bytes.TheConstants.{ROOM};

@@ -1,16 +1,15 @@
-//! Readers and writers whose contracts name the bytes that passed, and count the failures.
+//! Readers and writers whose contracts name the bytes that pass and count the failures; line services, commands, scripts and
+//! `tcp_flow` use them.
 //!
-//! A function that works on any `Source` and `Sink` can promise what it did with the bytes, and that it answers a
-//! fault only where a device failed. `MemorySource` and `MemorySink` tell their bytes to contracts;
-//! `StreamSource` and `StreamSink` tell none, as no contract can say what a file or a socket gives.
+//! A function that works on any `Source` and `Sink` can promise what it did with the bytes, and that it answers a fault only
+//! where a device failed. `MemorySource` and `MemorySink` tell their bytes to contracts; `StreamSource` and `StreamSink` tell
+//! none, as no contract can say what a file or a socket gives.
 //!
-//! The words of the contracts are in `specs::Bytes`. A crate above cites the lemmas on them as
-//! `Rattle.byte_ports.proofs.Pieces`.
+//! The words of the contracts are in `specs::Bytes`. A crate above cites the lemmas on them as `Rattle.byte_ports.proofs.Pieces`.
 //!
-//! Writes that are gathered, so that many short ones are a single one of the device.
-//!
-//! `GatheringSink` is a `Sink` over another, and its contracts see what it has taken. `SharedSink` and `FlushingSource`
-//! are the two ends of a conversation that share one: what was written comes before the next read.
+//! Writes can be gathered, so that many short ones are a single one of the device. `GatheringSink` is a `Sink` over another, and
+//! its contracts see what it has taken. `SharedSink` and `FlushingSource` are the two ends of a conversation that share one: what
+//! was written comes before the next read.
 #![tactic(auto)]
 
 ghost use Rattle.std.specs.Prelude.{◌≡◌, ℕ, ◌<◌, ◌≤◌, List, [], length, take, IfOk, OnOk, OnErr};

@@ -1,4 +1,4 @@
-//! A sink in memory.
+//! A sink in memory, whose bytes contracts see; tests write to it.
 
 ghost use Rattle.std.specs.Prelude.{◌≡◌, ◌<◌, []};
 

@@ -1,4 +1,4 @@
-//! A source in memory.
+//! A source in memory, whose bytes contracts see; tests read from it.
 
 ghost use Rattle.std.specs.Prelude.{◌≡◌, ◌<◌};
 

@@ -1,4 +1,4 @@
-//! How many bytes pass in each call of a port in memory.
+//! How many bytes pass in each call of a port in memory; `MemorySource` and `MemorySink` ask it.
 
 ghost use Rattle.std.specs.Prelude.{◌≡◌, ◌-◌, ◌<◌, ◌≤◌, IfSome, option_map};
 ghost use Rattle.byte_ports.specs.Memory.{passing};

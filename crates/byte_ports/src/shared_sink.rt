@@ -1,4 +1,4 @@
-//! A sink whose bytes are gathered where others see them.
+//! A sink over a `GatheringSink` in a cell, which others see too; `table_socket` writes its answers to it.
 
 ghost use Rattle.std.specs.Prelude.{◌≡◌, ◌<◌, ◌≤◌, length, IfOk};
 

@@ -1,4 +1,4 @@
-//! A sink over a writer of std, whose bytes no contract sees.
+//! A sink over a writer of std, whose bytes no contract sees; `stickd` and `table_socket` write to it.
 
 ghost use Rattle.std.specs.Prelude.{◌≡◌};
 

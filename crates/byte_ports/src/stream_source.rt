@@ -1,4 +1,4 @@
-//! A source over a reader of std, whose bytes no contract sees.
+//! A source over a reader of std, whose bytes no contract sees; `stickd` and `table_socket` read from it.
 
 ghost use Rattle.std.specs.Prelude.{◌≡◌};
 

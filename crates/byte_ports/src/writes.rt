@@ -1,4 +1,4 @@
-//! Writing all of a slice.
+//! The write of a whole slice, in as many calls as it takes; `table_cli`, `stickd_script` and `GatheringSink` call it.
 
 ghost use Rattle.std.specs.Prelude.{◌≡◌, ◌≤◌, length, take, IfErr, OnOk, OnErr};
 ghost use Rattle.byte_ports.specs.Bytes.{Grows, IsOneMore};

@@ -1,4 +1,4 @@
-//! One block of raw memory, taken once. The functions with a pointer stand here, and nowhere else.
+//! One block of raw memory, taken once; `Pool` calls it. All functions with a pointer stand here.
 ghost use Rattle.std.specs.Prelude.{List, ◌≡◌, ◌+◌, ◌<◌, ◌^◌, IsTrue, length, replicate, get_or, slice_set, Option, Some, None, IsSome, IfOk};
 ghost use Rattle.std.specs.declared.alloc.Global.{Global};
 ghost use Rattle.std.specs.Borrow.{Lends, sem};

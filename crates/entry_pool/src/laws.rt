@@ -1,4 +1,4 @@
-//! Laws of pools, each the contract of a function that does nothing.
+//! Laws of pools; each is the contract of an empty function, which no code calls.
 
 ghost use Rattle.entry_pool.specs.Laws.{GoneForEver, InsertedIsFound, OthersStay};
 

@@ -1,4 +1,7 @@
-//! Slots for values in one block of raw memory, named by handles that never find a later value.
+//! Slots for values in one block of raw memory, named by handles that never find a later value; `stick_pooled` keeps its entries
+//! there.
+//!
+//! `key_index` and `expiry_order` share its handles and slot numbers.
 #![tactic(auto)]
 
 ghost use Rattle.std.specs.Prelude.{◌≡◌, ℕ, ◌<◌, ◌≤◌, ◌^◌, ◌↔◌, length, replicate, get_or, slice_set, Some, None, IsSome, IsErr, IfOk, IfErr, IfNone, option_copied};

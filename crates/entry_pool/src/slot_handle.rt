@@ -1,4 +1,4 @@
-//! What names a slot of a table, and lemmas on lists of distinct slots.
+//! What names a slot of a table; `Pool` makes handles, and `key_index` and `stick_pooled` keep them.
 
 /// No slot: slots are below 2^30.
 pub const NONE: u32 = u32::MAX;

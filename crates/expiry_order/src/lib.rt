@@ -1,4 +1,6 @@
-//! The order in which entries expire: a list of distinct slots, in links between slot numbers.
+//! The order in which entries expire: distinct slots, linked by their numbers; `stick_pooled` queues the entries without
+//! references by it.
+//!
 //! A slot joins at the back and leaves anywhere in a constant number of steps.
 #![tactic(auto)]
 

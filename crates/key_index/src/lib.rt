@@ -1,4 +1,4 @@
-//! From keys to handles: hash chains through slot numbers.
+//! From keys to handles, by hash chains through slot numbers; `stick_pooled` finds its entries by it.
 #![tactic(auto)]
 
 ghost use Rattle.std.specs.Prelude.{◌≡◌, ◌≢◌, ℕ, ◌<◌, ◌≤◌, ◌-◌, ◌/◌, ◌^◌, ◌%◌, bit_and, length, Some, None, IsSome, IfNone, IfOk, IfSome, IsTrue, ◌↔◌};

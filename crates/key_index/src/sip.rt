@@ -1,5 +1,6 @@
-//! SipHash-1-3 of the bytes of an address, 4 or 16, by whole words. A hasher that takes any bytes goes through the
-//! last of them one by one.
+//! SipHash-1-3 of the bytes of an address, 4 or 16, by whole words; `Index` hashes addresses by it.
+//!
+//! A hasher that takes any bytes goes through the last of them one by one.
 ghost use Rattle.std.specs.Prelude.{◌≡◌, length};
 ghost use Rattle.core.specs.Hash.DefaultHasher.{round, write_word, with_keys, finish, write};
 ghost use Rattle.key_index.specs.Sip.{state_of, finished_by};

@@ -1,5 +1,6 @@
-//! Bytes by whole words, as those of an address, 4 or 16. A word is read and compared at once, where a loop goes
-//! through the bytes.
+//! Bytes by whole words, as those of an address, 4 or 16; `Index` compares keys by it, and `sip` hashes.
+//!
+//! A word is read and compared at once, where a loop goes through the bytes.
 ghost use Rattle.std.specs.Prelude.{◌≡◌, ◌+◌, ◌<◌, ◌≤◌, length, IsTrue, ◌↔◌};
 ghost use Rattle.core.specs.Hash.DefaultHasher.{with_byte};
 ghost use Rattle.key_index.specs.Sip.{half_of, word_of};

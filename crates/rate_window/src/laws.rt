@@ -1,4 +1,4 @@
-//! What follows from the definition of a rate.
+//! Laws of rates; each is the contract of an empty function, which no code calls.
 ghost use Rattle.rate_window.specs.Laws.{RatesStop, RatesAreCounted, RatesFade, TalliesGrow, TalliesTell, CountsGoOn};
 
 /// A rate is never above 2^32 - 1.

@@ -1,4 +1,4 @@
-//! Addresses, and what is made of them.
+//! Addresses, and what is made of them; scripts and `tcp_relay` make them of clients, and `endpoint` and `network` read them.
 ghost use Rattle.std.specs.Prelude.{◌≡◌};
 ghost use Rattle.rule_addresses.specs.Addresses.{address_of};
 

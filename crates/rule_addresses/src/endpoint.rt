@@ -1,4 +1,4 @@
-//! Endpoints: where something listens.
+//! Where something listens, read from a text; `rule_config` and `adopt` call it for lines `bind` and `server`.
 ghost use Rattle.std.specs.Prelude.{◌≡◌, ◌==◌, MatchOption, Some, None, true, false};
 ghost use Rattle.std.specs.List.{list_any, before_last, after_last};
 ghost use Rattle.std.specs.Option.{option_copied};

@@ -1,4 +1,4 @@
-//! What follows from the definitions.
+//! Laws of networks and endpoints; each is the contract of an empty function, which no code calls.
 ghost use Rattle.rule_addresses.specs.Laws.{ComparesBitsOfAddress, ComparesFirstBits, HoldsItself, PortsAreSome, ServersReadAsBinds};
 
 /// A network compares the first bits of two addresses, as many as it says.

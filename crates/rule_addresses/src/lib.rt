@@ -1,4 +1,4 @@
-//! IP addresses, networks and endpoints, read from their texts.
+//! IP addresses, networks and endpoints, read from their texts; rules, configurations, scripts, `adopt` and the proxy use them.
 #![tactic(auto)]
 
 mod address;

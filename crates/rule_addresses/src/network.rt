@@ -1,4 +1,4 @@
-//! Networks: addresses of which the first bits are compared.
+//! Networks, of whose addresses the first bits are compared; `rule_words` reads them, and `rule_eval` looks for clients in them.
 ghost use Rattle.std.specs.Prelude.{◌≡◌, ◌-◌, ◌/◌, ◌^◌, ◌==◌};
 ghost use Rattle.std.specs.Int.{from_be_bytes, w32, w128};
 ghost use Rattle.rule_addresses.specs.Addresses.{bits_of, network_at, network_of};

@@ -1,4 +1,4 @@
-//! What a rule does, and when.
+//! What a rule does, and when, read from its words; `statements` calls it for `tcp-request connection`.
 
 ghost use Rattle.std.specs.Prelude.{◌≡◌, ◌∷◌};
 ghost use Rattle.base_lines.specs.Words.{words_left};

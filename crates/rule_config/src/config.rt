@@ -1,4 +1,4 @@
-//! Reading a whole configuration.
+//! A whole configuration, read line by line; `stickd_input` and `adopt` call `read_config`.
 
 ghost use Rattle.std.specs.Prelude.{◌≡◌, Ok, length, IfOk, IfErr};
 ghost use Rattle.rule_model.specs.Served.{AreTables};

@@ -1,4 +1,4 @@
-//! What the definition of a configuration comes to. Each law is the contract of a function that does nothing.
+//! Laws of the definition of a configuration; each is the contract of an empty function, which no code calls.
 
 ghost use Rattle.rule_config.specs.Examples.{ExamplesLaw};
 ghost use Rattle.rule_config.specs.Laws.{FaultLaw, Utf8Law};

@@ -1,4 +1,4 @@
-//! What a text that limits connections comes to. Each law is the contract of a function that does nothing.
+//! Laws of a text that limits connections; each is the contract of an empty function, which no code calls.
 
 ghost use Rattle.rule_config.specs.LimitExamples.{ExampleLaw};
 ghost use Rattle.rule_config.specs.Text.{LimitTextLaw};

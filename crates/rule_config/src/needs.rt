@@ -1,4 +1,4 @@
-//! What a line needs of the whole file.
+//! What lines need of the whole file; `reading` notes it, and `read_config` looks for it behind all lines.
 
 ghost use Rattle.std.specs.Prelude.{◌≡◌, ◌++◌, ◌&&◌, OnOk, is_some, not, MatchOption, Some, None};
 ghost use Rattle.std.specs.List.{find, flat_map, list_any};

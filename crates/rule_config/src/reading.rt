@@ -1,4 +1,4 @@
-//! What was read of a configuration, and what a line adds.
+//! What was read of a configuration, and what a line adds; `read_config` calls it line by line.
 
 ghost use Rattle.std.specs.Prelude.{◌≡◌, ◌++◌, OnOk, map};
 ghost use Rattle.std.specs.List.{flat_map, list_any};

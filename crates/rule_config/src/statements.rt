@@ -1,4 +1,4 @@
-//! What a line of a section says.
+//! What a line of a section says, by its keyword; `reading` calls it.
 
 ghost use Rattle.std.specs.Prelude.{◌≡◌};
 ghost use Rattle.base_lines.specs.Words.{words_left};

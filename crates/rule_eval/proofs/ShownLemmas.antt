@@ -6,7 +6,7 @@ use Rattle.stored_data.specs.Data.{place}
 use Rattle.stored_data.specs.Fields.{field_for, is_field, plain, size}
 use Rattle.stored_data.specs.Stored.{is_column}
 use Rattle.stored_data.specs.declared.datum.Datum.{Datum}
-use Rattle.stored_data.specs.declared.datum.Datum.TheVariants.{Gpt0, Gpc0, Gpc0Rate, ConnCnt, ConnRate, ConnCur, SessCnt, SessRate, BytesInCnt, BytesInRate, BytesOutCnt, BytesOutRate, Gpc1, Gpc1Rate, Gpt, Gpc}
+use Rattle.stored_data.specs.declared.datum.Datum.TheVariants.{Gpt0, ConnCur}
 use Rattle.stored_data.specs.declared.stored_set.Column.{Column}
 use Rattle.rule_eval.specs.Limit.{ShownLaw}
 use Rattle.rule_eval.proofs.FetchedLemmas.{datum_lem}
@@ -14,21 +14,7 @@ use Rattle.rule_eval.proofs.FetchedLemmas.{datum_lem}
 -- a column of the current connections has one field
 one_field : (datum : Datum) (count : ℕ) → (place datum == place ConnCur && nat_lt 0 (size (record { datum = datum; period = 0; count = count }))) ≡ (place datum == place ConnCur)
 one_field Gpt0 count = refl
-one_field Gpc0 count = refl
-one_field Gpc0Rate count = refl
-one_field ConnCnt count = refl
-one_field ConnRate count = refl
-one_field ConnCur count = refl
-one_field SessCnt count = refl
-one_field SessRate count = refl
-one_field BytesInCnt count = refl
-one_field BytesInRate count = refl
-one_field BytesOutCnt count = refl
-one_field BytesOutRate count = refl
-one_field Gpc1 count = refl
-one_field Gpc1Rate count = refl
-one_field Gpt count = refl
-one_field Gpc count = refl
+one_field _ count = refl
 
 -- the field of the current connections is stored where their column is
 conn_cur_field : (columns : List Column) → is_field columns (plain ConnCur) ≡ is_column columns ConnCur

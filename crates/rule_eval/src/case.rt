@@ -1,4 +1,4 @@
-//! What is known while a connection is judged.
+//! What is known while a connection is judged; `evaluation`, `scan` and `measures` read it.
 
 use crate::{Samples, Slots};
 use rule_model::Setup;

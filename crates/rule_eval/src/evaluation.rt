@@ -1,4 +1,4 @@
-//! An evaluation of the rules, as far as its answers have come.
+//! An evaluation of the rules, as far as its answers have come; `admit_core::Conn` asks it for wants, and tells it answers.
 ghost use Rattle.std.specs.Prelude.{◌≡◌, ◌≤◌, ◌+◌, ◌-◌, ◌==◌, true, false, List, [], ◌∷◌, ◌++◌, IfOk, IsOk, is_some, unwrap_or};
 ghost use Rattle.rule_model.specs.declared.sections.Setup.{Setup};
 ghost use Rattle.rule_eval.specs.declared.wants.Samples.{Samples};

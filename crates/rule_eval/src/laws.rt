@@ -1,7 +1,7 @@
-//! What follows from the definition of a verdict. Each law is the contract of a function that does nothing.
+//! Laws of the definition of a verdict; each is the contract of an empty function, which no code calls.
 //!
-//! Those on limits are of rules that begin with `track-sc0 src` and `reject if { sc0_conn_cur gt L }`, both without any
-//! further condition, on a table that stores `conn_cur`, where no other rule tracks by sc0.
+//! Those on limits are of rules that begin with `track-sc0 src` and `reject if { sc0_conn_cur gt L }`, both without any further
+//! condition. Their table stores `conn_cur`, and no other rule tracks by sc0.
 ghost use Rattle.rule_eval.specs.Ends.{EndsLaw};
 ghost use Rattle.rule_eval.specs.Fetched.{DatumLaw, ElementLaw};
 ghost use Rattle.rule_eval.specs.Limit.{FirstLaw, NeverLaw, OnceLaw, SecondLaw, ShownLaw, WithinLaw};

@@ -1,5 +1,6 @@
-//! The verdict of a connection by the rules of a proxy (HAProxy Configuration Manual 2.8, `tcp-request connection`),
-//! asked of the tables one event at a time.
+//! The verdict on a connection by the rules of a proxy, asked of the tables one event at a time; `admit_core` asks it.
+//!
+//! The rules are those of `tcp-request connection` (HAProxy Configuration Manual 2.8).
 //!
 //! `specs/Verdict.antt` says what is asked next after the answers so far, by recursion on the rules.
 #![tactic(auto)]

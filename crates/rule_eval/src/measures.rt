@@ -1,4 +1,4 @@
-//! What criteria and actions come to, or ask first. Nothing here takes memory.
+//! What criteria and actions come to, or ask first; `scan` calls it. Nothing here takes memory.
 ghost use Rattle.std.specs.Prelude.{◌≡◌};
 ghost use Rattle.std.specs.List.{list_any};
 ghost use Rattle.rule_addresses.specs.Matching.{holds};

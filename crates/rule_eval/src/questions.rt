@@ -1,4 +1,4 @@
-//! Wants whose keys are still to be made, so that what is wanted is found without memory.
+//! Wants whose keys are still to be made; `measures` and `scan` find them so without memory, and `evaluation` reads them.
 ghost use Rattle.std.specs.Prelude.{◌≡◌};
 ghost use Rattle.rule_model.specs.declared.sections.Setup.{Setup};
 ghost use Rattle.rule_eval.specs.declared.wants.Samples.{Samples};

@@ -1,4 +1,4 @@
-//! What an answer tells.
+//! What an answer tells of a criterion; `evaluation` and `measures` call it.
 ghost use Rattle.std.specs.Prelude.{◌≡◌};
 ghost use Rattle.std.specs.List.{list_any};
 ghost use Rattle.rule_eval.specs.Readings.{field_in, value_in, read, read_of, value_of, compares, matches, matches_any};

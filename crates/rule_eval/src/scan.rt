@@ -1,4 +1,4 @@
-//! Where an evaluation waits next.
+//! Where an evaluation waits next; `evaluation` calls it after each answer.
 ghost use Rattle.std.specs.Prelude.{◌≡◌, ◌≤◌, ◌+◌, true, List, length};
 ghost use Rattle.rule_eval.specs.Course.{Leads, LeadsWithin, conjunction_end, term_end, criteria_end, criterion_end, rule_end, point_course, is_ready};
 ghost use Rattle.rule_eval.specs.Left.{criteria_in, criteria_of, place_left, point_left, rules_size, scan_left};

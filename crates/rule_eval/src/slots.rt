@@ -1,4 +1,4 @@
-//! The slots of a connection.
+//! The slots of a connection, and which table each tracks in; `evaluation` and `questions` set them, and `Case` has them.
 ghost use Rattle.std.specs.Prelude.{◌≡◌};
 ghost use Rattle.rule_eval.specs.Slots.{slot_of, with_slot, no_slots};
 

@@ -1,4 +1,4 @@
-//! The tables of a setup, and the keys that a connection gives them.
+//! The tables of a setup, and the keys that a connection gives them; `measures` and `evaluation` look them up.
 ghost use Rattle.std.specs.Prelude.{◌≡◌, true, false, IfOk, IsOk, is_some, position, slice_get};
 ghost use Rattle.std.specs.Option.{option_map};
 ghost use Rattle.std.specs.Str.{bytes_eq};

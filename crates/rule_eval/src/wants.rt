@@ -1,4 +1,4 @@
-//! What an evaluation asks, and what it is told.
+//! What an evaluation asks, and what it is told; `admit_core` passes wants on, and connections on tables answer them.
 
 use rule_addresses::Address;
 use rule_model::Slot;

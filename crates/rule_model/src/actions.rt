@@ -1,4 +1,4 @@
-//! What a rule does.
+//! What a rule does, and its slots and keys; `rule_config` reads them, and `rule_eval` and connections act by them.
 ghost use Rattle.std.specs.Prelude.{◌≡◌, IfOk};
 
 use crate::Name;

@@ -1,4 +1,4 @@
-//! What a condition asks.
+//! What a condition asks; `rule_words` reads criteria, and `rule_eval` judges by them.
 ghost use Rattle.std.specs.Prelude.{◌≡◌, IfOk};
 
 use crate::{Name, Slot};

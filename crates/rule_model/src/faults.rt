@@ -1,4 +1,4 @@
-//! What can be wrong with a configuration.
+//! What can be wrong with a configuration; `rule_words` and `rule_config` answer it, and `stickd_input` explains it.
 ghost use Rattle.std.specs.Prelude.{◌≡◌};
 ghost use Rattle.rule_model.specs.declared.faults.ReadError.TheVariants.{OutOfMemory, Wrong};
 

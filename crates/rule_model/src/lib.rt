@@ -1,8 +1,10 @@
-//! What a configuration says, apart from how it is written: sections, tables, rules and their conditions
-//! (HAProxy Configuration Manual 2.8, `tcp-request connection` and section 7, ACLs).
+//! What a configuration says: sections, tables, rules, conditions; readers make it, and evaluation, scripts and the proxy go by
+//! it.
 //!
-//! `specs/Reading.antt` says how a reader's answer is compared with what its text gives, and `specs/Served.antt` what is
-//! served of a configuration.
+//! It stands apart from how that is written (HAProxy Configuration Manual 2.8, `tcp-request connection` and section 7, ACLs).
+//!
+//! `specs/Reading.antt` says how a reader's answer is compared with what its text gives, and `specs/Served.antt` what is served
+//! of a configuration.
 #![tactic(auto)]
 
 mod actions;

@@ -1,4 +1,4 @@
-//! Rules and their conditions.
+//! Rules and their conditions; `rule_config` makes them, and `rule_eval` and `rule_warnings` go over them.
 ghost use Rattle.std.specs.Prelude.{◌≡◌, IfOk};
 
 use crate::{Action, Criterion};

@@ -1,4 +1,5 @@
-//! Sections of a configuration, and what is served of it.
+//! Sections of a configuration, and the setup that is served of it; `rule_config` makes sections, and most crates above read
+//! setups.
 
 use crate::Rule;
 use base_sequence::Sequence;

@@ -1,4 +1,4 @@
-//! What is served of a configuration.
+//! What is served of a configuration; `stickd_input` calls `Config::proxy`, and `stickd_script` makes a setup of one table.
 
 ghost use Rattle.std.specs.Prelude.{◌≡◌, ◌≤◌, ◌-◌, ◌^◌, ◌∷◌, [], None, All, IfNone, IfOk, is_some, length, map, min};
 ghost use Rattle.std.specs.List.{count_by, sum_by};

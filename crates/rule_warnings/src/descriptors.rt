@@ -1,4 +1,4 @@
-//! How many descriptors a run wants, and how many it is allowed.
+//! How many descriptors a run wants, and how many it is allowed; `warnings` compares them, and `tcp_proxy` asks the system.
 
 ghost use Rattle.std.specs.Prelude.{◌≡◌};
 ghost use Rattle.rule_warnings.specs.Warnings as spec;

@@ -1,4 +1,4 @@
-//! What the rule that a warning advises comes to. The law is the contract of a function that does nothing.
+//! The law of the rule that a warning advises; it is the contract of an empty function, which no code calls.
 
 ghost use Rattle.rule_warnings.specs.Laws.{AdviceLaw};
 

@@ -1,5 +1,7 @@
-//! What the proxy is to warn of as it starts: too few descriptors, no timeouts, limits that let in what their table has no
-//! place for, and tables whose shards are large.
+//! What the proxy warns of as it starts: descriptors, timeouts, limits that fail open, and tables with large shards; `tcp_proxy`
+//! prints it.
+//!
+//! By `stickd_input`, `stickd check --explain` prints the warnings of tables.
 //!
 //! `specs/Warnings.antt` says which warnings there are, and `specs/Limits.antt` which limits fail open.
 #![tactic(auto)]

@@ -1,4 +1,4 @@
-//! Which rules limit what a slot tracks, and which turn away what it doesn't track.
+//! Which rules limit what a slot tracks, and which turn away what it doesn't track; `room` and `warnings` ask it.
 
 ghost use Rattle.std.specs.Prelude.{◌≡◌};
 ghost use Rattle.std.specs.List.{list_any};

@@ -1,4 +1,4 @@
-//! What connections want of a table at once, and whether it has as much.
+//! What connections want of a table at once, and whether it has as much; `warnings` calls it.
 
 ghost use Rattle.std.specs.Prelude.{◌≡◌, ◌≤◌, false};
 ghost use Rattle.std.specs.List.{count_by};

@@ -1,4 +1,4 @@
-//! What a rule comes to for each connection whose slot tracks nothing.
+//! What a rule comes to for each connection whose slot tracks nothing; `limits` asks it.
 
 ghost use Rattle.std.specs.Prelude.{◌≡◌, false, true};
 ghost use Rattle.std.specs.List.{list_all, list_any};

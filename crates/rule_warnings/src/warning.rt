@@ -1,4 +1,4 @@
-//! A warning, and how it is said.
+//! A warning, and how it is said; `warnings` makes it, and `tcp_proxy` and `stickd_input` print it.
 
 use rule_model::{Name, Slot};
 use std::fmt::{self, Display, Formatter, Write};

@@ -1,4 +1,4 @@
-//! The warnings of a start, in their order.
+//! The warnings of a start, in their order; `tcp_proxy` calls it for a run, and `stickd_input` for a check.
 
 ghost use Rattle.std.specs.Prelude.{◌≡◌, ◌≤◌, ◌++◌, ◌∷◌, IfOk};
 ghost use Rattle.std.specs.List.{filter_map};

@@ -8,7 +8,7 @@ use Rattle.rule_model.specs.declared.faults.Fault.TheVariants.{BadNumber, Unknow
 use Rattle.stored_data.specs.Data.{is_rate, is_array}
 use Rattle.stored_data.specs.Stored.{IsPeriod, IsCount}
 use Rattle.stored_data.specs.declared.datum.Datum.{Datum}
-use Rattle.stored_data.specs.declared.datum.Datum.TheVariants.{Gpt0, Gpc0, Gpc0Rate, ConnCnt, ConnRate, ConnCur, SessCnt, SessRate, BytesInCnt, BytesInRate, BytesOutCnt, BytesOutRate, Gpc1, Gpc1Rate, Gpt, Gpc}
+use Rattle.stored_data.specs.declared.datum.Datum.TheVariants.{Gpt0}
 use Rattle.stored_data.specs.declared.stored_set.Column.{Column}
 use Rattle.base_lines.specs.Parentheses.{inside}
 use Rattle.rule_words.specs.Numbers.{bounded_number, within, time_of, rounded_up, times, digits_of, suffix_of, time_unit}
@@ -37,21 +37,7 @@ time_of-bounds text time e =
 
 rate_is_no_array : (datum : Datum) → (is_rate datum && is_array datum) ≡ false
 rate_is_no_array Gpt0 = refl
-rate_is_no_array Gpc0 = refl
-rate_is_no_array Gpc0Rate = refl
-rate_is_no_array ConnCnt = refl
-rate_is_no_array ConnRate = refl
-rate_is_no_array ConnCur = refl
-rate_is_no_array SessCnt = refl
-rate_is_no_array SessRate = refl
-rate_is_no_array BytesInCnt = refl
-rate_is_no_array BytesInRate = refl
-rate_is_no_array BytesOutCnt = refl
-rate_is_no_array BytesOutRate = refl
-rate_is_no_array Gpc1 = refl
-rate_is_no_array Gpc1Rate = refl
-rate_is_no_array Gpt = refl
-rate_is_no_array Gpc = refl
+rate_is_no_array _ = refl
 
 -- a column that is read is of its datum, and has a period and a count that it may have
 pub record IsReadOf (datum : Datum) (column : Column) : Type 0 where

@@ -4,12 +4,16 @@ use Rattle.std.specs.Option.{option_or}
 use Rattle.std.specs.Str.{bytes_eq}
 use Rattle.base_lines.specs.Parentheses.{before_parenthesis, from_parenthesis, has_closing, inside}
 use Rattle.base_lines.specs.Words.{is_some_text}
+use Rattle.stored_data.specs.Data.{counts_bytes}
+use Rattle.stored_data.specs.Names.{datum_read_by}
 use Rattle.stored_data.specs.declared.act.Act.TheVariants.{IncGpc0, IncGpc1, ClrGpc0, ClrGpc1, IncGpc}
-use Rattle.stored_data.specs.declared.datum.Datum.TheVariants.{Gpt0, Gpc0, Gpc0Rate, ConnCnt, ConnRate, ConnCur, SessCnt, SessRate, BytesInCnt, BytesInRate, BytesOutCnt, BytesOutRate, Gpc1, Gpc1Rate, Gpt, Gpc}
+use Rattle.stored_data.specs.declared.datum.Datum.{Datum}
+use Rattle.stored_data.specs.declared.datum.Datum.TheVariants.{Gpt, Gpc}
 use Rattle.rule_model.specs.declared.actions.Slot.{Slot}
 use Rattle.rule_model.specs.declared.actions.Slot.TheVariants.{Sc0, Sc1, Sc2}
 use Rattle.rule_model.specs.declared.criteria.Fetch.{Fetch}
-use Rattle.rule_model.specs.declared.criteria.Fetch.TheVariants.{Datum, Kilobytes, Element, Trackers}
+use Rattle.rule_model.specs.declared.criteria.Fetch.TheVariants.{Element, Trackers}
+use Rattle.rule_model.specs.declared.criteria.Fetch.TheVariants as fetches
 use Rattle.rule_model.specs.declared.criteria.Measure.TheVariants.{SourcePort, DestinationPort, Tracked, Counted}
 use Rattle.rule_model.specs.declared.criteria.Measure.TheVariants as measures
 use Rattle.rule_words.specs.ElementNames.{element_of}
@@ -32,26 +36,12 @@ before end text = if bytes_eq (drop (length text - length end) text) end then So
 
 -- ---- what is read of an entry
 
-abbrev pub fetches : List (List ℕ × Fetch)
-fetches =
-    (codes "conn_cnt", Datum ConnCnt)
-    ∷ (codes "conn_cur", Datum ConnCur)
-    ∷ (codes "conn_rate", Datum ConnRate)
-    ∷ (codes "sess_cnt", Datum SessCnt)
-    ∷ (codes "sess_rate", Datum SessRate)
-    ∷ (codes "bytes_in_rate", Datum BytesInRate)
-    ∷ (codes "bytes_out_rate", Datum BytesOutRate)
-    ∷ (codes "gpc0_rate", Datum Gpc0Rate)
-    ∷ (codes "gpc1_rate", Datum Gpc1Rate)
-    ∷ (codes "get_gpc0", Datum Gpc0)
-    ∷ (codes "get_gpc1", Datum Gpc1)
-    ∷ (codes "get_gpt0", Datum Gpt0)
-    ∷ (codes "kbytes_in", Kilobytes BytesInCnt)
-    ∷ (codes "kbytes_out", Kilobytes BytesOutCnt)
-    ∷ []
+-- what is read of a datum: of bytes their kilobytes
+abbrev pub fetch_by : Datum → Fetch
+fetch_by datum = if counts_bytes datum then fetches.Kilobytes datum else fetches.Datum datum
 
 unfoldable pub fetch_of : List ℕ → Option Fetch
-fetch_of name = named name fetches
+fetch_of name = option_map fetch_by (datum_read_by name)
 
 -- ---- of a slot's entry
 

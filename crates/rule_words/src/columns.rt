@@ -1,4 +1,4 @@
-//! What a table stores.
+//! What a table stores, read from the list behind `store`; `table` calls it.
 
 ghost use Rattle.std.specs.Prelude.{◌≡◌};
 ghost use Rattle.base_lines.specs.Parts.{parts, is_byte};

@@ -1,4 +1,4 @@
-//! A condition: conjunctions of terms.
+//! A condition, read up to the line's end: conjunctions of terms; `rule_config` calls it for each rule.
 
 ghost use Rattle.std.specs.Prelude.{◌≡◌, ◌⊎◌, ◌<◌, [], ◌∷◌, drop, length, IsTrue, IfOk, IfErr, MatchResult, MatchOption, Some, None, option_map, if◌then◌else◌};
 ghost use Rattle.std.specs.List.{filter};

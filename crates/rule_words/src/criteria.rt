@@ -1,4 +1,4 @@
-//! A criterion: what its first word asks, and its values.
+//! A criterion: what its first word asks, and its values; `rule_config` reads ACLs by it, and `conditions` terms in braces.
 
 ghost use Rattle.std.specs.Prelude.{◌≡◌, ℕ, List, [], ◌∷◌, ok_or, option_map, option_to_list};
 ghost use Rattle.base_lines.specs.Words.{words_left};

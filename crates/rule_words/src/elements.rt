@@ -1,4 +1,4 @@
-//! Elements of arrays, as rules name them: `i,n`.
+//! Elements of arrays, as rules name them: `i,n`; `rule_config` reads actions by it, and `term_names` fetches.
 
 ghost use Rattle.std.specs.Prelude.{◌≡◌, option_and_then};
 ghost use Rattle.base_lines.specs.Number.{number_of};

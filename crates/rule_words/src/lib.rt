@@ -1,12 +1,11 @@
-//! What the lines of a configuration are made of: words, names, sizes, times, and the words of a line `stick-table`
-//! (HAProxy Configuration Manual 2.8, sections 2.2, 2.5 and 4.2).
+//! The words of a configuration's lines: names, sizes, times, `stick-table`, conditions and criteria; `rule_config` reads by it.
 //!
-//! The conditions of rules and the criteria of ACLs (HAProxy Configuration Manual 2.8, section 7), read from the words
-//! of a line.
+//! Others take parts: `stickd_input` lines, `adopt` and `stickd` times. The manual is HAProxy's Configuration Manual 2.8,
+//! sections 2.2, 2.5, 4.2 and 7.
 //!
-//! Contracts cite the definitions in `specs/Conditions.antt`: `criterion_of`, `condition_of` and `tables_of`, which
-//! say of whole lists of words what they mean. `Names` says what the first word of a criterion asks, and `Values`
-//! which numbers and networks follow; `ElementNames` says which element of an array a rule names.
+//! Contracts cite the definitions in `specs/Conditions.antt`: `criterion_of`, `condition_of` and `tables_of`, which say of whole
+//! lists of words what they mean. `Names` says what the first word of a criterion asks, and `Values` which numbers and networks
+//! follow; `ElementNames` says which element of an array a rule names.
 #![tactic(auto)]
 
 ghost use Rattle.rule_model.specs.Reading.{Gives, demand as demanded};

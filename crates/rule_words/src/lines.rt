@@ -1,4 +1,4 @@
-//! The lines of a configuration, and their words.
+//! A cursor over the lines of a configuration, and their words; `rule_config` and `stickd_input` read lines by it.
 
 ghost use Rattle.std.specs.Prelude.{◌≡◌, ◌≤◌, ◌+◌, length, ◌∷◌, [], MatchOption};
 ghost use Rattle.std.specs.List.{list_any};

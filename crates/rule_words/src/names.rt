@@ -1,4 +1,4 @@
-//! Names of sections, servers and ACLs.
+//! Whether a word is a name, as of a section, a server or an ACL; `rule_config` asks it.
 
 ghost use Rattle.std.specs.Prelude.{◌≡◌};
 ghost use Rattle.std.specs.List.{list_all};

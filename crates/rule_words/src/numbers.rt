@@ -1,4 +1,4 @@
-//! Numbers, sizes and times.
+//! Numbers, sizes and times; `table` and `rule_config` read by it, and `adopt` and `stickd` read times.
 
 ghost use Rattle.std.specs.Prelude.{◌≡◌, ◌≤◌, length};
 ghost use Rattle.std.specs.Char.{is_ascii_digit};

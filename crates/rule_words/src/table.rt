@@ -1,4 +1,4 @@
-//! A line `stick-table`.
+//! The words of a line `stick-table`; `rule_config` calls it.
 
 ghost use Rattle.std.specs.Prelude.{◌≡◌, ◌∷◌, option_map};
 ghost use Rattle.base_lines.specs.Words.{words_left};

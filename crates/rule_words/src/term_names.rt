@@ -1,4 +1,4 @@
-//! What the first word of a criterion asks.
+//! What the first word of a criterion asks; `criteria` and `conditions` call it.
 
 ghost use Rattle.std.specs.Prelude.{◌≡◌, map, ok_or, option_map};
 ghost use Rattle.rule_model.specs.Reading.{Gives};
@@ -11,7 +11,7 @@ use base_lines::{before_parenthesis, has_closing, inside};
 use base_sequence::Sequence;
 use rule_model::{Fault, Fetch, Measure, ReadError, Slot};
 use std::alloc::Global;
-use stored_data::{Act, Datum, Field};
+use stored_data::{Act, Datum, Field, read_fetch};
 
 /// What a criterion asks: all of it but the values.
 #[derive(Drop)]
@@ -26,24 +26,6 @@ pub(crate) enum Subject {
     Integer(Measure),
 }
 
-/// What can be read of an entry, by its name.
-const FETCHES: [(&str, Fetch); 14] = [
-    ("conn_cnt", Fetch::Datum(Datum::ConnCnt)),
-    ("conn_cur", Fetch::Datum(Datum::ConnCur)),
-    ("conn_rate", Fetch::Datum(Datum::ConnRate)),
-    ("sess_cnt", Fetch::Datum(Datum::SessCnt)),
-    ("sess_rate", Fetch::Datum(Datum::SessRate)),
-    ("bytes_in_rate", Fetch::Datum(Datum::BytesInRate)),
-    ("bytes_out_rate", Fetch::Datum(Datum::BytesOutRate)),
-    ("gpc0_rate", Fetch::Datum(Datum::Gpc0Rate)),
-    ("gpc1_rate", Fetch::Datum(Datum::Gpc1Rate)),
-    ("get_gpc0", Fetch::Datum(Datum::Gpc0)),
-    ("get_gpc1", Fetch::Datum(Datum::Gpc1)),
-    ("get_gpt0", Fetch::Datum(Datum::Gpt0)),
-    ("kbytes_in", Fetch::Kilobytes(Datum::BytesInCnt)),
-    ("kbytes_out", Fetch::Kilobytes(Datum::BytesOutCnt)),
-];
-
 /// What stands beside a name in a table.
 pub(crate) fn value_of<T: Copy>(name: &[u8], rows: &[(&str, T)]) -> Option<T>
     ensures { result ≡ named name.now (map (λ row. (row.0.now, row.1)) rows.now) }
@@ -56,12 +38,26 @@ pub(crate) fn value_of<T: Copy>(name: &[u8], rows: &[(&str, T)]) -> Option<T>
     None
 }
 
+/// What is read of a datum: of bytes their kilobytes.
+fn fetch_by(datum: Datum) -> Fetch
+    ensures { result ≡ spec.fetch_by datum }
+{
+    if datum.counts_bytes() {
+        Fetch::Kilobytes(datum)
+    } else {
+        Fetch::Datum(datum)
+    }
+}
+
 /// What is read of an entry by this name.
 #[tactic(auto, unfolding(crate::specs::TermNames::fetch_of))]
-fn read_fetch(name: &[u8]) -> Option<Fetch>
+fn fetch_named(name: &[u8]) -> Option<Fetch>
     ensures { result ≡ fetch_of name.now }
 {
-    value_of(name, &FETCHES)
+    let Some(datum) = read_fetch(name) else {
+        return None;
+    };
+    Some(fetch_by(datum))
 }
 
 /// The rest of a text that begins so.
@@ -123,7 +119,7 @@ fn slot_subject(slot: Slot, name: &[u8]) -> Option<Subject>
     if let Some(act) = value_of(name, &ACTS) {
         return Some(Subject::Integer(Measure::Counted(slot, act)));
     }
-    let Some(fetch) = read_fetch(name) else {
+    let Some(fetch) = fetch_named(name) else {
         return None;
     };
     Some(Subject::Integer(Measure::Tracked(slot, fetch)))
@@ -225,7 +221,7 @@ fn read_source(alloc: Global, own: &[u8], text: &[u8]) -> Result<Subject, ReadEr
     ensures { Gives result (ok_or (spec.source_subject own.now text.now) BadCondition) }
 {
     let (name, rest) = before_parenthesis(text);
-    let Some(fetch) = read_fetch(name) else {
+    let Some(fetch) = fetch_named(name) else {
         return Err(ReadError::Wrong(Fault::BadCondition));
     };
     let Some(table) = table_of(own, rest) else {

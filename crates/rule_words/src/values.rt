@@ -1,4 +1,4 @@
-//! The values of a criterion: networks, numbers and ranges of numbers, and the operators between them.
+//! The values of a criterion: networks, numbers, ranges and the operators between them; `criteria` calls it for each word.
 
 ghost use Rattle.std.specs.Prelude.{◌≡◌, option_map};
 ghost use Rattle.rule_words.specs.Values as spec;

@@ -1,4 +1,4 @@
-//! One call of a book, with its receipt where receipts are kept.
+//! One call of a shard's book for a seat, with its receipt where receipts are kept; `serve` makes it under the shard's lock.
 
 ghost use Rattle.std.specs.Prelude.{◌≡◌, ◌++◌, ◌∷◌, [], true, false, is_some, IfOk, IfErr, OnOk, OnErr, IsOk};
 ghost use Rattle.stick_model.specs.State.{key_of};

@@ -1,4 +1,4 @@
-//! A table with its calls since a base.
+//! A table with its calls since a base; `Books`, `shard_locks` and `shard_settling` keep one for each shard.
 
 ghost use Rattle.std.specs.Prelude.{◌≡◌, ◌≤◌, ◌^◌, true, is_some, IfOk, IfErr, OnOk, OnErr, IsOk};
 ghost use Rattle.stick_model.specs.State.{key_of};

@@ -1,4 +1,4 @@
-//! The books of a table's shards, for callers on one thread.
+//! The books of a table's shards, for callers on one thread; scripts and worlds keep their tables so.
 
 ghost use Rattle.std.specs.Prelude.{◌≡◌, ◌≤◌, ◌<◌, ◌^◌, ◌-◌, ℕ, min, map, sum_by, Some, length, slice_get, IfOk, IfErr, OnOk, OnErr, IsOk};
 ghost use Rattle.stick_model.specs.Limits.{IsTableSpec, IsTableEvent};

@@ -1,4 +1,4 @@
-//! The replies of shards, added up.
+//! The replies of shards, added up; `table_cli` adds them one by one, and `shard_locks` joins those of a listing.
 
 ghost use Rattle.std.specs.Prelude.{◌≡◌, ◌≤◌, ◌^◌, ◌++◌, true, All, IfOk, IfSome, OnErr, length};
 ghost use Rattle.stick_model.specs.Step.{shows_rows};

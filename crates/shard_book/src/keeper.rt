@@ -1,4 +1,5 @@
-//! A table in shards, wherever they are kept.
+//! The trait `Keeper`, a table in shards, wherever they are kept; commands ask it, and `Books` and `shard_locks::Seated`
+//! implement it.
 
 use stick_table::{Event, Refusal, Reply, Spec};
 

@@ -1,4 +1,4 @@
-//! Laws of books, and of tables in shards. Each is the contract of a function that does nothing.
+//! Laws of books, and of tables in shards; each is the contract of an empty function, which no code calls.
 
 ghost use Rattle.shard_book.specs.BooksState.{SizesLaw};
 ghost use Rattle.shard_book.specs.Laws.{OneRecordLaw, ReplayLaw, ToldLaw};

@@ -1,8 +1,7 @@
-//! A table with the record of its calls, and a table in shards.
+//! Books, a table in shards, and what each caller of one knows; commands, connections, locks, settling and scripts stand on it.
 //!
-//! What the replies of a table's shards to one event come to: numbers added up, rows in the order of their keys.
-//!
-//! What a caller knows of a table in shards: its seat and its references, and its calls of the shards' books.
+//! A book is a table with the record of its calls. What the replies of a table's shards to one event come to is said here too:
+//! numbers added up, rows in the order of their keys. A caller has a seat and its references.
 #![tactic(auto)]
 
 mod asking;

@@ -1,4 +1,4 @@
-//! A table with its name.
+//! A table in shards with the name that commands give it; `admit_drive` and `tcp_proxy` make it, and `table_cli` asks it.
 
 use base_sequence::Sequence;
 

@@ -1,4 +1,4 @@
-//! Rows in the order of their keys.
+//! Rows in the order of their keys; `joining` and `table_cli` call it for the replies of all shards.
 
 ghost use Rattle.std.specs.Prelude.{◌≡◌, true, IfOk, OnErr};
 ghost use Rattle.stick_model.specs.Step.{shows_rows};

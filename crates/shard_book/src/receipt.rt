@@ -1,4 +1,4 @@
-//! A call as its caller keeps it.
+//! A call as its caller keeps it; `asking` makes it for the seat, and `shard_settling` compares it.
 
 use stick_table::{Event, Reply};
 

@@ -1,4 +1,4 @@
-//! A call as it is recorded, and the places that the record has.
+//! A call as it is recorded, and the places that the record has; `Book::call` records by it, and settling reads it.
 
 ghost use Rattle.std.specs.Prelude.{◌≡◌, ◌+◌, ◌≤◌, ◌<◌, ◌^◌, true, IfOk, IfErr, OnOk, OnErr, vec_len, vec_capacity};
 ghost use Rattle.stick_model.specs.Step.{Step};

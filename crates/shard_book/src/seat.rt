@@ -1,4 +1,4 @@
-//! What one caller has asked, and what it has seen.
+//! What one caller has asked of each shard, and seen there; `shard_locks` calls `serve` for it, and settling reads it.
 
 ghost use Rattle.std.specs.Prelude.{◌≡◌, ◌≤◌, ◌<◌, ◌+◌, ◌^◌, true, false, length, is_some, slice_index, slice_set, IfOk, IfErr, OnOk, OnErr, IsOk};
 ghost use Rattle.stick_model.specs.State.{key_of};

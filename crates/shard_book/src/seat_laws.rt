@@ -1,4 +1,4 @@
-//! Laws of seats. Each is the contract of a function that does nothing.
+//! Laws of seats; each is the contract of an empty function, which no code calls.
 
 ghost use Rattle.shard_book.specs.SeatLaws.{CallLaw, RefusalLaw};
 

@@ -1,4 +1,4 @@
-//! A reference to an entry of a shard.
+//! A reference to an entry of a shard, which can't be dropped; `shard_locks` makes it, and connections hold it.
 
 ghost use Rattle.std.specs.Prelude.{◌≡◌};
 

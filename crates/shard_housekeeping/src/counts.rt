@@ -1,4 +1,4 @@
-//! What is counted of rounds.
+//! What is counted of rounds; `housekeep` counts by it.
 
 ghost use Rattle.std.specs.Prelude.{◌≡◌};
 ghost use Rattle.shard_housekeeping.specs.Keeping.{noted, one_refused};

@@ -1,4 +1,4 @@
-//! What housekeeping has done.
+//! What housekeeping has done, and its seats; `housekeep` answers it, and `tcp_proxy` takes it for settling.
 
 use shard_book::Seat;
 

@@ -1,4 +1,4 @@
-//! Keeping house in tables that threads share: entries whose time has come are expired, and long records begin again.
+//! Housekeeping in tables that threads share: entries expire at their time, and long records begin again; `tcp_proxy` runs it.
 #![tactic(auto)]
 
 mod counts;

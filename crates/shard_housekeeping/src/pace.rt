@@ -1,4 +1,4 @@
-//! When a round of housekeeping comes.
+//! The trait `Pace`, when a round comes; `tcp_proxy` implements it, and `housekeep` asks it before each round.
 
 /// What says when the next round of housekeeping comes, and when there is none.
 pub trait Pace {

@@ -1,4 +1,4 @@
-//! Rounds of housekeeping.
+//! Rounds of housekeeping over each shard of each table; `tcp_proxy` calls `housekeep` on a thread of its own.
 
 ghost use Rattle.std.specs.Prelude.{◌≡◌, ◌<◌, ◌^◌, length};
 ghost use Rattle.shard_housekeeping.specs.Keeping.{Expires, KeepsRound, KeepsRounds, KeepsShard, KeepsTable, Rolls};

@@ -1,4 +1,5 @@
-//! A table in shards, shared by threads: each shard's book under its lock.
+//! A table in shards, shared by threads, each shard's book under a lock; the proxy's workers, commands, housekeeping and settling
+//! call it.
 #![tactic(auto)]
 
 mod listing;

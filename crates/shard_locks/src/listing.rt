@@ -1,4 +1,4 @@
-//! Listing a table in shards.
+//! The listing of a table in shards, shard by shard; tests and the stress call it, while the proxy's commands list by `Seated`.
 
 ghost use Rattle.std.specs.Prelude.{◌≡◌, ◌<◌, ◌^◌, IfOk, IfErr, OnErr};
 ghost use Rattle.stick_model.specs.declared.events.Event.TheVariants.{List as ListRows};

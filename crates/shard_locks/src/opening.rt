@@ -1,4 +1,4 @@
-//! What a table in shards begins with.
+//! The books and seats with which a table in shards begins; `Shards::new` calls it.
 
 ghost use Rattle.std.specs.Prelude.{◌≡◌, ◌≤◌, length, map, IfOk};
 ghost use Rattle.std.specs.List.{range_with_len};

@@ -1,4 +1,4 @@
-//! What a roll does to a shard's book.
+//! What a roll does to a shard's book; `Shards::roll` calls it under the shard's lock.
 
 ghost use Rattle.std.specs.Prelude.{◌≡◌, ◌≤◌, ◌<◌, Ok, true, false, length, OnErr};
 ghost use Rattle.shard_book.specs.BookState.{IsBook, rolled};

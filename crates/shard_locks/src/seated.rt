@@ -1,4 +1,4 @@
-//! A table in shards, asked by one seat.
+//! A table in shards, asked by one seat; `tcp_proxy` makes it for the command socket, and `table_cli` asks it as a `Keeper`.
 
 ghost use Rattle.std.specs.Prelude.{◌≡◌};
 

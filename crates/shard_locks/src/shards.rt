@@ -1,4 +1,4 @@
-//! A table in shards, shared by threads.
+//! A table in shards, shared by threads, with one lock a shard; connections, `Seated`, housekeeping and settling call it.
 
 ghost use Rattle.std.specs.Prelude.{◌≡◌, ◌≤◌, ◌<◌, ◌^◌, Ok, Err, true, false, length, IfOk, IfErr, OnOk, OnErr};
 ghost use Rattle.stick_key.specs.Shard.{shard};

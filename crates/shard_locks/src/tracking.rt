@@ -1,4 +1,5 @@
-//! What an event of a reference is answered.
+//! What a track, a look and a count are answered, read from a shard's reply; `Shards` makes it, and `admit_shared` reads
+//! `Tracking`.
 
 ghost use Rattle.std.specs.Prelude.{◌≡◌};
 ghost use Rattle.stick_model.specs.declared.replies.Reply.TheVariants.{Row as Shown, Value};

@@ -1,4 +1,4 @@
-//! The books of a table in shards, taken out of their locks.
+//! The books of a table in shards, taken out of their locks; `Shards` makes it for settling, which gives it back on a fault.
 
 ghost use Rattle.std.specs.Prelude.{◌≡◌, ◌+◌, ◌≤◌, length, vec_len, vec_capacity};
 

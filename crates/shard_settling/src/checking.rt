@@ -1,4 +1,4 @@
-//! Whether books are settled.
+//! Whether books are settled: counts, tickets and, with receipts, records; `settle` calls it.
 
 ghost use Rattle.std.specs.Prelude.{◌≡◌, ◌≤◌, ◌<◌, ℕ, Some, length, slice_get, IfOk, OnOk, IfErr};
 ghost use Rattle.stick_model.specs.declared.specification.Spec.{Spec};

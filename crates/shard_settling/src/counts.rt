@@ -1,4 +1,4 @@
-//! The calls and the references of a shard, against those that are shown.
+//! The calls and the references of a shard, against those that are shown; `check` calls it.
 
 ghost use Rattle.std.specs.Prelude.{◌≡◌, ◌≢◌, ◌≤◌, ◌<◌, ◌↔◌, IsTrue, [], None, IfOk, IfSome, IsPermutation};
 ghost use Rattle.shard_settling.specs.Settled.{AreOfShards, CallNoOther, calls_made, shown};

@@ -1,4 +1,4 @@
-//! Why a table in shards isn't settled.
+//! Why a table in shards isn't settled; `check` answers it, and `tcp_proxy` prints it.
 
 /// Why a table in shards isn't settled, with the number of the shard.
 #[derive(Clone, Copy, Debug, PartialEq, Eq)]

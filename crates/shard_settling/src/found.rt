@@ -1,4 +1,4 @@
-//! What settling tells of books.
+//! The events that books have counted, and the tickets that are out there; `check` compares them, and `settle` tells them.
 
 ghost use Rattle.std.specs.Prelude.{◌≡◌, IfOk, map};
 ghost use Rattle.shard_settling.specs.Settled.{counts_in, tickets_in, tickets_of};

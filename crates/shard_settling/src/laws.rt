@@ -1,4 +1,4 @@
-//! Laws of what settling tells. Each is the contract of a function that does nothing.
+//! The law of a limit in settled tables; it is the contract of an empty function, which no code calls.
 
 ghost use Rattle.shard_settling.specs.Laws.{SettledLimitLaw};
 

@@ -1,4 +1,4 @@
-//! Settling a table in shards: its books against what its callers keep.
+//! The settling of a table in shards: its books against what its callers keep; `tcp_proxy` calls it once all threads have ended.
 #![tactic(auto)]
 
 mod checking;

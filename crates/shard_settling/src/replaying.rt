@@ -1,4 +1,4 @@
-//! A book's record, made again.
+//! A book's record, made again from an empty table; `check` calls it where receipts are kept.
 
 ghost use Rattle.std.specs.Prelude.{◌≡◌, IfOk, IfSome};
 ghost use Rattle.stick_model.specs.State.{empty_table};

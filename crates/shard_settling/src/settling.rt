@@ -1,4 +1,4 @@
-//! Settling takes the books out of their locks.
+//! The settling itself: books come out of their locks and are compared; `tcp_proxy` calls `settle` for each table.
 
 ghost use Rattle.std.specs.Prelude.{◌≡◌, length, IfOk, IfErr};
 ghost use Rattle.shard_locks.specs.ShardsState.{parts_of};

@@ -1,4 +1,4 @@
-//! What seats were told, against what they keep.
+//! What seats were told by a record, against the receipts that they keep; `check` calls it.
 
 ghost use Rattle.std.specs.Prelude.{◌≡◌, ◌≤◌, ◌↔◌, IsTrue, Some, length, drop, slice_get};
 ghost use Rattle.shard_book.specs.SeatState.{receipts_at};

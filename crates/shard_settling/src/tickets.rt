@@ -1,4 +1,4 @@
-//! The tickets that are out, against those that are shown.
+//! The comparison of the tickets that are out with those that are shown, in any order; `counts` calls it.
 
 ghost use Rattle.std.specs.Prelude.{◌≡◌, ◌↔◌, IsTrue, IsPermutation};
 ghost use Rattle.shard_settling.specs.Order.{Rise};

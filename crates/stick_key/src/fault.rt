@@ -1,4 +1,4 @@
-//! Why a text is no key.
+//! Why a text is no key; `text`, `dotted` and `sample` answer it, and `table_texts` makes messages of it.
 ghost use Rattle.std.specs.Prelude.{◌≡◌};
 ghost use Rattle.stick_key.specs.declared.fault.KeyFault.TheVariants.{Memory};
 

@@ -1,4 +1,4 @@
-//! Bytes written in hexadecimal digits, two a byte.
+//! Bytes written in hexadecimal digits, two a byte; `text` reads and prints binary keys by it.
 ghost use Rattle.std.specs.Prelude.{◌≡◌, ◌<◌, ◌≤◌, ◌++◌, IfOk, IsOk, OnOk, nat_lt, take, true};
 ghost use Rattle.std.specs.Char.{digit_value};
 ghost use Rattle.std.specs.List.{list_all};

@@ -1,4 +1,4 @@
-//! IPv6 addresses, read and printed.
+//! IPv6 addresses, read and printed; `text` and `sample` use it, and `rule_addresses` and `rule_eval` from outside.
 
 mod groups;
 mod mapped;

@@ -1,4 +1,4 @@
-//! Keys made of samples.
+//! Keys made of samples, such as a client's address; `rule_eval` converts what a connection gives a table.
 ghost use Rattle.std.specs.Prelude.{◌≡◌, ◌==◌, ◌≤◌, IfOk, IfErr, IsOk, length, take, Some, None, false, if◌then◌else◌};
 ghost use Rattle.stick_key.specs.Convert.{converted, takes_memory};
 ghost use Rattle.stick_key.specs.Hexadecimal.{fitted};

@@ -1,4 +1,4 @@
-//! Whether two lists of cells, or of columns, are the same.
+//! Whether two lists of cells, or of columns, are the same; the comparisons of events, rows and specifications call it.
 ghost use Rattle.std.specs.Prelude.{◌≡◌, ◌↔◌, IsTrue};
 
 use crate::rows::Cell;

@@ -1,4 +1,4 @@
-//! Whether two events are the same.
+//! Whether two events are the same; `shard_settling` compares receipts with recorded calls by it.
 ghost use Rattle.std.specs.Prelude.{◌≡◌, ◌↔◌, IsTrue};
 
 use crate::equal_cells::same_cells;

@@ -1,4 +1,4 @@
-//! Whether two filters are the same.
+//! Whether two filters are the same; `same_event` calls it.
 ghost use Rattle.std.specs.Prelude.{◌≡◌, ◌↔◌, IsTrue};
 
 use crate::filters::Filter;

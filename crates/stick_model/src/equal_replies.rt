@@ -1,4 +1,4 @@
-//! Whether two replies are the same.
+//! Whether two replies are the same; `shard_settling` compares receipts with replayed replies by it.
 ghost use Rattle.std.specs.Prelude.{◌≡◌, ◌↔◌, IsTrue};
 
 use crate::equal_rows::{same_row, same_rows};

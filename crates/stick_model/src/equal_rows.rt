@@ -1,4 +1,4 @@
-//! Whether two rows, or two lists of rows, are the same.
+//! Whether two rows, or two lists of rows, are the same; `same_reply` calls it.
 ghost use Rattle.std.specs.Prelude.{◌≡◌, ◌↔◌, IsTrue};
 
 use crate::equal_cells::same_cells;

@@ -1,4 +1,4 @@
-//! Whether two tables are made with the same.
+//! Whether two specifications of tables are the same; `shard_settling` compares a shard's with the one that it was opened by.
 ghost use Rattle.std.specs.Prelude.{◌≡◌, ◌↔◌, IsTrue};
 
 use crate::equal_cells::same_columns;

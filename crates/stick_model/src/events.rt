@@ -1,4 +1,4 @@
-//! What a table is asked.
+//! What a table is asked; commands and connections make events, and tables and books take them.
 ghost use Rattle.std.specs.Prelude.{◌≡◌, IfOk};
 ghost use Rattle.stick_model.specs.Refusals.{life_taken as life_taken_by};
 

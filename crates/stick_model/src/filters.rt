@@ -1,4 +1,4 @@
-//! Which entries are meant.
+//! Which entries are meant; `table_texts` makes a filter of a command, and tables list and clear by it.
 ghost use Rattle.std.specs.Prelude.{◌≡◌, IfOk};
 
 use base_sequence::NoMemory;

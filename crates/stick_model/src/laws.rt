@@ -1,4 +1,4 @@
-//! Laws of stick tables: what every run of every table keeps. Each is the contract of a function that does nothing.
+//! Laws of stick tables, of every run of every table; each is the contract of an empty function, which no code calls.
 
 ghost use Rattle.stick_model.specs.Laws.{CountLaw, EmptyLegalLaw, ExpiryLaw, JoinLaw, LastingLaw, LimitLaw, NeverLostLaw, OneRunLaw, PurgeLaw, RedoLaw, ReferenceLaw, RoomLaw, RunLegalLaw, StepLegalLaw, StoredCountLaw, StoredJoinLaw, TallyLaw, TicketsLaw};
 

@@ -1,7 +1,6 @@
-//! What a stick table is and does, apart from any code: its types, and in `specs/` the definitions of its state,
-//! of the step that each event makes, of runs, and of the laws that follow.
+//! What a stick table is and does, apart from any code; tables, shards, rules and commands share its types.
 //!
-//! Whether two events, two replies or two specifications of tables are the same.
+//! `specs/` has the definitions of its state, of the step that each event makes, of runs, and of the laws that follow.
 #![tactic(auto)]
 
 mod equal_cells;

@@ -1,4 +1,4 @@
-//! What a table answers.
+//! What a table answers; tables make replies, and books, commands and connections read them.
 ghost use Rattle.std.specs.Prelude.{◌≡◌, IfOk, IsOk, false};
 ghost use Rattle.stick_model.specs.Step.{shows_rows, slot_of};
 ghost use Rattle.stick_model.specs.declared.replies.Refusal.TheVariants.{Memory};

@@ -1,4 +1,4 @@
-//! What a table keeps of a key, and what it shows of it.
+//! What a table keeps of a key, and what it shows of it; tables make rows, and rules and commands read them.
 ghost use Rattle.std.specs.Prelude.{◌≡◌, IfOk};
 
 use base_sequence::{NoMemory, Sequence};

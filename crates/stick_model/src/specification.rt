@@ -1,4 +1,4 @@
-//! What a table is made with.
+//! What a table is made with; `rule_model` makes it of a configuration, and every table is opened by it.
 ghost use Rattle.std.specs.Prelude.{◌≡◌, IfOk};
 
 use base_sequence::NoMemory;

@@ -1,4 +1,4 @@
-//! Entries that a filter means are removed, but for those that references hold.
+//! The removal of the entries that a filter means and no reference holds; `events` calls it for `ClearWhere`.
 ghost use Rattle.std.specs.Prelude.{◌≡◌, ℕ, ◌+◌, ◌<◌, ◌^◌, false, true, not, List, Option, filter, count_by, length};
 ghost use Rattle.std.specs.Option.{option_map_or};
 ghost use Rattle.stick_pooled.specs.Stock.{Held, IsStock};

@@ -1,4 +1,4 @@
-//! Entries that commands change.
+//! Entries that commands change: data put, and an entry cleared; `events` calls it.
 ghost use Rattle.std.specs.Prelude.{◌≡◌, ◌+◌, ◌<◌, ◌^◌, IfOk, OnErr, IsSome, Some, None, true, false, length};
 ghost use Rattle.std.specs.Bool.{OnTrue, OnFalse};
 ghost use Rattle.stick_pooled.specs.Stock.{Held, held_at, with_entry};

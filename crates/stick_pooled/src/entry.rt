@@ -1,4 +1,4 @@
-//! What is kept of an entry beside its key and its data.
+//! What is kept of an entry beside its key and its data; `entry_store` keeps one per slot.
 
 /// When an entry was refreshed last, and how many references to it are out.
 #[derive(Clone, Copy, Debug, PartialEq, Eq)]

@@ -1,4 +1,4 @@
-//! The entries of a table: a pool, an index, an order and rows as one map from keys to entries, with one queue.
+//! The entries of a table: pool, index, order and rows as one map from keys, with one queue; all parts of `StickTable` use it.
 
 ghost use Rattle.std.specs.Prelude.{◌≡◌, ◌<◌, ◌≤◌, ◌==◌, if◌then◌else◌, ◌≢◌, IsSome, IfOk, slice_get, length};
 ghost use Rattle.std.specs.List.{Contains};

@@ -1,4 +1,4 @@
-//! Events: whether they are refused, and what they are answered.
+//! Events: whether they are refused, and what they are answered; `StickTable::step` and `step_twice` call it.
 ghost use Rattle.std.specs.Prelude.{◌≡◌, IfOk, IsOk, OnErr, MatchOption, is_some, true, false, unwrap_or};
 ghost use Rattle.std.specs.Option.{option_map_or};
 ghost use Rattle.stick_model.specs.Limits.{IsTableEvent};

@@ -1,4 +1,4 @@
-//! The clock goes on: entries that no reference holds go once their date is reached.
+//! The clock goes on, and entries that no reference holds go at their date; every event begins by it.
 ghost use Rattle.std.specs.Prelude.{◌≡◌, ◌+◌, ◌<◌, ◌^◌, nat_lt, IfSome, IfNone, List, true, filter, length};
 ghost use Rattle.std.specs.Option.{option_map_or};
 ghost use Rattle.stick_pooled.specs.Stock.{IsStock};

@@ -1,4 +1,4 @@
-//! Which entries a filter means, and which the clock leaves.
+//! Which entries a filter means, and which the clock leaves; `clearing`, `listing`, `looks` and `tracked` ask it.
 ghost use Rattle.std.specs.Prelude.{◌≡◌, ◌<◌, ◌^◌, ◌&&◌, Some, IfSome, IfNone, IsSome, false};
 ghost use Rattle.std.specs.Option.{option_map_or};
 ghost use Rattle.stick_pooled.specs.Stock.{Held, held_at};

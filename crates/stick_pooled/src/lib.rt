@@ -1,4 +1,4 @@
-//! The pooled stick table: an event of one key costs the same whatever the table's size.
+//! The pooled stick table: an event of one key costs the same whatever the table's size; `tcp_proxy` and `stickd_script` open it.
 #![tactic(auto)]
 
 mod clearing;

@@ -1,4 +1,4 @@
-//! What a table lists.
+//! What a table lists; `events` calls it for `List`.
 ghost use Rattle.std.specs.Prelude.{◌≡◌, ℕ, ◌+◌, ◌<◌, ◌≤◌, ◌^◌, false, IfOk, OnErr, Option, count_by, length};
 ghost use Rattle.std.specs.Map.{values_of};
 ghost use Rattle.std.specs.Option.{option_map_or};

@@ -1,4 +1,4 @@
-//! What is shown of a key, and of the key of a reference.
+//! What is shown of a key, and of the key of a reference; `events` calls it for `Get` and `Look`.
 ghost use Rattle.std.specs.Prelude.{◌≡◌, ◌≤◌, ◌<◌, ◌+◌, ◌^◌, IfOk, OnErr, length};
 ghost use Rattle.stick_model.specs.Step.{begun, get as reply_to_get, look as reply_to_look};
 ghost use Rattle.stick_table.specs.Replies.{shown_reply, looked_reply};

@@ -1,4 +1,4 @@
-//! The tickets of places by their numbers.
+//! The tickets of places in the order of their numbers; `TicketBook::to_vec` calls it.
 ghost use Rattle.std.specs.Prelude.{◌≡◌, IfOk};
 ghost use Rattle.std.specs.Option.{option_map};
 ghost use Rattle.std.specs.Ordering.{nat_cmp};

@@ -1,4 +1,4 @@
-//! Data that are put.
+//! Data that are put: whether they can be, and their values; `entries` calls it.
 ghost use Rattle.std.specs.Prelude.{◌≡◌, IsSome};
 ghost use Rattle.stick_pooled.specs.Stock.{held_at, with_values};
 ghost use Rattle.stick_model.specs.Step.{put_fault as put_fault_of, put_pairs as put_pairs_of};

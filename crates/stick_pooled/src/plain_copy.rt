@@ -1,4 +1,4 @@
-//! A plain table in the same state.
+//! A plain table in the same state; `StickTable::to_plain` calls it for rolls and for settling.
 ghost use Rattle.std.specs.Prelude.{◌≡◌, ℕ, ◌+◌, ◌<◌, ◌^◌, IfOk, IsSome, length, map};
 ghost use Rattle.std.specs.List.{AllByRecursion};
 ghost use Rattle.std.specs.Option.{option_map};

@@ -1,4 +1,4 @@
-//! References to entries.
+//! Acts on a reference's entry, and its release; `events` calls it for `Count` and `Release`.
 ghost use Rattle.std.specs.Prelude.{◌≡◌, ◌≢◌, ◌+◌, ◌-◌, ◌<◌, ◌^◌, Some, None, IsSome, length};
 ghost use Rattle.stick_model.specs.State.{key_of};
 ghost use Rattle.stick_model.specs.Step.{begun, count as reply_to_count, release as reply_to_release};

@@ -1,4 +1,4 @@
-//! Room for one more entry.
+//! Room for one more entry, by a purge of the oldest; `entries` and `tracking` call it before they store one.
 ghost use Rattle.std.specs.Prelude.{◌≡◌, ◌≤◌, length};
 ghost use Rattle.std.specs.Bool.{OnTrue, OnFalse};
 ghost use Rattle.stick_pooled.specs.Stock.{IsStock};

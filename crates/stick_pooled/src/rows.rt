@@ -1,4 +1,4 @@
-//! What is shown of a slot's entry.
+//! The row of a slot's entry; `looks` and `listing` show it, and `tracked` takes the time left from it.
 ghost use Rattle.std.specs.Prelude.{◌≡◌, ◌+◌, ◌-◌, ◌≤◌, Some, IfOk, IsSome, unwrap_or};
 ghost use Rattle.std.specs.Option.{option_map};
 ghost use Rattle.stick_pooled.specs.Stock.{Held, held_at};

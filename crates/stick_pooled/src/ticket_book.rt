@@ -1,4 +1,4 @@
-//! The references that are out: each has a ticket, and names the slot of its entry.
+//! The references that are out: each has a ticket, and names the slot of its entry; `StickTable` keeps one book.
 
 use crate::numbers::by_number;
 use base_sequence::NoMemory;

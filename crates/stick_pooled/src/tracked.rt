@@ -1,4 +1,4 @@
-//! A key that is tracked once more.
+//! A key that is tracked once more, and the row that its reply shows; `events` calls it for `Track`.
 ghost use Rattle.std.specs.Prelude.{◌≡◌, ◌+◌, ◌≤◌, ◌<◌, ◌^◌, IfOk, OnErr, filter, max, true, unwrap_or, length};
 ghost use Rattle.std.specs.Option.{option_map_or};
 ghost use Rattle.stick_model.specs.State.{record_at, refs, row_of, stays, zero_record};

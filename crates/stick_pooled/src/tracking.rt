@@ -1,4 +1,4 @@
-//! References that are made.
+//! References that are made, to an entry that is there or a new one; `tracked` calls it.
 ghost use Rattle.std.specs.Prelude.{◌≡◌, ◌+◌, ◌≤◌, ◌<◌, ◌^◌, IfSome, IfNone, IsSome, Some, None, true, length};
 ghost use Rattle.stick_pooled.specs.Stock.{Held, held_at, with_entry};
 ghost use Rattle.stick_table.specs.References.{entered};

@@ -1,4 +1,4 @@
-//! The data of many keys in one block of words: a row of the same columns for each slot of a table.
+//! The data of many keys in one block of words: a row of the same columns for each slot; `entry_store` keeps it.
 
 ghost use Rattle.std.specs.Prelude.{◌≡◌, ◌+◌, ◌*◌, ◌<◌, ◌≤◌, length, IfOk};
 ghost use Rattle.stored_data.specs.Acts.{acted, answer, with_value, zero_of};

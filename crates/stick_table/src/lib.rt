@@ -1,5 +1,6 @@
-//! Stick tables: what every table does, and the plain one, which goes over all its records at each event.
-//! The types and the definitions are those of `stick_model`.
+//! What every stick table does, and the plain one; books, shards, connections and the pooled table stand on it.
+//!
+//! The plain one goes over all its records at each event. The types and the definitions are those of `stick_model`.
 #![tactic(auto)]
 
 mod plain;

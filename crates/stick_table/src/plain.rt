@@ -1,4 +1,4 @@
-//! The plain table: a list of records and a list of tickets.
+//! The plain table: a list of records and a list of tickets; books begin their records with one, and settling may replay on one.
 
 mod changes;
 mod filters;

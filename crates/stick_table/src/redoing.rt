@@ -1,4 +1,4 @@
-//! Stored calls, made again on a plain table.
+//! Stored calls, made again on a plain table; only tests call it.
 
 ghost use Rattle.std.specs.Prelude.{◌≡◌, All, IfOk, IfErr, List};
 ghost use Rattle.stick_model.specs.State.{State};

@@ -1,4 +1,4 @@
-//! A list of events on any table.
+//! A list of events on any table; only tests call it.
 
 ghost use Rattle.std.specs.Prelude.{All, IfOk, IfErr};
 ghost use Rattle.stick_model.specs.Run.{Run, RunStops};

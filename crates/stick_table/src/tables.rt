@@ -1,4 +1,4 @@
-//! What every stick table does, however it is kept.
+//! The trait `Table`, what every stick table does; books call it, and `PlainTable` and `StickTable` implement it.
 
 ghost use Rattle.std.specs.Prelude.{◌≡◌, IfOk, OnErr, OnOk, IfErr, true};
 ghost use Rattle.stick_model.specs.State.{State, empty_table};

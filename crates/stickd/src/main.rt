@@ -1,4 +1,5 @@
-//! stickd: stick tables whose answers are proved.
+//! The program `stickd`, which operators start: it checks a configuration, replays a script, adopts one of HAProxy, or runs the
+//! proxy.
 #![tactic(auto)]
 
 ghost use Rattle.std.specs.Prelude.{◌≤◌};

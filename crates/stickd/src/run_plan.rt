@@ -1,4 +1,4 @@
-//! What `stickd run` is asked.
+//! What `stickd run` is asked, read from the command line; `main` calls `read_plan` before it runs the proxy.
 
 ghost use Rattle.std.specs.Prelude.{◌≤◌, IfOk};
 

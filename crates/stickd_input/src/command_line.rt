@@ -1,4 +1,4 @@
-//! What the program can be asked, and the texts of its help.
+//! What the program can be asked, and the texts of its help; `stickd` calls `read_command_line`, and reads options by its names.
 
 ghost use Rattle.std.specs.Prelude.{◌≤◌};
 

@@ -1,4 +1,4 @@
-//! What `stickd check --explain` says below a fault, and below each line that is read past.
+//! What `stickd check --explain` says of a fault, and of each line that is read past; `read_file` prints it.
 
 use crate::hints::{Guess, Hint, hint_of};
 use base_lines::{Blanks, Words};

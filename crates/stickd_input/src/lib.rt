@@ -1,4 +1,4 @@
-//! The configuration that the program is given, what is served of it, and what is said of its faults.
+//! The input of the program: its command line, its configuration and what is said of faults; `stickd` calls it.
 #![tactic(auto)]
 
 ghost use Rattle.std.specs.Prelude.{◌≡◌, ◌≤◌, IfOk, IfSome};

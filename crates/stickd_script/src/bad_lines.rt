@@ -1,4 +1,4 @@
-//! The bad lines of a script.
+//! The bad lines of a script, their first numbers and their count; `noting` notes them, and `stickd` prints them.
 
 ghost use Rattle.std.specs.Prelude.{◌≡◌, [], option_map};
 ghost use Rattle.stickd_script.specs.BadLines.{is_bad, noted, with_bad};

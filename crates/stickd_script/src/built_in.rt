@@ -1,4 +1,4 @@
-//! What is served without a configuration.
+//! What is served without a configuration; `stickd_input` calls it.
 
 ghost use Rattle.std.specs.Prelude.{◌≡◌, ◌≤◌, IfOk};
 ghost use Rattle.admit_drive.specs.Tables.{CanOpen};

@@ -1,4 +1,4 @@
-//! The connections that a script has open.
+//! The connections that a script has open, by their IDs; `server` looks them up.
 
 ghost use Rattle.std.specs.Prelude.{◌≡◌, is_some, true, OnOk, OnErr};
 ghost use Rattle.std.specs.BTreeMap.{insert_entry};

@@ -1,5 +1,6 @@
-//! What every script keeps. Each law is the contract of a function that does nothing, but for calling a law that it rests
-//! on.
+//! Laws of every script; each is the contract of a function that no code calls.
+//!
+//! Its body is empty, but for the call of a law on which it rests.
 
 ghost use Rattle.stickd_script.specs.BadLines.{BadLineLaw};
 ghost use Rattle.stickd_script.specs.Laws.{KeysLaw, ReferencesLaw};

@@ -1,4 +1,6 @@
-//! Replaying a timed script: each line is a moment in ms, and what is done at it.
+//! The replay of a timed script, each line a moment in ms and what is done at it; `stickd replay` runs it, by `replay_script`.
+//!
+//! `stickd_input` takes the built-in setup from it.
 #![tactic(auto)]
 
 mod bad_lines;

@@ -1,4 +1,4 @@
-//! Reading a line of a script.
+//! A line of a script, read from its bytes; `server` and `bad_lines` call `read_line`.
 
 ghost use Rattle.std.specs.Prelude.{◌≡◌, ◌<◌, ◌^◌, option_map, IfSome};
 ghost use Rattle.base_lines.specs.Words.{words_left};

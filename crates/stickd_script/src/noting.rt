@@ -1,4 +1,4 @@
-//! Serving the lines of a script, and noting those that are bad.
+//! A script's server that also notes which lines were bad; `replay_script` serves by it.
 
 ghost use Rattle.std.specs.Prelude.{◌≡◌, option_map};
 ghost use Rattle.stickd_script.specs.BadLines.{bad_after};

@@ -1,4 +1,4 @@
-//! Replaying a script.
+//! A script, replayed line by line from empty tables; `stickd` calls `replay_script`.
 
 ghost use Rattle.std.specs.Prelude.{◌≡◌, ◌≢◌, ◌≤◌, ◌⊎◌, ℕ, List, [], length, IfErr, IfOk, OnOk};
 ghost use Rattle.byte_ports.specs.Bytes.{Grows, IsAtEnd, IsOneMore, Takes};

@@ -1,4 +1,4 @@
-//! Rolling the books of a script's tables, so that their records don't grow with the script.
+//! The rolls of a script's books, so that records don't grow with the script; `server` calls it behind its lines.
 
 ghost use Rattle.std.specs.Prelude.{◌≡◌, map, OnErr, OnOk};
 ghost use Rattle.shard_book.specs.BooksState.{BooksState};

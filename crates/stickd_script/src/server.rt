@@ -1,4 +1,4 @@
-//! Serving the lines of a script.
+//! The service of a script's lines on its tables and its open connections; `noting` and `replay` use it.
 
 ghost use Rattle.std.specs.Prelude.{◌≡◌, ◌⊎◌, ◌<◌, ◌≤◌, ◌+◌, ◌^◌, ℕ, List, OnErr, OnOk, false, true, map, option_map};
 ghost use Rattle.byte_ports.specs.Bytes.{Grows, GrowsInPart, IsOneMore};

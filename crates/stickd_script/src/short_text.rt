@@ -1,4 +1,4 @@
-//! Texts that are short, made without memory.
+//! Short texts on the stack, made without memory; `server` answers lines by it.
 
 ghost use Rattle.std.specs.Prelude.{◌≡◌, ◌+◌, ◌≤◌, ◌++◌, [], length, decimal};
 

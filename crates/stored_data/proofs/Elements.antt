@@ -2,6 +2,7 @@
 use Rattle.std.proofs.Common.{◌≡◌, ℕ, suc, zero, ◌+◌, ◌-◌, ◌<◌, ◌≤◌, ◌==◌, Bool, true, false, nat_lt, List, [], ◌∷◌, arith, refl, ap, ◌∙◌, ◌++◌, length, get_or, drop, map, append_assoc, sym}
 use Rattle.std.specs.Prelude.{◌&&◌, ◌||◌, Any, IsTrue, ◌↔◌}
 use Rattle.std.specs.List.{list_any}
+use Rattle.std.proofs.lemmas.Bool.{and_parts}
 use Rattle.std.proofs.lemmas.Bool.Decides.{nat_tests}
 use Rattle.std.proofs.lemmas.List.{map-append}
 use Rattle.std.proofs.Math.Seq.{drop-cons}
@@ -11,30 +12,15 @@ use Rattle.stored_data.specs.Fields.{Element, element, elements_from, elements_o
 use Rattle.stored_data.proofs.Columns.{place-injective}
 use Rattle.stored_data.proofs.SameFields.{other_place, other_index, same_places}
 use Rattle.stored_data.specs.declared.datum.Datum.{Datum}
-use Rattle.stored_data.specs.declared.datum.Datum.TheVariants.{Gpt0, Gpc0, Gpc0Rate, ConnCnt, ConnRate, ConnCur, SessCnt, SessRate, BytesInCnt, BytesInRate, BytesOutCnt, BytesOutRate, Gpc1, Gpc1Rate, Gpt, Gpc}
+use Rattle.stored_data.specs.declared.datum.Datum.TheVariants.{Gpt0, ConnCur, Gpt, Gpc}
 use Rattle.stored_data.specs.declared.field.Field.{Field}
 use Rattle.stored_data.specs.declared.stored_set.Column.{Column}
 
 -- an array is no rate, and isn't the current connections
 pub array_kept : (datum : Datum) → is_array datum ≡ true → (is_rate datum ≡ false) × ((place datum == place ConnCur) ≡ false)
-array_kept datum array = elim datum as (λ datum. is_array datum ≡ true → (is_rate datum ≡ false) × ((place datum == place ConnCur) ≡ false)) [
-  | Gpt0 ↦ λ no. absurd (cc)
-  | Gpc0 ↦ λ no. absurd (cc)
-  | Gpc0Rate ↦ λ no. absurd (cc)
-  | ConnCnt ↦ λ no. absurd (cc)
-  | ConnRate ↦ λ no. absurd (cc)
-  | ConnCur ↦ λ no. absurd (cc)
-  | SessCnt ↦ λ no. absurd (cc)
-  | SessRate ↦ λ no. absurd (cc)
-  | BytesInCnt ↦ λ no. absurd (cc)
-  | BytesInRate ↦ λ no. absurd (cc)
-  | BytesOutCnt ↦ λ no. absurd (cc)
-  | BytesOutRate ↦ λ no. absurd (cc)
-  | Gpc1 ↦ λ no. absurd (cc)
-  | Gpc1Rate ↦ λ no. absurd (cc)
-  | Gpt ↦ λ yes. (refl, refl)
-  | Gpc ↦ λ yes. (refl, refl)
-] array
+array_kept Gpt array = (refl, refl)
+array_kept Gpc array = (refl, refl)
+array_kept _ array = absurd (cc)
 
 -- the first of the elements that are left
 pub elements-more : (column : Column) (index count : ℕ) → index < count → elements_from column index (count - index) ≡ element column index ∷ elements_from column (index + 1) (count - (index + 1))
@@ -67,12 +53,11 @@ abbrev pub no_column : Column
 no_column = record { datum = Gpt0; period = 0; count = 0 }
 
 -- ---- which fields they have
-is_at : Field → Element → Bool
+abbrev is_at : Field → Element → Bool
 is_at field one = same_field one.field field
 
 -- those of another datum are other fields
 none_of_other : (column : Column) (field : Field) (first count : ℕ) → (place column.datum == place field.datum) ≡ false → list_any (is_at field) (elements_from column first count) ≡ false
-unfolding is_at
 none_of_other column field first zero other = refl
 none_of_other column field first (suc count) other =
     ap (λ b. b || list_any (is_at field) (elements_from column (first + 1) count)) (other_place (element column first).field field other) ∙ none_of_other column field (first + 1) count other
@@ -80,7 +65,6 @@ none_of_other column field first (suc count) other =
 -- an index that is in the range is found, and any other isn't
 one_at : (column : Column) (field : Field) (first count : ℕ) → (place column.datum == place field.datum) ≡ true → first ≤ field.index → field.index < first + count →
     list_any (is_at field) (elements_from column first count) ≡ true
-unfolding is_at
 one_at column field first zero same from to = absurd (omega arith)
 one_at column field first (suc count) same from to = go (first == field.index) refl (λ behind. one_at column field (first + 1) count same behind (omega (arith, to)))
   where
@@ -92,7 +76,6 @@ one_at column field first (suc count) same from to = go (first == field.index) r
         ap (λ b. b || list_any (is_at field) (elements_from column (first + 1) count)) (same_places (element column first).field field same ∙ here) ∙ later behind
 
 none_at : (column : Column) (field : Field) (first count : ℕ) → first + count ≤ field.index → list_any (is_at field) (elements_from column first count) ≡ false
-unfolding is_at
 none_at column field first zero past = refl
 none_at column field first (suc count) past =
     let other : (first == field.index) ≡ false = grind (arith, nat_tests) in
@@ -108,26 +91,18 @@ column_has column field true false is_here is_inside =
     let past : size column ≤ field.index = grind (arith, nat_tests) in
     none_at column field 0 (size column) (omega arith)
 
-any-elements : (columns : List Column) (field : Field) → list_any (is_at field) (elements columns) ≡ is_field columns field
-any-elements [] field = refl
-any-elements (column ∷ columns) field =
-    list_any-append (is_at field) (elements_of column) (elements columns)
-    ∙ ap (λ b. b || list_any (is_at field) (elements columns)) (column_has column field (place column.datum == place field.datum) (nat_lt field.index (size column)) refl refl)
-    ∙ ap (λ b. (place column.datum == place field.datum && nat_lt field.index (size column)) || b) (any-elements columns field)
-
 -- the fields of the elements are those that are stored
 pub is_field-elements : (columns : List Column) (field : Field) → list_any (λ one. same_field one.field field) (elements columns) ≡ is_field columns field
-unfolding is_at
-is_field-elements columns field = any-elements columns field
+is_field-elements [] field = refl
+is_field-elements (column ∷ columns) field =
+    list_any-append (is_at field) (elements_of column) (elements columns)
+    ∙ ap (λ b. b || list_any (is_at field) (elements columns)) (column_has column field (place column.datum == place field.datum) (nat_lt field.index (size column)) refl refl)
+    ∙ ap (λ b. (place column.datum == place field.datum && nat_lt field.index (size column)) || b) (is_field-elements columns field)
 
 -- ---- stored fields
-both_true : (a b : Bool) → (a && b) ≡ true → (a ≡ true) × (b ≡ true)
-both_true true b both = (refl, both)
-both_true false b both = absurd (cc)
-
 stores-tested : (columns : List Column) (field : Field) → Any (λ column. (place column.datum == place field.datum && nat_lt field.index (size column)) ≡ true) columns → Stores columns field
 stores-tested columns field found =
-    let tests = both_true (place found.1.datum == place field.datum) (nat_lt field.index (size found.1)) found.4 in
+    let tests = and_parts (place found.1.datum == place field.datum) (nat_lt field.index (size found.1)) found.4 in
     let same = tests.0 in
     let below = tests.1 in
     (found.0, found.1, found.2, found.3, (place-injective found.1.datum field.datum (grind (arith, nat_tests)), grind (arith, nat_tests)))

@@ -10,10 +10,10 @@ use Rattle.stored_data.specs.Laws.{IsInRange, AreInRange, HasTag, StaysInRange, 
 use Rattle.stored_data.proofs.SameFields.{same_field-is}
 use Rattle.stored_data.specs.declared.stored_set.Column.{Column}
 use Rattle.stored_data.specs.declared.datum.Datum.{Datum}
-use Rattle.stored_data.specs.declared.datum.Datum.TheVariants.{Gpt0, Gpc0, Gpc0Rate, ConnCnt, ConnRate, ConnCur, SessCnt, SessRate, BytesInCnt, BytesInRate, BytesOutCnt, BytesOutRate, Gpc1, Gpc1Rate, Gpt, Gpc}
+use Rattle.stored_data.specs.declared.datum.Datum.TheVariants.{Gpt0, Gpc0, Gpc1, Gpt, Gpc}
 use Rattle.stored_data.specs.declared.field.Field.{Field}
 use Rattle.stored_data.specs.declared.act.Act.{Act}
-use Rattle.stored_data.specs.declared.act.Act.TheVariants.{Connection, Session, BytesIn, BytesOut, IncGpc0, IncGpc1, ClrGpc0, ClrGpc1, SetGpt0, IncGpc, SetGpt}
+use Rattle.stored_data.specs.declared.act.Act.TheVariants.{ClrGpc0, ClrGpc1, SetGpt0, SetGpt}
 use Rattle.stored_data.specs.declared.act.Change.{Change}
 use Rattle.stored_data.specs.declared.act.Change.TheVariants.{Keep, Add, Set}
 use Rattle.stored_data.specs.declared.values.Content.{Content}
@@ -22,7 +22,8 @@ use Rattle.stored_data.specs.declared.values.StoredValue.{StoredValue}
 
 -- the greatest value of a datum has 32 bits or more
 greatest-le : (d : Datum) → most ≤ greatest d
-greatest-le = elim [ Gpt0 ↦ lit≤ tt | Gpc0 ↦ lit≤ tt | Gpc0Rate ↦ lit≤ tt | ConnCnt ↦ lit≤ tt | ConnRate ↦ lit≤ tt | ConnCur ↦ lit≤ tt | SessCnt ↦ lit≤ tt | SessRate ↦ lit≤ tt | BytesInCnt ↦ lit≤ tt | BytesInRate ↦ lit≤ tt | BytesOutCnt ↦ lit≤ tt | BytesOutRate ↦ lit≤ tt | Gpc1 ↦ lit≤ tt | Gpc1Rate ↦ lit≤ tt | Gpt ↦ lit≤ tt | Gpc ↦ lit≤ tt ]
+greatest-le Gpt0 = lit≤ tt
+greatest-le _ = lit≤ tt
 
 -- a window's sum is one of the two that are kept, or 0
 known-le : (kept : Tally) (w : ℕ) → kept.current ≤ most → kept.before ≤ most → known kept w ≤ most
@@ -48,17 +49,15 @@ IsFit datum (Set n) = n ≤ greatest datum
 
 fit : (act : Act) (datum : Datum) → HasTag act → IsFit datum (change act datum)
 unfolding IsFit
-fit Connection datum tag = elim datum as (λ datum. IsFit datum (change Connection datum)) [ Gpt0 ↦ tt | Gpc0 ↦ tt | Gpc0Rate ↦ tt | ConnCnt ↦ tt | ConnRate ↦ tt | ConnCur ↦ tt | SessCnt ↦ tt | SessRate ↦ tt | BytesInCnt ↦ tt | BytesInRate ↦ tt | BytesOutCnt ↦ tt | BytesOutRate ↦ tt | Gpc1 ↦ tt | Gpc1Rate ↦ tt | Gpt ↦ tt | Gpc ↦ tt ]
-fit Session datum tag = elim datum as (λ datum. IsFit datum (change Session datum)) [ Gpt0 ↦ tt | Gpc0 ↦ tt | Gpc0Rate ↦ tt | ConnCnt ↦ tt | ConnRate ↦ tt | ConnCur ↦ tt | SessCnt ↦ tt | SessRate ↦ tt | BytesInCnt ↦ tt | BytesInRate ↦ tt | BytesOutCnt ↦ tt | BytesOutRate ↦ tt | Gpc1 ↦ tt | Gpc1Rate ↦ tt | Gpt ↦ tt | Gpc ↦ tt ]
-fit (BytesIn n) datum tag = elim datum as (λ datum. IsFit datum (change (BytesIn n) datum)) [ Gpt0 ↦ tt | Gpc0 ↦ tt | Gpc0Rate ↦ tt | ConnCnt ↦ tt | ConnRate ↦ tt | ConnCur ↦ tt | SessCnt ↦ tt | SessRate ↦ tt | BytesInCnt ↦ tt | BytesInRate ↦ tt | BytesOutCnt ↦ tt | BytesOutRate ↦ tt | Gpc1 ↦ tt | Gpc1Rate ↦ tt | Gpt ↦ tt | Gpc ↦ tt ]
-fit (BytesOut n) datum tag = elim datum as (λ datum. IsFit datum (change (BytesOut n) datum)) [ Gpt0 ↦ tt | Gpc0 ↦ tt | Gpc0Rate ↦ tt | ConnCnt ↦ tt | ConnRate ↦ tt | ConnCur ↦ tt | SessCnt ↦ tt | SessRate ↦ tt | BytesInCnt ↦ tt | BytesInRate ↦ tt | BytesOutCnt ↦ tt | BytesOutRate ↦ tt | Gpc1 ↦ tt | Gpc1Rate ↦ tt | Gpt ↦ tt | Gpc ↦ tt ]
-fit IncGpc0 datum tag = elim datum as (λ datum. IsFit datum (change IncGpc0 datum)) [ Gpt0 ↦ tt | Gpc0 ↦ tt | Gpc0Rate ↦ tt | ConnCnt ↦ tt | ConnRate ↦ tt | ConnCur ↦ tt | SessCnt ↦ tt | SessRate ↦ tt | BytesInCnt ↦ tt | BytesInRate ↦ tt | BytesOutCnt ↦ tt | BytesOutRate ↦ tt | Gpc1 ↦ tt | Gpc1Rate ↦ tt | Gpt ↦ tt | Gpc ↦ tt ]
-fit IncGpc1 datum tag = elim datum as (λ datum. IsFit datum (change IncGpc1 datum)) [ Gpt0 ↦ tt | Gpc0 ↦ tt | Gpc0Rate ↦ tt | ConnCnt ↦ tt | ConnRate ↦ tt | ConnCur ↦ tt | SessCnt ↦ tt | SessRate ↦ tt | BytesInCnt ↦ tt | BytesInRate ↦ tt | BytesOutCnt ↦ tt | BytesOutRate ↦ tt | Gpc1 ↦ tt | Gpc1Rate ↦ tt | Gpt ↦ tt | Gpc ↦ tt ]
-fit ClrGpc0 datum tag = elim datum as (λ datum. IsFit datum (change ClrGpc0 datum)) [ Gpt0 ↦ tt | Gpc0 ↦ lit≤ tt | Gpc0Rate ↦ tt | ConnCnt ↦ tt | ConnRate ↦ tt | ConnCur ↦ tt | SessCnt ↦ tt | SessRate ↦ tt | BytesInCnt ↦ tt | BytesInRate ↦ tt | BytesOutCnt ↦ tt | BytesOutRate ↦ tt | Gpc1 ↦ tt | Gpc1Rate ↦ tt | Gpt ↦ tt | Gpc ↦ lit≤ tt ]
-fit ClrGpc1 datum tag = elim datum as (λ datum. IsFit datum (change ClrGpc1 datum)) [ Gpt0 ↦ tt | Gpc0 ↦ tt | Gpc0Rate ↦ tt | ConnCnt ↦ tt | ConnRate ↦ tt | ConnCur ↦ tt | SessCnt ↦ tt | SessRate ↦ tt | BytesInCnt ↦ tt | BytesInRate ↦ tt | BytesOutCnt ↦ tt | BytesOutRate ↦ tt | Gpc1 ↦ lit≤ tt | Gpc1Rate ↦ tt | Gpt ↦ tt | Gpc ↦ lit≤ tt ]
-fit (SetGpt0 n) datum tag = elim datum as (λ datum. IsFit datum (change (SetGpt0 n) datum)) [ Gpt0 ↦ omega (arith, tag) | Gpc0 ↦ tt | Gpc0Rate ↦ tt | ConnCnt ↦ tt | ConnRate ↦ tt | ConnCur ↦ tt | SessCnt ↦ tt | SessRate ↦ tt | BytesInCnt ↦ tt | BytesInRate ↦ tt | BytesOutCnt ↦ tt | BytesOutRate ↦ tt | Gpc1 ↦ tt | Gpc1Rate ↦ tt | Gpt ↦ omega (arith, tag) | Gpc ↦ tt ]
-fit (IncGpc index) datum tag = elim datum as (λ datum. IsFit datum (change (IncGpc index) datum)) [ Gpt0 ↦ tt | Gpc0 ↦ tt | Gpc0Rate ↦ tt | ConnCnt ↦ tt | ConnRate ↦ tt | ConnCur ↦ tt | SessCnt ↦ tt | SessRate ↦ tt | BytesInCnt ↦ tt | BytesInRate ↦ tt | BytesOutCnt ↦ tt | BytesOutRate ↦ tt | Gpc1 ↦ tt | Gpc1Rate ↦ tt | Gpt ↦ tt | Gpc ↦ tt ]
-fit (SetGpt index n) datum tag = elim datum as (λ datum. IsFit datum (change (SetGpt index n) datum)) [ Gpt0 ↦ tt | Gpc0 ↦ tt | Gpc0Rate ↦ tt | ConnCnt ↦ tt | ConnRate ↦ tt | ConnCur ↦ tt | SessCnt ↦ tt | SessRate ↦ tt | BytesInCnt ↦ tt | BytesInRate ↦ tt | BytesOutCnt ↦ tt | BytesOutRate ↦ tt | Gpc1 ↦ tt | Gpc1Rate ↦ tt | Gpt ↦ omega (arith, tag) | Gpc ↦ tt ]
+fit ClrGpc0 Gpc0 tag = lit≤ tt
+fit ClrGpc0 Gpc tag = lit≤ tt
+fit ClrGpc1 Gpc1 tag = lit≤ tt
+fit ClrGpc1 Gpc tag = lit≤ tt
+fit (SetGpt0 n) Gpt0 tag = omega (arith, tag)
+fit (SetGpt0 n) Gpt tag = omega (arith, tag)
+fit (SetGpt index n) Gpt tag = omega (arith, tag)
+fit _ Gpt0 tag = tt
+fit _ _ tag = tt
 
 fit_at : (act : Act) (field : Field) → HasTag act → IsFit field.datum (change_at act field)
 unfolding IsFit

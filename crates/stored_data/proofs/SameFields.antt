@@ -1,5 +1,6 @@
 -- When two fields are one.
 use Rattle.std.proofs.Common.{◌≡◌, ◌==◌, ◌&&◌, Bool, true, false, arith, ap, ◌∙◌, refl}
+use Rattle.std.proofs.lemmas.Bool.{and_parts}
 use Rattle.std.proofs.lemmas.Bool.Decides.{nat_tests}
 use Rattle.stored_data.specs.Data.{place}
 use Rattle.stored_data.specs.Fields.{same_field}
@@ -11,12 +12,11 @@ both a b datum index = λ i. record { datum = datum i; index = index i }
 
 pub same_field-is : (a b : Field) → same_field a b ≡ true → a ≡ b
 unfolding same_field
-same_field-is a b same = go (place a.datum == place b.datum) (a.index == b.index) refl refl same
-  where
-    go : (here there : Bool) → (place a.datum == place b.datum) ≡ here → (a.index == b.index) ≡ there → (here && there) ≡ true → a ≡ b
-    go true true here there both_are = both a b (place-injective a.datum b.datum (grind (arith, nat_tests))) (grind (arith, nat_tests))
-    go true false here there both_are = absurd (cc)
-    go false there_is here there both_are = absurd (cc)
+same_field-is a b same =
+    let parts = and_parts (place a.datum == place b.datum) (a.index == b.index) same in
+    let here : (place a.datum == place b.datum) ≡ true = parts.0 in
+    let there : (a.index == b.index) ≡ true = parts.1 in
+    both a b (place-injective a.datum b.datum (grind (arith, nat_tests))) (grind (arith, nat_tests))
 
 pub same_field-refl : (a : Field) → same_field a a ≡ true
 unfolding same_field

@@ -9,7 +9,7 @@ use Rattle.stored_data.specs.Acts.{change, change_at, index_in_array, changed, c
 use Rattle.stored_data.proofs.Elements.{array_kept}
 use Rattle.stored_data.specs.Laws.{RatesTally, RatesCount}
 use Rattle.stored_data.specs.declared.datum.Datum.{Datum}
-use Rattle.stored_data.specs.declared.datum.Datum.TheVariants.{Gpt0, Gpc0, Gpc0Rate, ConnCnt, ConnRate, ConnCur, SessCnt, SessRate, BytesInCnt, BytesInRate, BytesOutCnt, BytesOutRate, Gpc1, Gpc1Rate, Gpt, Gpc}
+use Rattle.stored_data.specs.declared.datum.Datum.TheVariants.{Gpc}
 use Rattle.stored_data.specs.declared.act.Act.{Act}
 use Rattle.stored_data.specs.declared.act.Act.TheVariants.{IncGpc}
 use Rattle.stored_data.specs.declared.act.Change.{Change}
@@ -31,7 +31,8 @@ whole-rate act datum true array rate = let number = (array_kept datum array).0 i
 whole-rate act datum false array rate = ap (λ b. if 0 == (if b then index_in_array act else 0) then change act datum else Keep) array
 
 of_elements : (index : ℕ) (datum : Datum) → is_rate datum ≡ true → change (IncGpc index) datum ≡ Keep
-of_elements index datum rate = elim datum as (λ datum. is_rate datum ≡ true → change (IncGpc index) datum ≡ Keep) [ Gpt0 ↦ λ _. refl | Gpc0 ↦ λ _. refl | Gpc0Rate ↦ λ _. refl | ConnCnt ↦ λ _. refl | ConnRate ↦ λ _. refl | ConnCur ↦ λ _. refl | SessCnt ↦ λ _. refl | SessRate ↦ λ _. refl | BytesInCnt ↦ λ _. refl | BytesInRate ↦ λ _. refl | BytesOutCnt ↦ λ _. refl | BytesOutRate ↦ λ _. refl | Gpc1 ↦ λ _. refl | Gpc1Rate ↦ λ _. refl | Gpt ↦ λ _. refl | Gpc ↦ λ no. absurd (cc) ] rate
+of_elements index Gpc rate = absurd (cc)
+of_elements index _ rate = refl
 
 pub rates_count : RatesCount
 rates_count = record { whole = λ act datum rate. whole-rate act datum (is_array datum) refl rate; elements = of_elements }

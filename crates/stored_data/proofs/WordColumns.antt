@@ -14,7 +14,7 @@ use Rattle.stored_data.specs.Words.{words_of, words_in, width, field_at, fields_
 use Rattle.stored_data.proofs.Elements.{array_kept, elements-more, elements-at}
 use Rattle.stored_data.proofs.Rows.{field_at-same, unedited}
 use Rattle.stored_data.specs.declared.datum.Datum.{Datum}
-use Rattle.stored_data.specs.declared.datum.Datum.TheVariants.{Gpt0, Gpc0, Gpc0Rate, ConnCnt, ConnRate, ConnCur, SessCnt, SessRate, BytesInCnt, BytesInRate, BytesOutCnt, BytesOutRate, Gpc1, Gpc1Rate, Gpt, Gpc}
+use Rattle.stored_data.specs.declared.datum.Datum.TheVariants.{Gpt0}
 use Rattle.stored_data.specs.declared.stored_set.Column.{Column}
 use Rattle.stored_data.specs.declared.values.StoredValue.{StoredValue}
 use Rattle.stored_data.specs.declared.words.Edit.{Edit}
@@ -46,17 +46,19 @@ column_words column true is =
 pub width-at : (columns : List Column) (i : ℕ) (d : Column) → i < length columns → width (drop i columns) ≡ words_in (elements_of (get_or columns i d)) + width (drop (i + 1) columns)
 width-at columns i d inside = ap words_in (elements-at columns i d inside) ∙ sum_by-append words_of (elements_of (get_or columns i d)) (elements (drop (i + 1) columns))
 
--- columns in order are at most 16, and so take at most 1,600 words
+-- a place is a byte, so that columns in order are at most 255, and take at most 25,500 words
 least : (datum : Datum) → 1 ≤ place datum
-least = elim [ Gpt0 ↦ lit≤ tt | Gpc0 ↦ lit≤ tt | Gpc0Rate ↦ lit≤ tt | ConnCnt ↦ lit≤ tt | ConnRate ↦ lit≤ tt | ConnCur ↦ lit≤ tt | SessCnt ↦ lit≤ tt | SessRate ↦ lit≤ tt | BytesInCnt ↦ lit≤ tt | BytesInRate ↦ lit≤ tt | BytesOutCnt ↦ lit≤ tt | BytesOutRate ↦ lit≤ tt | Gpc1 ↦ lit≤ tt | Gpc1Rate ↦ lit≤ tt | Gpt ↦ lit≤ tt | Gpc ↦ lit≤ tt ]
+least Gpt0 = lit≤ tt
+least _ = lit≤ tt
 
-last : (datum : Datum) → place datum ≤ 16
-last = elim [ Gpt0 ↦ lit≤ tt | Gpc0 ↦ lit≤ tt | Gpc0Rate ↦ lit≤ tt | ConnCnt ↦ lit≤ tt | ConnRate ↦ lit≤ tt | ConnCur ↦ lit≤ tt | SessCnt ↦ lit≤ tt | SessRate ↦ lit≤ tt | BytesInCnt ↦ lit≤ tt | BytesInRate ↦ lit≤ tt | BytesOutCnt ↦ lit≤ tt | BytesOutRate ↦ lit≤ tt | Gpc1 ↦ lit≤ tt | Gpc1Rate ↦ lit≤ tt | Gpt ↦ lit≤ tt | Gpc ↦ lit≤ tt ]
+last : (datum : Datum) → place datum ≤ 255
+last Gpt0 = lit≤ tt
+last _ = lit≤ tt
 
-place-le : (column : Column) → place column.datum ≤ 16
+place-le : (column : Column) → place column.datum ≤ 255
 place-le column = last column.datum
 
-few : (columns : List Column) (before : ℕ) → before ≤ 16 → AllByRecursion (λ column. before < place column.datum) columns → IsInOrder columns → length columns + before ≤ 16
+few : (columns : List Column) (before : ℕ) → before ≤ 255 → AllByRecursion (λ column. before < place column.datum) columns → IsInOrder columns → length columns + before ≤ 255
 few [] before le later in_order = omega (arith, le)
 few (column ∷ columns) before le later in_order =
     let rest = few columns (place column.datum) (place-le column) in_order.0 in_order.1 in
@@ -86,7 +88,7 @@ after_none : (columns : List Column) → AllByRecursion (λ column. 0 < place co
 after_none [] = tt
 after_none (column ∷ columns) = (least column.datum, after_none columns)
 
-pub narrow : (columns : List Column) → IsSound columns → width columns ≤ 1600
+pub narrow : (columns : List Column) → IsSound columns → width columns ≤ 25500
 narrow columns sound = omega (arith, width-le columns sound.counts, few columns 0 (omega arith) (after_none columns) sound.in_order)
 
 -- ---- data of elements joined, and in other words
@@ -131,36 +133,34 @@ nothing_kept column first (suc count) words at none =
     ap (λ b. cond b (field_at (element column first) words at ∷ fields_from (elements_from column (first + 1) count) words (at + words_of (element column first))) (fields_from (elements_from column (first + 1) count) words (at + words_of (element column first)))) none
     ∙ nothing_kept column (first + 1) count words (at + words_of (element column first)) none
 
--- an edit that leaves what is kept of the datum leaves the column
-pub leaves_all : (column : Column) (edit : Edit) (first count : ℕ) (words : List ℕ) (at : ℕ) → ((stored : StoredValue) → stored.field.datum ≡ column.datum → edited edit stored ≡ stored) →
+-- an edit that leaves what is stored of each element leaves the elements
+leaves_each : (column : Column) (edit : Edit) (first count : ℕ) (words : List ℕ) (at : ℕ) →
+    ((k n : ℕ) → k < first + count → edited edit (field_at (element column k) words n) ≡ field_at (element column k) words n) →
     fields_from (elements_from column first count) words at ≡ map (edited edit) (fields_from (elements_from column first count) words at)
-leaves_all column edit first zero words at leaves = refl
-leaves_all column edit first (suc count) words at leaves = by_kept (is_kept (element column first)) (leaves_all column edit (first + 1) count words (at + words_of (element column first)) leaves)
+leaves_each column edit first zero words at leaves = refl
+leaves_each column edit first (suc count) words at leaves =
+    by_kept (is_kept (element column first)) (leaves_each column edit (first + 1) count words (at + words_of (element column first)) (λ k n below. leaves k n (omega arith)))
   where
     by_kept : (b : Bool) → fields_from (elements_from column (first + 1) count) words (at + words_of (element column first)) ≡ map (edited edit) (fields_from (elements_from column (first + 1) count) words (at + words_of (element column first)))
         → cond b (field_at (element column first) words at ∷ fields_from (elements_from column (first + 1) count) words (at + words_of (element column first))) (fields_from (elements_from column (first + 1) count) words (at + words_of (element column first)))
         ≡ map (edited edit) (cond b (field_at (element column first) words at ∷ fields_from (elements_from column (first + 1) count) words (at + words_of (element column first))) (fields_from (elements_from column (first + 1) count) words (at + words_of (element column first))))
     by_kept true rest =
-        ap (λ f. f ∷ fields_from (elements_from column (first + 1) count) words (at + words_of (element column first))) (sym (leaves (field_at (element column first) words at) refl))
+        ap (λ f. f ∷ fields_from (elements_from column (first + 1) count) words (at + words_of (element column first))) (sym (leaves first at (omega arith)))
         ∙ ap (λ fs. edited edit (field_at (element column first) words at) ∷ fs) rest
     by_kept false rest = rest
 
--- an edit of an index past those of the elements leaves them
-pub past_all : (column : Column) (edit : Edit) (first count : ℕ) (words : List ℕ) (at : ℕ) → first + count ≤ edited_index edit column.datum →
-    fields_from (elements_from column first count) words at ≡ map (edited edit) (fields_from (elements_from column first count) words at)
-past_all column edit first zero words at past = refl
-past_all column edit first (suc count) words at past = by_kept (is_kept (element column first)) (past_all column edit (first + 1) count words (at + words_of (element column first)) (omega arith))
+-- so one that leaves what is kept of the datum leaves the column
+pub leaves_all : (column : Column) (edit : Edit) (words : List ℕ) (at : ℕ) → ((stored : StoredValue) → stored.field.datum ≡ column.datum → edited edit stored ≡ stored) →
+    fields_from (elements_of column) words at ≡ map (edited edit) (fields_from (elements_of column) words at)
+leaves_all column edit words at leaves = leaves_each column edit 0 (size column) words at (λ k n below. leaves (field_at (element column k) words n) refl)
+
+-- and so does one of an index past those of its elements
+pub past_all : (column : Column) (edit : Edit) (words : List ℕ) (at : ℕ) → size column ≤ edited_index edit column.datum →
+    fields_from (elements_of column) words at ≡ map (edited edit) (fields_from (elements_of column) words at)
+past_all column edit words at past = leaves_each column edit 0 (size column) words at (λ k n below. unedited edit (field_at (element column k) words n) (other k (omega arith)))
   where
-    other : (first == edited_index edit column.datum) ≡ false
-    other = grind (arith, nat_tests)
-
-    by_kept : (b : Bool) → fields_from (elements_from column (first + 1) count) words (at + words_of (element column first)) ≡ map (edited edit) (fields_from (elements_from column (first + 1) count) words (at + words_of (element column first)))
-        → cond b (field_at (element column first) words at ∷ fields_from (elements_from column (first + 1) count) words (at + words_of (element column first))) (fields_from (elements_from column (first + 1) count) words (at + words_of (element column first)))
-        ≡ map (edited edit) (cond b (field_at (element column first) words at ∷ fields_from (elements_from column (first + 1) count) words (at + words_of (element column first))) (fields_from (elements_from column (first + 1) count) words (at + words_of (element column first))))
-    by_kept true rest =
-        ap (λ f. f ∷ fields_from (elements_from column (first + 1) count) words (at + words_of (element column first))) (sym (unedited edit (field_at (element column first) words at) other))
-        ∙ ap (λ fs. edited edit (field_at (element column first) words at) ∷ fs) rest
-    by_kept false rest = rest
+    other : (k : ℕ) → k < edited_index edit column.datum → (k == edited_index edit column.datum) ≡ false
+    other k lt = grind (arith, nat_tests)
 
 -- elements of a word each, of which one is edited, and all other words stay
 array-edited : (column : Column) (edit : Edit) (old new : List ℕ) (base index first count : ℕ) → is_kept (element column 0) ≡ true → is_rate column.datum ≡ false → index ≡ edited_index edit column.datum →

@@ -2,6 +2,7 @@
 use Rattle.std.proofs.Common.{◌≡◌, ℕ, suc, zero, ◌+◌, ◌<◌, ◌≤◌, ◌==◌, List, ◌∷◌, Bool, true, false, cond, nat_lt, refl, ap, subst, ◌∙◌, arith, length, get_or, drop, Some, None}
 use Rattle.std.specs.Prelude.{find, ◌&&◌}
 use Rattle.std.specs.Option.{option_or}
+use Rattle.std.proofs.lemmas.Bool.{and_parts}
 use Rattle.std.proofs.lemmas.Bool.Decides.{nat_tests}
 use Rattle.std.proofs.lemmas.List.Folds.{find-append}
 use Rattle.stored_data.specs.Data.{place}
@@ -70,32 +71,23 @@ column_none column field words at none = go (place column.datum == place field.d
     go true true false is_same is_inside is_kept_is none = ap (find (is_of field)) (nothing_kept column 0 (size column) words at is_kept_is)
     go true true true is_same is_inside is_kept_is none = absurd (cc)
 
+-- what a test that passed says
+pub tests_of : (column : Column) (field : Field) → is_kept_in column field ≡ true → (is_kept (element column 0) ≡ true) × (field.index < size column) × ((place column.datum == place field.datum) ≡ true)
+tests_of column field is =
+    let outer = and_parts (place column.datum == place field.datum && nat_lt field.index (size column)) (is_kept (element column 0)) is in
+    let inner = and_parts (place column.datum == place field.datum) (nat_lt field.index (size column)) outer.0 in
+    let inside : nat_lt field.index (size column) ≡ true = inner.1 in
+    (outer.1, grind (arith, nat_tests), inner.0)
+
 column_one : (column : Column) (field : Field) (words : List ℕ) (at : ℕ) → is_kept_in column field ≡ true →
     find (is_of field) (fields_from (elements_of column) words at) ≡ Some (field_at (element column field.index) words (at + field.index))
-column_one column field words at is = go (place column.datum == place field.datum) (nat_lt field.index (size column)) (is_kept (element column 0)) refl refl refl is
+column_one column field words at is =
+    let tests = tests_of column field is in
+    subst (λ n. find (is_of field) (fields_from (elements_of column) words n) ≡ Some (field_at (element column field.index) words (at + field.index))) base
+    (one_of column field words at 0 (size column) tests.0 (several column tests.0) tests.2 (omega arith) (omega (arith, tests.1)))
   where
     base : at + 0 ≡ at
     base = omega arith
-
-    go : (same inside kept : Bool) → (place column.datum == place field.datum) ≡ same → nat_lt field.index (size column) ≡ inside → is_kept (element column 0) ≡ kept
-        → (same && inside && kept) ≡ true → find (is_of field) (fields_from (elements_of column) words at) ≡ Some (field_at (element column field.index) words (at + field.index))
-    go true true true is_same is_inside is_kept_is all =
-        let below : field.index < size column = grind (arith, nat_tests) in
-        subst (λ n. find (is_of field) (fields_from (elements_of column) words n) ≡ Some (field_at (element column field.index) words (at + field.index))) base
-        (one_of column field words at 0 (size column) is_kept_is (several column is_kept_is) is_same (omega arith) (omega (arith, below)))
-    go true true false is_same is_inside is_kept_is all = absurd (cc)
-    go true false kept is_same is_inside is_kept_is all = absurd (cc)
-    go false inside kept is_same is_inside is_kept_is all = absurd (cc)
-
--- what a test that passed says
-pub tests_of : (column : Column) (field : Field) → is_kept_in column field ≡ true → (is_kept (element column 0) ≡ true) × (field.index < size column)
-tests_of column field is = go (place column.datum == place field.datum) (nat_lt field.index (size column)) (is_kept (element column 0)) refl refl is
-  where
-    go : (same inside kept : Bool) → nat_lt field.index (size column) ≡ inside → is_kept (element column 0) ≡ kept → (same && inside && kept) ≡ true → (is_kept (element column 0) ≡ true) × (field.index < size column)
-    go true true true is_inside is_kept_is all = (is_kept_is, grind (arith, nat_tests))
-    go true true false is_inside is_kept_is all = absurd (cc)
-    go true false kept is_inside is_kept_is all = absurd (cc)
-    go false inside kept is_inside is_kept_is all = absurd (cc)
 
 -- of the columns from the i-th on
 pub find-next : (columns : List Column) (i : ℕ) (d : Column) (field : Field) (words : List ℕ) (at : ℕ) → i < length columns → is_kept_in (get_or columns i d) field ≡ false →

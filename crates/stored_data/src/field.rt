@@ -1,4 +1,4 @@
-//! What commands and rules name of a key's data.
+//! What commands and rules name of a key's data: a datum, or an element of an array; events, rows and fetches have one.
 ghost use Rattle.std.specs.Prelude.{◌≡◌};
 ghost use Rattle.stored_data.specs.Fields.{plain, same_field, stand_in};
 

@@ -1,4 +1,4 @@
-//! The columns of a table.
+//! The columns of a table; `rule_words` makes them of a `stick-table` line, and tables keep data by them.
 ghost use Rattle.std.specs.Prelude.{◌≡◌, ◌↔◌, ◌++◌, List, map, IfOk, OnOk};
 
 use crate::{Datum, Field};

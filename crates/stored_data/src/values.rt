@@ -1,4 +1,4 @@
-//! The data of one key.
+//! The data of one key; `stick_table` keeps one per record, and `stick_pooled` for copies and new entries.
 ghost use Rattle.std.specs.Prelude.{List};
 
 use crate::act::{Act, Change};

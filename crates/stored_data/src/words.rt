@@ -1,5 +1,6 @@
-//! The data of a key in a slice of words, by the columns of its table: for tables that keep the data
-//! of all keys in one block. Whoever keeps the words says where those of a key are.
+//! The data of a key in a slice of words, by the columns of its table; `stick_pooled`'s `value_rows` calls it.
+//!
+//! It is for tables that keep the data of all keys in one block. Whoever keeps the words says where those of a key are.
 ghost use Rattle.std.specs.Prelude.{◌≡◌, ℕ, ◌+◌, ◌<◌, ◌≤◌, ◌⊎◌, ◌++◌, List, length, map, replicate, slice_index, IsTrue, IfOk, OnOk, ◌∷◌, []};
 ghost use Rattle.stored_data.specs.Data.{is_rate};
 ghost use Rattle.stored_data.specs.Fields.{element, elements_of, size};

@@ -1,4 +1,4 @@
-//! Why a service of commands stopped.
+//! Why a service of commands stopped; `answer` and `CommandService::run` end with it.
 
 /// What failed.
 #[derive(Clone, Copy, Debug, PartialEq, Eq)]

@@ -1,5 +1,8 @@
-//! The commands on stick tables in shards (HAProxy Management Guide 2.8, `show table`, `set table`, `clear table`), served:
-//! which shards a line asks, what their replies come to, and what it is answered. `table_texts` reads and prints them.
+//! The commands on stick tables in shards, served; `table_socket` calls it for clients, `stickd_script` for lines, and
+//! `tcp_proxy` makes the service.
+//!
+//! It says which shards a line asks, what their replies come to, and what it is answered. The commands are `show table`, `set
+//! table` and `clear table` (HAProxy Management Guide 2.8). `table_texts` reads and prints them.
 #![tactic(auto)]
 
 mod fault;

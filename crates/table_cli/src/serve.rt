@@ -1,4 +1,4 @@
-//! Serving commands.
+//! The commands of a line, each answered at the clock's moment; `CommandService` and `stickd_script` call `answer`.
 
 ghost use Rattle.std.specs.Prelude.{◌≡◌, ◌<◌, ◌^◌, ℕ, List, Result, MatchResult, IfOk, IfErr, OnOk, OnErr, IfSome, length, position};
 ghost use Rattle.std.specs.Str.{bytes_eq};

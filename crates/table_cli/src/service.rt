@@ -1,4 +1,4 @@
-//! Serving the commands of a reader, line by line, until it ends.
+//! The commands of a reader, served line by line until it ends; `table_socket` runs one for each client.
 
 ghost use Rattle.std.specs.Prelude.{◌≡◌, ◌≤◌, ◌⊎◌, ℕ, Some, List, length, IfOk, IfErr, MatchResult, OnErr, OnOk};
 ghost use Rattle.byte_ports.specs.Bytes.{Grows, GrowsInPart, IsAtEnd, IsOneMore, Takes};

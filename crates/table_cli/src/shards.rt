@@ -1,4 +1,4 @@
-//! Asking the shards of a table, and what their replies come to.
+//! The question to the shards of a table, and what their replies come to; `serve` asks it for an event, `tables` for a count.
 
 ghost use Rattle.std.specs.Prelude.{◌≡◌, ◌≤◌, ◌<◌, List, Option, Some, None, IfOk, IfErr, OnErr, MatchResult};
 ghost use Rattle.std.specs.List.{range_with_len};

@@ -1,4 +1,4 @@
-//! The headers of all tables, `show table` alone.
+//! The headers of all tables, for `show table` alone; `answer` calls it.
 
 ghost use Rattle.std.specs.Prelude.{◌≡◌, ◌<◌, ◌^◌, ◌++◌, List, Option, Some, None, MatchResult};
 ghost use Rattle.std.specs.List.{range_with_len};

@@ -1,4 +1,4 @@
-//! Binding a socket to a path, and removing its file.
+//! The binding of a socket to a path, and the removal of its file; `tcp_proxy` calls it as it starts and ends.
 
 ghost use Rattle.std.specs.Prelude.{◌≡◌, ◌<◌, Err, length};
 ghost use Rattle.table_socket.specs.declared.fault.SocketFault.TheVariants.{PathLength};

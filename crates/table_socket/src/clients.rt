@@ -1,4 +1,4 @@
-//! Serving the clients of a socket.
+//! The service of a socket's clients, one after the other; `tcp_proxy` calls it on each thread that answers commands.
 
 ghost use Rattle.table_socket.specs.Clients.{ServesClients, Visit, state_of};
 

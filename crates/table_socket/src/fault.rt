@@ -1,4 +1,4 @@
-//! Why a socket can't be bound.
+//! Why a socket can't be bound; `binding` answers it, and `tcp_proxy` prints it.
 
 use std::io;
 use thiserror::Error;

@@ -1,4 +1,4 @@
-//! Which file a path names.
+//! Which file a path names; `binding` compares by it, so that it removes only the file that it made.
 
 ghost use Rattle.std.specs.Prelude.{◌≡◌, ◌↔◌, Some, IsTrue};
 

@@ -1,4 +1,4 @@
-//! The groups of the system.
+//! The groups of the system, read from /etc/group; `tcp_proxy` finds a socket's group by its name.
 
 ghost use Rattle.std.specs.Prelude.{◌≡◌};
 ghost use Rattle.base_lines.specs.Parts.{parts, is_line_end};

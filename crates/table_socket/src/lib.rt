@@ -1,4 +1,5 @@
-//! The Unix socket on which operators send commands to a running program.
+//! The Unix socket on which operators send commands to a running program; `tcp_proxy` binds and serves it, and `stickd` reads its
+//! mode.
 #![tactic(auto)]
 
 mod binding;

@@ -1,4 +1,4 @@
-//! Which permissions a socket's file has.
+//! Which permissions a socket's file has; `stickd` reads them of the command line, and `binding` checks them.
 
 ghost use Rattle.std.specs.Prelude.{◌≡◌, ◌≢◌, ◌%◌, ◌↔◌, IsTrue};
 ghost use Rattle.std.specs.Option.{SomeIff};

@@ -1,4 +1,4 @@
-//! How long a client is waited for.
+//! How long a client is waited for; `patient_stream` decides by it, and `clients` makes patiences of a time.
 
 ghost use Rattle.std.specs.Prelude.{◌≡◌, ◌-◌, ◌*◌, ◌<◌, ◌≤◌, true, false};
 ghost use Rattle.table_socket.specs.declared.patience.AfterPatience.TheVariants.{TryAgain, Stop, GiveUp};

@@ -1,4 +1,4 @@
-//! A client's stream, which waits for it no longer than its time.
+//! A client's stream, which waits for it no longer than its time; `clients` accepts and serves by it.
 
 use crate::patience::{AfterPatience, PATIENCE, after_patience};
 use std::io::{self, ErrorKind, Read, Write};

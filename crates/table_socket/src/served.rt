@@ -1,4 +1,4 @@
-//! What is counted of a socket's clients.
+//! What is counted of a socket's clients; `clients` counts, and `tcp_proxy` sums what its threads have counted.
 
 ghost use Rattle.std.specs.Prelude.{◌≡◌};
 ghost use Rattle.table_cli.specs.States.{more};

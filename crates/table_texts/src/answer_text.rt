@@ -1,4 +1,4 @@
-//! What a command is answered.
+//! What a command is answered, the whole text in memory; `table_cli` makes it of a table's reply.
 
 ghost use Rattle.std.specs.Prelude.{◌≡◌, ◌++◌, IfErr, IfOk, nat_eq, true, codes, if◌then◌else◌};
 ghost use Rattle.std.specs.List.{flat_map};

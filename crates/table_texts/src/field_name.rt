@@ -1,4 +1,4 @@
-//! The names of fields behind `data.`
+//! The names of fields behind `data.`; `request` reads them.
 
 ghost use Rattle.std.specs.Prelude.{◌≡◌, option_map, option_and_then};
 ghost use Rattle.stored_data.specs.Names.{datum_of};

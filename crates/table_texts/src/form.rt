@@ -1,4 +1,4 @@
-//! What form a command has, by its words alone.
+//! What form a command has, by its words alone; `table_cli` calls `read_form` for each command.
 
 ghost use Rattle.std.specs.Prelude.{◌≡◌, option_map};
 ghost use Rattle.base_lines.specs.Words.{words_left};

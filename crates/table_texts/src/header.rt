@@ -1,4 +1,4 @@
-//! The header of a listing.
+//! The header of a listing; `answer_text` puts it before rows, and `table_cli` prints those of all tables.
 
 ghost use Rattle.std.specs.Prelude.{◌≡◌, ◌++◌, OnOk};
 ghost use Rattle.table_texts.specs.Text as spec;

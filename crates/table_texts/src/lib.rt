@@ -1,7 +1,8 @@
-//! The texts of commands on stick tables and of their answers (HAProxy Management Guide 2.8, `show table`, `set table`,
-//! `clear table`): what form a line's words have, what event that asks, and what a reply is printed as.
+//! The texts of commands on stick tables, and of their answers; `table_cli` reads and prints by it, and `stickd_script`'s proofs
+//! cite it.
 //!
-//! What is printed of a table: its header and its rows, in the form of the Management Guide 2.8, `show table`.
+//! It says what form a line's words have, what event that asks, and what a reply is printed as (HAProxy Management Guide 2.8,
+//! `show table`, `set table`, `clear table`).
 #![tactic(auto)]
 
 mod answer_text;

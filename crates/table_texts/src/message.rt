@@ -1,4 +1,4 @@
-//! The answers that have no listing.
+//! The answers that have no listing; `table_cli` gives them where a command can't be done, and `request` for what is wrong.
 
 ghost use Rattle.std.specs.Prelude.{◌≡◌};
 ghost use Rattle.table_texts.specs.Texts.{message_text, refusal_message};

@@ -1,4 +1,4 @@
-//! What a form asks of a table.
+//! What a form asks of a table, as an event; `table_cli` calls `read_event`.
 
 ghost use Rattle.std.specs.Prelude.{◌≡◌, ◌⊎◌, ◌<◌, ◌≤◌, ◌^◌, List, [], All, IfOk, MatchResult, unwrap_or};
 ghost use Rattle.stored_data.specs.Data.{greatest};

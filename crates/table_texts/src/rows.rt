@@ -1,4 +1,4 @@
-//! The rows of a listing.
+//! The rows of a listing, each a line; `answer_text` calls it.
 
 ghost use Rattle.std.specs.Prelude.{◌≡◌, [], ◌∷◌, ◌++◌, OnOk, decimal};
 ghost use Rattle.std.specs.List.{flat_map};

@@ -1,4 +1,4 @@
-//! Carrying what a reader has now to a writer, as far as that has room.
+//! What a reader has now goes to a writer, as far as that has room; `Direction` calls it in each turn.
 
 ghost use Rattle.std.specs.Prelude.{◌≡◌, ◌<◌, ◌≤◌, ◌+◌, ◌*◌, ◌≢◌, [], length, IfErr, OnOk};
 ghost use Rattle.byte_ports.specs.Bytes.{IsAtEnd};

@@ -1,4 +1,4 @@
-//! One direction of a connection whose sockets don't wait.
+//! One direction of a connection whose sockets don't wait; `tcp_link` gives it a turn whenever a socket is ready.
 
 ghost use Rattle.std.specs.Prelude.{◌≡◌, ◌<◌, ◌≤◌, ◌+◌, ◌*◌, ◌↔◌, false, [], length, IsTrue, OnErr, OnOk};
 ghost use Rattle.byte_ports.specs.Bytes.{IsAtEnd};

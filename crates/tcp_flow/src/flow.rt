@@ -1,4 +1,4 @@
-//! One direction of a connection as a state, whose steps are one read or one write each.
+//! One direction as a state, whose steps are one read or one write each; `pump` and `Direction` make the steps.
 
 ghost use Rattle.std.specs.Prelude.{◌≡◌, ◌+◌, ◌-◌, ◌<◌, ◌≤◌, ◌↔◌, [], length, IsTrue, OnOk, OnErr, IfErr};
 ghost use Rattle.byte_ports.specs.Bytes.{Grows, IsOneMore};

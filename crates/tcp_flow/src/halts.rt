@@ -1,4 +1,4 @@
-//! Why a call of a port that doesn't wait took no bytes.
+//! Why a call of a port that doesn't wait took no bytes; ports answer it, and `Direction` reads it.
 
 /// Why a call took no bytes.
 #[derive(Clone, Copy, Debug, PartialEq, Eq)]

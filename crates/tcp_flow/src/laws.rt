@@ -1,5 +1,6 @@
-//! What moves of a direction keep, whatever the order in which its devices are ready. Each law is the contract of a function
-//! that does nothing.
+//! Laws of a direction's moves; each is the contract of an empty function, which no code calls.
+//!
+//! They hold whatever the order in which its devices are ready.
 
 ghost use Rattle.tcp_flow.specs.Passage.{JoinLaw, PrefixLaw};
 ghost use Rattle.tcp_flow.specs.Turns.{GoesOnLaw};

@@ -1,5 +1,6 @@
-//! Carrying bytes from a reader to a writer, as one direction of a connection does: `pump` over ports that wait, and turns
-//! of a `Direction` over ports that don't.
+//! One direction of a connection, from a reader to a writer; `tcp_link` turns a `Direction` each way.
+//!
+//! `pump` does the same over ports that wait, in one call. The program doesn't call it.
 #![tactic(auto)]
 
 mod carries;

@@ -1,4 +1,4 @@
-//! Carrying all bytes of a reader to a writer.
+//! The carriage of all bytes of a reader to a writer, by ports that wait; only tests call it.
 
 ghost use Rattle.std.specs.Prelude.{◌≡◌, ◌≢◌};
 ghost use Rattle.byte_ports.specs.Bytes.{IsAtEnd};

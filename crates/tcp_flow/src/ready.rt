@@ -1,4 +1,6 @@
-//! Readers and writers that never wait: where the device isn't ready they answer so.
+//! The traits of readers and writers that never wait; `Direction` calls them, and `ReadyStream` implements them.
+//!
+//! Where the device isn't ready they answer so.
 
 ghost use Rattle.std.specs.Prelude.{◌≡◌, ℕ, ◌<◌, ◌≤◌, List, [], length, take, IfErr, IfOk, OnErr, OnOk};
 ghost use Rattle.byte_ports.specs.Bytes.{Grows, IsAtEnd, Takes};

@@ -1,4 +1,4 @@
-//! A port that doesn't wait over a stream of std, whose bytes no contract sees.
+//! A port that doesn't wait over a stream of std, whose bytes no contract sees; `tcp_link` puts its sockets into it.
 
 ghost use Rattle.std.specs.Prelude.{◌≡◌, ◌<◌, ◌≤◌, length, IfOk};
 ghost use Rattle.std.specs.IoError.{error_kind};

@@ -1,4 +1,4 @@
-//! What comes of a turn of a direction.
+//! What comes of a turn of a direction: its step, or the cause of its failure; `tcp_link` acts by it.
 
 ghost use Rattle.std.specs.Prelude.{◌≡◌};
 ghost use Rattle.tcp_flow.specs.Turns.{is_last};

@@ -1,4 +1,4 @@
-//! An address as the system reads it.
+//! An address in the bytes that the system reads; `ServerSocket` connects by it.
 
 ghost use Rattle.std.specs.Prelude.{◌≡◌, ◌≤◌, pos};
 ghost use Rattle.tcp_link.specs.Addresses.{family, fields, head_v6, padded, socket_address};

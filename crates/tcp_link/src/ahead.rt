@@ -1,4 +1,4 @@
-//! What is known of the bytes that a peer still sends.
+//! What is known of the bytes that a peer still sends; `Ready` tells it, and a direction's reads (`Incoming`) go by it.
 
 ghost use Rattle.std.specs.Prelude.{◌≡◌};
 ghost use Rattle.tcp_link.specs.Aheads.{ahead_of, ahead_with, is_last, is_until_empty};

@@ -1,4 +1,4 @@
-//! What bytes pass through.
+//! The buffer through which bytes pass; each worker of `tcp_relay` makes one for all its connections.
 
 ghost use Rattle.std.specs.Prelude.{◌≡◌, IfOk, vec_len};
 

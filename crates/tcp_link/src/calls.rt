@@ -1,4 +1,4 @@
-//! What a call of the system has come to.
+//! The error of a system call that has failed; `Keepalive` and `ServerSocket` check their calls by it.
 
 ghost use Rattle.std.specs.Prelude.{◌↔◌, pos, ◌≤ℤ◌, IsOk};
 

@@ -1,4 +1,4 @@
-//! How the sockets of a connection are closed.
+//! Which sockets of a connection are closed by a reset; `Link` decides by it as it closes.
 
 ghost use Rattle.std.specs.Prelude.{◌≡◌};
 ghost use Rattle.tcp_link.specs.Closing.{closing, lost_bytes, reader_failed, writer_failed};

@@ -1,4 +1,4 @@
-//! One end of a connection.
+//! One end of a connection: its socket, and what is known of it; `Link` has two, and `Way` reads and writes them.
 
 ghost use Rattle.std.specs.Prelude.{◌≡◌, false, max, true};
 ghost use Rattle.tcp_link.specs.Silence.{heard_last, is_silent};

@@ -1,4 +1,4 @@
-//! What a peer sends, as it is read of its socket.
+//! What a peer sends, as it is read of the socket; `Way` reads through it.
 
 ghost use Rattle.std.specs.Prelude.{◌≡◌, ◌&&◌, Ok, true, false, length, nat_lt, IfOk, OnErr};
 ghost use Rattle.std.specs.Io.{ReadsAtMost};

@@ -1,4 +1,5 @@
-//! When a silent peer is asked whether it is still there.
+//! When the system asks a silent peer whether it is still there; `tcp_proxy` sets it on the listener, `ServerSocket` on its
+//! socket.
 
 ghost use Rattle.std.specs.Prelude.{◌≡◌, pos};
 ghost use Rattle.libc.specs.Net.{SockOption};

@@ -1,7 +1,8 @@
-//! The two sockets of a connection, none of which waits, and what goes between them.
+//! The two sockets of a connection, none of which waits, and the bytes between them; `tcp_relay` holds a `Link` per admitted
+//! connection.
 //!
-//! The contracts say what a link counts, when it was heard last, when it is late and when it is over, when each side is told
-//! that the other has ended, and that in each direction what was read is what was written and what waits. What sockets give
+//! The contracts say what a link counts, when it was heard last, when it is late and when it is over. They say when each side is
+//! told that the other has ended, and that in each direction what was read is what was written and what waits. What sockets give
 //! and take, and whether they are reported, no contract can say: a link whose sockets are never ready meets its contracts too.
 #![tactic(auto)]
 

@@ -1,4 +1,4 @@
-//! A connection between two sockets.
+//! A connection between two sockets: it begins, has turns, and closes; `tcp_relay` calls it for each admitted client.
 
 ghost use Rattle.std.specs.Prelude.{◌≡◌, ◌≢◌, ◌||◌, true, false, IfSome, IsTrue, OnOk};
 ghost use Rattle.tcp_link.specs.Closing.{closing};

@@ -1,4 +1,4 @@
-//! What is reported of a connection.
+//! What the system reports of a connection's sockets; `tcp_relay` makes it of an event and gives it to `Link::turn`.
 
 ghost use Rattle.std.specs.Prelude.{◌≡◌};
 ghost use Rattle.mio.specs.Event.{event_token, is_error};

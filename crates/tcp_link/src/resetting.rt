@@ -1,4 +1,4 @@
-//! Closing a connection by a reset.
+//! The close of a connection by a reset; `tcp_relay` resets rejected clients, and `End` what has failed.
 
 use libc::net::{_SS_SIZE, connect};
 use mio::net::TcpStream;

@@ -1,4 +1,4 @@
-//! A socket that isn't connected to its server yet.
+//! A socket that isn't connected to its server yet; `tcp_relay` opens one before it accepts a client.
 
 ghost use Rattle.std.specs.Prelude.{◌≡◌, IfOk};
 

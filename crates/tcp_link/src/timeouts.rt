@@ -1,4 +1,4 @@
-//! How long a connection may be silent.
+//! How long a connection may be silent; `stickd` makes it of the command line, and `Link` goes by it.
 
 ghost use Rattle.std.specs.Prelude.{◌≡◌};
 ghost use Rattle.tcp_link.specs.Silence.{limit_at_end};

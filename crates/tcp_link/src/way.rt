@@ -1,4 +1,4 @@
-//! One direction of a connection between two sockets.
+//! One direction of a connection between two sockets; `Link` has one there and one back.
 
 use crate::buffer::ROOM;
 use crate::end::End;

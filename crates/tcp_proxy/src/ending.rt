@@ -1,4 +1,4 @@
-//! The tables of a setup are settled, once nobody calls them any more.
+//! The tables of a setup are settled once nobody calls them; `running` calls it.
 
 use rule_model::Setup;
 use shard_book::{Seat, TrackRef};

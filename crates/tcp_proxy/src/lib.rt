@@ -1,4 +1,4 @@
-//! The proxy: the tables of a setup, shared by the workers of its listener, by its command socket and by its housekeeping.
+//! The proxy at work: the tables of a setup, shared by its listener's workers, command socket and housekeeping; `stickd` runs it.
 #![tactic(auto)]
 
 mod ending;

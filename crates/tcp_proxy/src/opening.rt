@@ -1,4 +1,4 @@
-//! The tables of a setup are opened, for threads to share.
+//! The tables of a setup are opened for threads to share; `running` calls it first.
 
 ghost use Rattle.std.specs.Prelude.{◌≡◌, ◌≤◌, ◌+◌, ◌++◌, ◌∷◌, [], length, vec_len, IfOk, OnOk};
 ghost use Rattle.stick_model.specs.Limits.{IsTableSpec};

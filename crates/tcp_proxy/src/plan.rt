@@ -1,4 +1,4 @@
-//! What a run of the proxy is asked.
+//! What a run of the proxy is asked; `stickd` makes it of the command line, and `running` and `sockets` go by it.
 
 use tcp_relay::Limits;
 

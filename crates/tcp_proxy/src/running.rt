@@ -1,4 +1,4 @@
-//! The proxy runs: its tables are opened, its sockets bound, its threads started, and in the end its tables are settled.
+//! A run of the proxy: tables opened, sockets bound, threads started, and in the end tables settled; `stickd` calls `run_pooled`.
 
 ghost use Rattle.std.specs.Prelude.{◌≡◌, ◌≤◌, length, is_some, true};
 ghost use Rattle.admit_drive.specs.Tables.{CanOpen};

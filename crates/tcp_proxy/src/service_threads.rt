@@ -1,4 +1,5 @@
-//! What is done beside the listener, each by a thread of its own: commands are answered, and tables are kept.
+//! The threads beside the listener: one does housekeeping, others answer commands; `running` makes them, and `serving` starts
+//! them.
 
 use crate::shared::{ProxyRuntime, Shared};
 use base_clock::RunningClock;

@@ -1,4 +1,4 @@
-//! The threads of the proxy, until it stops.
+//! The threads of the proxy, until it stops; `running` calls it.
 
 ghost use Rattle.std.specs.Prelude.{◌≡◌, length};
 ghost use Rattle.tcp_relay.specs.Serving.{AreSeats};

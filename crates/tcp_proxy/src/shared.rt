@@ -1,4 +1,4 @@
-//! What the threads of the proxy share.
+//! What the threads of the proxy share; `running` makes it, and `serving` and `service_threads` read it.
 
 ghost use Rattle.std.specs.Prelude.{◌≡◌, ◌≤◌, is_some, true};
 ghost use Rattle.tcp_relay.specs.Serving.{AreTablesOf};

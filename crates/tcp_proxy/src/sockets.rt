@@ -1,4 +1,4 @@
-//! Where connections and commands come in.
+//! Where connections and commands come in; `running` binds both by it.
 
 ghost use Rattle.std.specs.Prelude.{◌≡◌};
 ghost use Rattle.tcp_proxy.specs.Backlog.{fewer_than};

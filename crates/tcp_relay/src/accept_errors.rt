@@ -1,4 +1,4 @@
-//! What an error of accepting a client means.
+//! What an error of accepting a client means; `turning` asks it, and `Acceptor` goes by it.
 
 ghost use Rattle.std.specs.Prelude.{◌≡◌};
 ghost use Rattle.tcp_relay.specs.Accepting.{fault_of, is_of_one_client};

@@ -1,4 +1,4 @@
-//! When a worker accepts clients, and how long it may wait.
+//! When a worker accepts clients, and how long it may wait; `turning` asks it in each turn.
 
 ghost use Rattle.std.specs.Prelude.{◌≡◌, ◌≢◌, ◌&&◌, true, false, is_some};
 ghost use Rattle.tcp_relay.specs.Accepting.{can_accept, pause_of};

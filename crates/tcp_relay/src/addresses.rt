@@ -1,4 +1,4 @@
-//! The addresses of the standard library, and those of rules.
+//! The addresses of the standard library and of rules, converted; `tcp_proxy` binds by it, and `visiting` samples the client.
 
 ghost use Rattle.std.specs.Prelude.{◌≡◌};
 ghost use Rattle.std.specs.Net.Socket.{socket_ip, socket_port, IsPlainSocket};

@@ -1,4 +1,4 @@
-//! What a thread needs to wait for its connections and to carry their bytes.
+//! What a thread needs to wait for its connections and to carry their bytes; `reserved` makes it, and `turning` uses it.
 
 ghost use Rattle.std.specs.Prelude.{◌≡◌, IfOk, length};
 

@@ -1,4 +1,4 @@
-//! A connection that a worker holds.
+//! A connection that a worker holds, open or kept for its references; `Places` holds them, and `leaving` takes what is left.
 
 ghost use Rattle.std.specs.Prelude.{◌≡◌, true, is_some, IfOk};
 ghost use Rattle.admit_core.specs.Conn.{needed};

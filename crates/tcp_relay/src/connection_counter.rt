@@ -1,4 +1,4 @@
-//! What all workers share where connections come in.
+//! What all workers share where connections come in: the numbers of connections and the turns; `Acceptor` draws from it.
 
 ghost use Rattle.std.specs.Prelude.{◌≡◌, ◌+◌, ◌≤◌, IfNone, IfSome};
 ghost use Rattle.tcp_relay.specs.Numbers.{last_of};

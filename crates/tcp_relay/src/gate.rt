@@ -1,4 +1,5 @@
-//! Where connections can be watched or held.
+//! The trait `Gate`, where connections can be watched or held; `visiting` passes each through it, and `tcp_proxy`'s is always
+//! open.
 
 /// What sees each connection between its verdict and the release of its references.
 pub trait Gate {

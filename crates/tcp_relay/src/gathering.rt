@@ -1,4 +1,4 @@
-//! Seats go to workers, and come back with what those have done.
+//! Seats given to workers, and taken back with what those have done; `serve` calls it before the threads and after them.
 
 ghost use Rattle.std.specs.Prelude.{◌≡◌, ◌≤◌, ◌*◌, ◌^◌, length, vec_capacity, vec_len};
 ghost use Rattle.tcp_relay.specs.Accepting.{most_of};

@@ -1,4 +1,4 @@
-//! Laws of the definitions.
+//! Laws of shares and of looks for silent peers; each is the contract of an empty function, which no code calls.
 
 ghost use Rattle.tcp_relay.specs.Accepting.{SharesLaw};
 ghost use Rattle.tcp_relay.specs.Sweeps.{LookLaw};

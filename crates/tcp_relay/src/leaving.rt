@@ -1,4 +1,4 @@
-//! What a connection still holds when it leaves.
+//! What a connection still holds when it leaves; `visiting` lets it go, and `worker` takes what is left.
 
 ghost use Rattle.std.specs.Prelude.{◌≡◌, ◌≤◌, ◌<◌, ◌+◌, ◌*◌, ℕ, false, IfNone, IfSome, None, length, map, option_map, vec_len};
 ghost use Rattle.rule_model.specs.declared.actions.Slot.TheVariants.{Sc0, Sc1, Sc2};

@@ -1,8 +1,9 @@
-//! Connections that come to a listener, each judged by the rules over tables that threads share, carried to the server and
-//! back, and counted.
+//! The listener's side: clients are judged, carried to the server and back, and counted; `tcp_proxy` serves its listener by it.
 //!
-//! What sockets give and take, and what other threads do, no contract can say. So this crate is thin: what is judged and
-//! counted is done below it.
+//! The rules judge over tables that threads share.
+//!
+//! What sockets give and take, and what other threads do, no contract can say. So this crate is thin: what is judged and counted
+//! is done below it.
 #![tactic(auto)]
 
 mod accept_errors;

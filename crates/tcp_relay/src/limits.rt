@@ -1,4 +1,4 @@
-//! How much is served at once, and how long.
+//! How much is served at once, and how long; `stickd` makes it of the command line, and `serve` goes by it.
 
 use tcp_link::{Keepalive, Timeouts};
 

@@ -1,8 +1,8 @@
-//! Whose turn it is at the listener.
+//! Whose turn it is at the listener; `turning` begins and ends a worker's part, and `serving` makes it.
 //!
 //! If all idle workers watched the listener, each connection would wake all of them, and one would get it. So one watches it: the
-//! one that has been idle longest. Once it has accepted a connection, the next takes over, before the rules and the gate are asked.
-//! So a worker that is busy, or blocked, or can take no more keeps nobody from what comes next.
+//! one that has been idle longest. Once it has accepted a connection, the next takes over, before the rules and the gate are
+//! asked. So a worker that is busy, or blocked, or can take no more keeps nobody from what comes next.
 
 ghost use Rattle.std.specs.Prelude.{◌≡◌, ◌⊎◌, ◌++◌, ◌∷◌, [], true, false, None, Some, IfNone, IfSome};
 ghost use Rattle.tcp_relay.specs.ListenerTurns.{first_of, without};

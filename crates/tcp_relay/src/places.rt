@@ -1,4 +1,4 @@
-//! The connections that a worker holds.
+//! The connections that a worker holds, by their places' numbers; `worker` keeps them, and `turning` gives them turns.
 
 ghost use Rattle.std.specs.Prelude.{◌≡◌, ◌≤◌, ◌==◌, ◌||◌, not, nat_lt, length, IfSome, None, Some, slice_get, vec_capacity, vec_len};
 ghost use Rattle.admit_core.specs.Conn.{needed};

@@ -1,4 +1,4 @@
-//! The memory that serving takes, all of it before any worker starts.
+//! The memory that serving takes, all of it before any worker starts; `serve` takes it first.
 
 ghost use Rattle.std.specs.Prelude.{◌≡◌, ◌≤◌, ◌*◌, ◌^◌, IfOk, length, vec_capacity, vec_len};
 ghost use Rattle.tcp_relay.specs.Seating.{HaveEach};

@@ -1,4 +1,4 @@
-//! What serving asks of the system.
+//! What serving asks of the system, as the trait `ServeRuntime`; `serve`, `turning` and `visiting` want it.
 
 use std::net::{Net, TcpListener, TcpStream};
 use std::sync::Wait;

@@ -1,4 +1,7 @@
-//! Lists for each table: its seats, of which each worker takes one, and the references that come back.
+//! Lists of each table's seats, and of the references that come back; `reserved` makes them, and `gathering` and `worker` move
+//! seats.
+//!
+//! Each worker takes one seat of each table.
 
 ghost use Rattle.std.specs.Prelude.{◌≡◌, ◌+◌, ◌≤◌, ◌<◌, ℕ, All, IfOk, length, slice_index, vec_capacity, vec_len};
 ghost use Rattle.tcp_relay.specs.Seating.{HaveEach, HaveFew, HaveRoom, held_in, put_in};

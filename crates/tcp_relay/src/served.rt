@@ -1,4 +1,4 @@
-//! What serving comes to.
+//! What serving comes to; `serve` answers it, and `tcp_proxy` prints it and settles by it.
 
 use shard_book::{Seat, TrackRef};
 

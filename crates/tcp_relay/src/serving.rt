@@ -1,4 +1,4 @@
-//! A listener's workers, each on a thread of its own.
+//! A listener's workers, each on a thread of its own; `tcp_proxy` calls `serve`.
 
 ghost use Rattle.std.specs.Prelude.{◌≡◌, ◌≤◌, IfErr, IfOk, is_some, length, true, false, vec_len};
 ghost use Rattle.tcp_relay.specs.Accepting.{most_of};

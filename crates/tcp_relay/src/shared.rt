@@ -1,4 +1,4 @@
-//! What all workers share.
+//! What all workers share by reference; `serving` makes it, and `turning` and `visiting` read it.
 
 ghost use Rattle.std.specs.Prelude.{◌≡◌};
 ghost use Rattle.tcp_relay.specs.Serving.{AreTablesOf};

@@ -1,4 +1,4 @@
-//! How connections are shared out among workers.
+//! How connections are shared out among workers; `gathering` and `serving` call it.
 
 ghost use Rattle.std.specs.Prelude.{◌≡◌, ◌≤◌, ◌^◌};
 ghost use Rattle.tcp_relay.specs.Accepting.{most_of, share_of};

@@ -1,8 +1,8 @@
-//! When a worker looks for silent peers.
+//! When a worker looks for silent peers; `turning` asks it after each poll.
 //!
 //! A peer is late only where nothing was there to be read from it. So silence is judged as of a moment that has passed, once all
-//! that was ready then has been told and read. A poll that returns with room for more has told all that was ready as it
-//! began. The system tells in turn what is ready (epoll(7)), so that as many full polls as all sockets fill have told it too.
+//! that was ready then has been told and read. A poll that returns with room for more has told all that was ready as it began.
+//! The system tells in turn what is ready (epoll(7)), so that as many full polls as all sockets fill have told it too.
 
 ghost use Rattle.std.specs.Prelude.{◌≡◌, None};
 ghost use Rattle.tcp_relay.specs.Sweeps.{counts_from, due_behind, due_next, is_stall, is_told, left_of, looks_as_of, swept_at, swept_behind, told_of};

@@ -1,4 +1,4 @@
-//! A worker's connections, each in its turn.
+//! A worker's connections, each in its turn; `serving` calls `turn_all` in each worker's loop.
 
 ghost use Rattle.std.specs.Prelude.{◌≡◌, Some, None, slice_get};
 

@@ -1,4 +1,4 @@
-//! One connection, from where it was accepted to the release of its references.
+//! One connection, from its acceptance to the release of its references; `turning` judges, closes and ends by it.
 
 ghost use Rattle.std.specs.Prelude.{◌≡◌, true, IfSome, Some, None, length, slice_get};
 ghost use Rattle.admit_core.specs.Conn.{needed, progress_of};

@@ -1,4 +1,4 @@
-//! What a worker waits for.
+//! What a worker waits for; `turning` waits by it, and `listener_turn` registers the listener with its tokens.
 
 use crate::acceptor::Pause;
 use crate::sweep::TICK;

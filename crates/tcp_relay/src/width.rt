@@ -1,4 +1,4 @@
-//! What is known of all workers.
+//! What is known of all workers, as the trait `Width`; the types of workers, connections and lists are made by it.
 
 ghost use Rattle.std.specs.Prelude.{ℕ, List, []};
 ghost use Rattle.shard_locks.specs.ShardsState.{ShardsState};

@@ -1,4 +1,4 @@
-//! What a worker has done, and what it holds.
+//! What a worker has done, and what it holds; `gathering` makes it and takes it apart, and `turning` and `visiting` use it.
 
 ghost use Rattle.std.specs.Prelude.{◌≡◌, ◌+◌, ◌*◌, ◌==◌, ◌&&◌, ◌||◌, ℕ, not, if◌then◌else◌, length, map, option_map, vec_capacity, vec_len};
 ghost use Rattle.tcp_relay.specs.Counts.{more, sum};

@@ -1,4 +1,4 @@
-//! The groups of an IPv6 address, and its bytes.
+//! The groups of an IPv6 address, and its bytes; `reader` and `printer` convert by them.
 ghost use Rattle.std.specs.Prelude.{◌≡◌, ◌<◌, ◌≤◌, ◌++◌, [], ◌∷◌, length, flat_map};
 ghost use Rattle.std.specs.Option.{SomeIff};
 ghost use Rattle.stick_key.specs.Ipv6Text.{group_bytes, pairs};

@@ -1,4 +1,5 @@
-//! IPv6 addresses that stand for IPv4 ones (RFC 4291, section 2.5.5.2).
+//! IPv6 addresses that stand for IPv4 ones (RFC 4291, section 2.5.5.2); `printer`, `sample`, `rule_addresses` and `rule_eval`
+//! call it.
 ghost use Rattle.std.specs.Prelude.{◌≡◌, ◌++◌, Some, None, drop, if◌then◌else◌};
 ghost use Rattle.stick_key.specs.Ipv6Printed.{is_mapped, mapped_prefix};
 

@@ -1,4 +1,4 @@
-//! IPv6 addresses printed (RFC 5952, section 4).
+//! IPv6 addresses printed (RFC 5952, section 4); `text` prints keys by it, and `sample` address texts.
 ghost use Rattle.std.specs.Prelude.{◌≡◌, ◌+◌, ◌<◌, ◌≤◌, ◌++◌, false, length, codes, IfOk, OnOk};
 ghost use Rattle.std.specs.Fmt.{digits};
 ghost use Rattle.stick_key.specs.Dotted.{dotted};

@@ -1,4 +1,4 @@
-//! IPv6 addresses read from their texts (RFC 4291, section 2.2).
+//! IPv6 addresses read from their texts (RFC 4291, section 2.2); `text` calls it, and `rule_addresses` from outside.
 ghost use Rattle.std.specs.Prelude.{◌≡◌, ◌==◌, ◌≢◌, ◌+◌, ◌-◌, ◌<◌, ◌≤◌, ◌++◌, [], ◌∷◌, length, IfSome, IfNone, List, ℕ, true, replicate};
 ghost use Rattle.std.specs.Bool.{OnTrue, OnFalse};
 ghost use Rattle.std.specs.List.{slice_split};

@@ -1,5 +1,4 @@
-//! What changes a plain table: the clock, data that are set or counted, references that are given back, entries that
-//! are removed.
+//! What changes a plain table: time, data set or counted, references given back, entries removed; `PlainTable::step` calls it.
 ghost use Rattle.std.specs.Prelude.{◌≡◌, ◌≢◌, ◌+◌, ◌<◌, ◌^◌, IfOk, IsOk, OnErr, None, true, false, length};
 ghost use Rattle.stick_model.specs.State.{key_of};
 ghost use Rattle.stick_model.specs.Limits.{IsTableEvent};

@@ -1,4 +1,4 @@
-//! Which records a filter means.
+//! Which records a filter means; `changes` clears by it, and `rows` lists.
 ghost use Rattle.std.specs.Prelude.{◌≡◌, ◌<◌, ◌^◌, filter, not, count_by, true, false};
 ghost use Rattle.stick_model.specs.declared.replies.Reply.TheVariants.{Cleared};
 ghost use Rattle.stick_model.specs.Filters.{passes as passes_filter, not_stored as not_stored_in, compares as compares_by, is_matched};

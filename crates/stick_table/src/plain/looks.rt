@@ -1,4 +1,4 @@
-//! What a plain table shows: of a key, of a ticket, and a listing.
+//! What a plain table shows: of a key, of a ticket, and a listing; `PlainTable::step` calls it.
 ghost use Rattle.std.specs.Prelude.{◌≡◌, ◌<◌, ◌+◌, ◌^◌, IfOk, OnOk, OnErr, length};
 ghost use Rattle.stick_model.specs.Step.{begun, get as reply_to_get, look as reply_to_look, list as reply_to_list};
 ghost use Rattle.stick_table.specs.Replies.{shown_reply, looked_reply, listed_reply};

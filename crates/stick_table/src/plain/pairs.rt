@@ -1,4 +1,4 @@
-//! Data that are put.
+//! Data that are put: whether they can be, and their values; `changes` calls it.
 ghost use Rattle.std.specs.Prelude.{◌≡◌};
 ghost use Rattle.stick_model.specs.Step.{put_fault as put_fault_of, put_pairs as put_pairs_of};
 

@@ -1,4 +1,4 @@
-//! Records with their keys, in the order of the keys.
+//! Records with their keys, in the order of the keys; all parts of the plain table find and change them by it.
 ghost use Rattle.std.specs.Prelude.{◌≡◌, ◌≢◌, ◌+◌, ◌≤◌, ◌<◌, ◌++◌, ◌^◌, length, filter, not, take, drop, IfOk, vec_len, vec_capacity, slice_index_or, true, unwrap_or};
 ghost use Rattle.std.specs.Option.{option_copied, option_and_then};
 ghost use Rattle.std.specs.BTreeMap.{insert_entry};

@@ -1,4 +1,4 @@
-//! References that are made.
+//! References that are made; `PlainTable::step` calls it for `Track`.
 ghost use Rattle.std.specs.Prelude.{◌≡◌, ◌+◌, ◌≤◌, ◌<◌, ◌^◌, IfOk, OnErr, max, length};
 ghost use Rattle.stick_model.specs.State.{refs, row_of};
 ghost use Rattle.stick_model.specs.Step.{begun, connected as connected_record, track as reply_to_track};

@@ -1,4 +1,4 @@
-//! Room for one more record.
+//! Room for one more record, by a purge of the oldest; `changes` and `references` store records by it.
 ghost use Rattle.std.specs.Prelude.{◌≡◌, ◌≤◌, ◌<◌, MatchBool, vec_len, vec_capacity, Some, None, max, unwrap_or, if◌then◌else◌};
 ghost use Rattle.std.specs.Bool.{OnFalse};
 ghost use Rattle.stick_model.specs.Room.{count_older as count_older_of, is_purged as is_purged_entry, purged, all_tracked as are_all_tracked, room_in, stored_in};

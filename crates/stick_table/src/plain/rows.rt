@@ -1,4 +1,4 @@
-//! What is shown of records.
+//! The rows that a plain table shows of its records; `looks` and `references` call it.
 ghost use Rattle.std.specs.Prelude.{◌≡◌, ◌≤◌, ◌<◌, ◌^◌, length, IfOk};
 ghost use Rattle.stick_model.specs.State.{row_of};
 ghost use Rattle.stick_table.specs.Replies.{listed_rows};

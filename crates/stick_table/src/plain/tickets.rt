@@ -1,4 +1,4 @@
-//! References: tickets with their keys, the oldest first.
+//! References: tickets with their keys, the oldest first; all parts of the plain table find and change them by it.
 ghost use Rattle.std.specs.Prelude.{◌≡◌, ◌≢◌, ◌+◌, ◌≤◌, ◌<◌, ◌++◌, ◌∷◌, [], length, filter, not, MatchOption, IfOk, vec_len, vec_capacity, None, true};
 ghost use Rattle.std.specs.Option.{option_copied};
 ghost use Rattle.stick_model.specs.State.{same_ticket, key_of, refs as refs_of, is_tracked as is_key_tracked, is_free as is_slot_free};

@@ -1,4 +1,4 @@
-//! The steps of a flow between ports that don't wait.
+//! The steps of a flow between ports that don't wait; `Direction` and `carries` make them.
 
 ghost use Rattle.std.specs.Prelude.{◌≡◌, ◌<◌, ◌≤◌, [], length, OnOk, OnErr, IfErr, IfOk};
 ghost use Rattle.byte_ports.specs.Bytes.{Grows};

@@ -7,7 +7,7 @@ use Rattle.stored_data.proofs.WordColumns.{nothing_kept, leaves_all, past_all, c
 use Rattle.stored_data.proofs.words.edit_column.Goals as goal
 
 pub returns-then-keeps-clause-fields : goal.returns-then-keeps-clause-fields
-returns-then-keeps-clause-fields c = leaves_all c.args.column c.args.edit 0 (size c.args.column) c.args.words.now c.args.at (edited-keeps c.args.edit c.args.column.datum (sym c.change-change.ensures ∙ c.keeps.ensures.0 c.if-keeps.true))
+returns-then-keeps-clause-fields c = leaves_all c.args.column c.args.edit c.args.words.now c.args.at (edited-keeps c.args.edit c.args.column.datum (sym c.change-change.ensures ∙ c.keeps.ensures.0 c.if-keeps.true))
 
 pub returns-then-not-is_kept-clause-fields : goal.returns-then-not-is_kept-clause-fields
 returns-then-not-is_kept-clause-fields c =
@@ -16,7 +16,7 @@ returns-then-not-is_kept-clause-fields c =
 
 pub returns-then-index-size-clause-fields : goal.returns-then-index-size-clause-fields
 returns-then-index-size-clause-fields c =
-    past_all c.args.column c.args.edit 0 (size c.args.column) c.args.words.now c.args.at (omega (arith, c.index_in-index.ensures, c.size.ensures, c.if-index-size.true))
+    past_all c.args.column c.args.edit c.args.words.now c.args.at (omega (arith, c.index_in-index.ensures, c.size.ensures, c.if-index-size.true))
 
 pub change_at-requires-clause-kept : goal.change_at-requires-clause-kept
 change_at-requires-clause-kept c = sym c.is_kept.ensures ∙ c.if-not-is_kept.false
