@@ -186,7 +186,7 @@ fn free_slot(tracks: &[Track]) -> Option<u8> {
 }
 
 /// What is served of a file, as is wished.
-pub fn make_plan(
+pub(crate) fn make_plan(
     alloc: Global,
     lines: Vec<SourceLine>,
     files: Vec<PatternFile>,

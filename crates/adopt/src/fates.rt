@@ -230,7 +230,7 @@ fn fate_of(
 }
 
 /// What becomes of each line of a file, in order.
-pub fn fates_of(
+pub(crate) fn fates_of(
     alloc: Global,
     plan: &Plan,
     options: &[CommandOption],

@@ -1,11 +1,11 @@
 //! The adoption of a named file: what is read, and what is written where; `stickd` calls `adopt_file`.
 
 use crate::adoption::{Adoption, adopt, wanted_files};
-use crate::lexer::Variable;
 use crate::plan::{PatternFile, Wishes};
 use crate::report::report_of;
 use crate::status::SAME;
 use crate::texts::{append, append_str, copy_text};
+use crate::variables::Variable;
 use base_sequence::NoMemory;
 use std::alloc::Global;
 use std::env::VarError;

@@ -1,23 +1,14 @@
-//! The words of a line, as HAProxy reads them; `adoption` calls `read_lines`, and the plan keeps its lines.
+//! The words of a line, as HAProxy reads them; `source_lines` calls `read_line`, and the plan keeps its lines.
 //!
 //! Quotes, escapes and variables are resolved (HAProxy Configuration Manual 2.6, sections 2.2 and 2.3).
 
 ghost use Rattle.std.specs.Prelude.{◌≡◌, IfOk};
-ghost use Rattle.adopt.specs.Lines as spec;
-ghost use Rattle.adopt.specs.Lines.{own_lines, own_raws, texts_of};
 
 use crate::texts::{Words, copy_text};
-use base_lines::{Parts, without_cr};
+use crate::variables::{Variable, value_of};
 use base_sequence::NoMemory;
 use std::alloc::Global;
 use std::mem;
-
-/// A variable of the environment, which double quotes resolve.
-#[derive(Drop)]
-pub struct Variable {
-    pub name: Vec<u8>,
-    pub value: Vec<u8>,
-}
 
 /// A line of a file.
 #[derive(Drop)]
@@ -121,16 +112,6 @@ fn part_of(line: &[u8], start: usize, end: usize) -> &[u8] {
     } else {
         b""
     }
-}
-
-/// The value of a variable.
-fn value_of<'a>(variables: &'a [Variable], name: &[u8]) -> Option<&'a [u8]> {
-    for variable in variables {
-        if variable.name.as_slice() == name {
-            return Some(variable.value.as_slice());
-        }
-    }
-    None
 }
 
 impl Lexer {
@@ -322,7 +303,11 @@ impl Lexer {
 }
 
 /// The words of a line.
-fn read_line(alloc: Global, line: &[u8], variables: &[Variable]) -> Result<SourceLine, NoMemory>
+pub(crate) fn read_line(
+    alloc: Global,
+    line: &[u8],
+    variables: &[Variable],
+) -> Result<SourceLine, NoMemory>
     ensures { IfOk result (λ read. read.raw.items ≡ line.now) }
 {
     let mut lexer = Lexer::new(alloc);
@@ -333,81 +318,4 @@ fn read_line(alloc: Global, line: &[u8], variables: &[Variable]) -> Result<Sourc
         }
     }
     lexer.finish(alloc, copy_text(alloc, line)?)
-}
-
-/// Notes a variable that a line of `global` sets.
-fn note_variable(
-    alloc: Global,
-    line: &SourceLine,
-    variables: &mut Vec<Variable>,
-) -> Result<(), NoMemory> {
-    let [keyword, name, value] = line.words.as_slice() else {
-        return Ok(());
-    };
-    let presets = keyword.as_slice() == b"presetenv".as_slice();
-    if keyword.as_slice() != b"setenv".as_slice() && !presets {
-        return Ok(());
-    }
-    if value_of(variables.as_slice(), name.as_slice()).is_some() && presets {
-        return Ok(());
-    }
-    let variable = Variable {
-        name: copy_text(alloc, name.as_slice())?,
-        value: copy_text(alloc, value.as_slice())?,
-    };
-    variables.insert(0, variable)?;
-    Ok(())
-}
-
-/// Whether a part is an empty one behind the last line end.
-fn is_end(part: &[u8], parts: &Parts<'_>) -> bool
-    ensures { result ≡ spec.is_end part.now parts.now }
-{
-    part.is_empty() && parts.is_done()
-}
-
-/// The lines of a text, without their ends.
-fn split_lines(alloc: Global, text: &[u8]) -> Result<Vec<Vec<u8>>, NoMemory>
-    ensures { IfOk result (λ lines. texts_of lines.items ≡ own_lines text.now) }
-{
-    let mut parts = Parts::new(text, b'\n');
-    let mut lines = Vec::new(alloc);
-    while let Some(part) = parts.next() {
-        if is_end(part, &parts) {
-            return Ok(lines);
-        }
-        lines.push(copy_text(alloc, without_cr(part))?)?;
-    }
-    Ok(lines)
-}
-
-/// A copy of variables.
-fn copy_variables(alloc: Global, environment: &[Variable]) -> Result<Vec<Variable>, NoMemory> {
-    let mut variables = Vec::new(alloc);
-    for variable in environment {
-        variables.push(Variable {
-            name: copy_text(alloc, variable.name.as_slice())?,
-            value: copy_text(alloc, variable.value.as_slice())?,
-        })?;
-    }
-    Ok(variables)
-}
-
-/// The lines of a file with their words, by these variables and those that its lines `setenv` and `presetenv` set.
-pub fn read_lines(
-    alloc: Global,
-    text: &[u8],
-    environment: &[Variable],
-) -> Result<Vec<SourceLine>, NoMemory>
-    ensures { IfOk result (λ lines. own_raws lines.items ≡ own_lines text.now) }
-{
-    let mut variables = copy_variables(alloc, environment)?;
-    let raws = split_lines(alloc, text)?;
-    let mut lines = Vec::new(alloc);
-    for raw in &raws {
-        let line = read_line(alloc, raw.as_slice(), variables.as_slice())?;
-        note_variable(alloc, &line, &mut variables)?;
-        lines.push(line)?;
-    }
-    Ok(lines)
 }

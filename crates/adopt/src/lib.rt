@@ -35,11 +35,13 @@ mod rule_lines;
 mod rules;
 mod sections;
 mod servers;
+mod source_lines;
 mod standing;
 mod status;
 mod tables;
 mod texts;
 mod values;
+mod variables;
 mod written;
 
 pub use adoption::{Adoption, adopt, wanted_files};

@@ -290,7 +290,7 @@ fn add_sockets(
 }
 
 /// The options that stand for lines of a file.
-pub fn command_options(alloc: Global, plan: &Plan) -> Result<Vec<CommandOption>, NoMemory> {
+pub(crate) fn command_options(alloc: Global, plan: &Plan) -> Result<Vec<CommandOption>, NoMemory> {
     let mut found = Found {
         options: Vec::new(alloc),
     };

@@ -70,7 +70,7 @@ pub struct Plan {
 
 impl Plan {
     /// The name of the frontend that is served.
-    pub fn frontend_name(&self) -> &[u8] {
+    pub(crate) fn frontend_name(&self) -> &[u8] {
         match self.frontend {
             Some(place) => self.new_name(place),
             None => b"",
@@ -78,35 +78,38 @@ impl Plan {
     }
 
     /// The words of a line.
-    pub fn words(&self, line: usize) -> &[Vec<u8>] {
+    pub(crate) fn words(&self, line: usize) -> &[Vec<u8>] {
         match self.lines.get(line) {
             Some(source) => source.words.as_slice(),
             None => &[],
         }
     }
 
-    pub fn section(&self, place: usize) -> Option<&Section> {
+    /// The section at a place.
+    pub(crate) fn section(&self, place: usize) -> Option<&Section> {
         self.sections.get(place)
     }
 
     /// The name that a section has in what is written.
-    pub fn new_name(&self, place: usize) -> &[u8] {
+    pub(crate) fn new_name(&self, place: usize) -> &[u8] {
         match self.sections.get(place) {
             Some(section) => section.new_name.as_slice(),
             None => b"",
         }
     }
 
-    pub fn is_frontend(&self, place: usize) -> bool {
+    /// Whether the section at a place is the frontend that is served.
+    pub(crate) fn is_frontend(&self, place: usize) -> bool {
         self.frontend == Some(place)
     }
 
-    pub fn is_backend(&self, place: usize) -> bool {
+    /// Whether the section at a place is the one whose server it has.
+    pub(crate) fn is_backend(&self, place: usize) -> bool {
         self.backend == Some(place)
     }
 
     /// The section of this name that has a table.
-    pub fn table_section(&self, name: &[u8]) -> Option<usize> {
+    pub(crate) fn table_section(&self, name: &[u8]) -> Option<usize> {
         for (place, section) in self.sections.iter().enumerate() {
             if section.has_table && section.name.as_slice() == name {
                 return Some(place);
@@ -117,7 +120,7 @@ impl Plan {
 
     /// The last line of a section, or of the defaults that it has, which begins with these words; any second word
     /// where that is empty.
-    pub fn effective(&self, place: usize, keyword: &str, second: &str) -> Option<usize> {
+    pub(crate) fn effective(&self, place: usize, keyword: &str, second: &str) -> Option<usize> {
         let mut at = Some(place);
         for _ in 0..self.sections.len() {
             let here = at?;
@@ -150,7 +153,7 @@ pub(crate) fn begins(words: &[Vec<u8>], keyword: &str, second: &str) -> bool {
 }
 
 /// The names of the files of patterns that a file's lines name by `-f`.
-pub fn pattern_files(alloc: Global, lines: &[SourceLine]) -> Result<Vec<Vec<u8>>, NoMemory> {
+pub(crate) fn pattern_files(alloc: Global, lines: &[SourceLine]) -> Result<Vec<Vec<u8>>, NoMemory> {
     let mut names = Vec::new(alloc);
     for line in lines {
         let mut is_next = false;

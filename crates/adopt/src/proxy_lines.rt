@@ -174,50 +174,39 @@ fn of_backend(
     Ok(None)
 }
 
-/// What becomes of a line that any proxy may have.
-fn of_any(alloc: Global, section: &Section, line: &SourceLine) -> Result<Fate, NoMemory> {
-    let words = line.words.as_slice();
-    let keyword = word_at(words, 0);
-    if is_word(keyword, "mode") {
-        if is_word(word_at(words, 1), "tcp") {
-            let two = two_words(alloc, "mode", b"tcp")?;
-            return written(alloc, line, two.as_slice(), None);
-        }
+/// The times that stickd has options for.
+const TIMEOUTS: [&str; 6] = [
+    "connect",
+    "client",
+    "server",
+    "tunnel",
+    "client-fin",
+    "server-fin",
+];
+
+/// What becomes of a line that says which protocol is spoken.
+fn of_mode(alloc: Global, line: &SourceLine) -> Result<Fate, NoMemory> {
+    if !is_word(word_at(line.words.as_slice(), 1), "tcp") {
         return left(alloc, FateKind::Lost, Why::HttpMode);
     }
-    if is_word(keyword, "stick-table") {
-        return of_converted(alloc, line, convert_table(alloc, words));
+    let two = two_words(alloc, "mode", b"tcp")?;
+    written(alloc, line, two.as_slice(), None)
+}
+
+/// Why a line of a time is left out.
+fn timeout_reason(words: &[Vec<u8>]) -> Why {
+    if !is_one_of(word_at(words, 1), &TIMEOUTS) {
+        Why::NoTimeout
+    } else if read_time(word_at(words, 2)).is_err() {
+        Why::NeverEnds
+    } else {
+        Why::Overruled
     }
-    if is_word(keyword, "timeout") {
-        let is_known = is_one_of(
-            word_at(words, 1),
-            &[
-                "connect",
-                "client",
-                "server",
-                "tunnel",
-                "client-fin",
-                "server-fin",
-            ],
-        );
-        let why = if !is_known {
-            Why::NoTimeout
-        } else if read_time(word_at(words, 2)).is_err() {
-            Why::NeverEnds
-        } else {
-            Why::Overruled
-        };
-        return left(alloc, FateKind::Harmless, why);
-    }
-    if is_limit(keyword) {
-        return left(alloc, FateKind::Harmless, Why::LargerLimit);
-    }
-    if is_word(keyword, "retries") {
-        return left(alloc, FateKind::Harmless, Why::NoRetries);
-    }
-    if is_word(keyword, "backlog") {
-        return left(alloc, FateKind::Harmless, Why::Overruled);
-    }
+}
+
+/// What becomes of a line that stickd's language hasn't.
+fn of_unlike(alloc: Global, section: &Section, words: &[Vec<u8>]) -> Result<Fate, NoMemory> {
+    let keyword = word_at(words, 0);
     let why = left_out(keyword, word_at(words, 1));
     let matters = why.matters || (section.is_http && matches!(why.why, Why::NeedsHttp));
     let reason = if matters && matches!(why.why, Why::NeedsHttp) {
@@ -234,6 +223,31 @@ fn of_any(alloc: Global, section: &Section, line: &SourceLine) -> Result<Fate, N
         },
         reason,
     )
+}
+
+/// What becomes of a line that any proxy may have.
+fn of_any(alloc: Global, section: &Section, line: &SourceLine) -> Result<Fate, NoMemory> {
+    let words = line.words.as_slice();
+    let keyword = word_at(words, 0);
+    if is_word(keyword, "mode") {
+        return of_mode(alloc, line);
+    }
+    if is_word(keyword, "stick-table") {
+        return of_converted(alloc, line, convert_table(alloc, words));
+    }
+    if is_word(keyword, "timeout") {
+        return left(alloc, FateKind::Harmless, timeout_reason(words));
+    }
+    if is_limit(keyword) {
+        return left(alloc, FateKind::Harmless, Why::LargerLimit);
+    }
+    if is_word(keyword, "retries") {
+        return left(alloc, FateKind::Harmless, Why::NoRetries);
+    }
+    if is_word(keyword, "backlog") {
+        return left(alloc, FateKind::Harmless, Why::Overruled);
+    }
+    of_unlike(alloc, section, words)
 }
 
 /// What becomes of a line of a proxy.

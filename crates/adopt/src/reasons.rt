@@ -72,7 +72,7 @@ pub enum Why {
 
 impl Why {
     /// What is said of it.
-    pub fn text(self) -> &'static str {
+    pub(crate) fn text(self) -> &'static str {
         match self {
             Why::NoLogs => "no log lines are written",
             Why::NoChecks => "the server isn't checked",

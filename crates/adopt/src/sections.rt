@@ -72,11 +72,13 @@ pub(crate) fn kind_of(word: &[u8]) -> Option<Kind> {
 }
 
 impl Section {
-    pub fn has_frontend(&self) -> bool {
+    /// Whether it is a frontend, or a listen section.
+    pub(crate) fn has_frontend(&self) -> bool {
         matches!(self.kind, Kind::Frontend | Kind::Listen)
     }
 
-    pub fn has_backend(&self) -> bool {
+    /// Whether it is a backend, or a listen section.
+    pub(crate) fn has_backend(&self) -> bool {
         matches!(self.kind, Kind::Backend | Kind::Listen)
     }
 }

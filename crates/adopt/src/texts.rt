@@ -10,12 +10,12 @@ use std::mem;
 pub type Words = Vec<Vec<u8>>;
 
 /// Whether a word is this text.
-pub fn is_word(word: &[u8], text: &str) -> bool {
+pub(crate) fn is_word(word: &[u8], text: &str) -> bool {
     word == text.as_bytes()
 }
 
 /// The word at a place, which is empty where there is none.
-pub fn word_at(words: &[Vec<u8>], place: usize) -> &[u8] {
+pub(crate) fn word_at(words: &[Vec<u8>], place: usize) -> &[u8] {
     match words.get(place) {
         Some(word) => word.as_slice(),
         None => b"",
@@ -23,13 +23,13 @@ pub fn word_at(words: &[Vec<u8>], place: usize) -> &[u8] {
 }
 
 /// Puts bytes behind a text.
-pub fn append(text: &mut Vec<u8>, more: &[u8]) -> Result<(), NoMemory> {
+pub(crate) fn append(text: &mut Vec<u8>, more: &[u8]) -> Result<(), NoMemory> {
     text.extend_from_slice(more)?;
     Ok(())
 }
 
 /// Puts a string behind a text.
-pub fn append_str(text: &mut Vec<u8>, more: &str) -> Result<(), NoMemory> {
+pub(crate) fn append_str(text: &mut Vec<u8>, more: &str) -> Result<(), NoMemory> {
     text.extend_from_slice(more.as_bytes())?;
     Ok(())
 }
@@ -40,14 +40,14 @@ pub fn text_of(alloc: Global, text: &str) -> Result<Vec<u8>, NoMemory> {
 }
 
 /// A copy of a text.
-pub fn copy_text(alloc: Global, text: &[u8]) -> Result<Vec<u8>, NoMemory>
+pub(crate) fn copy_text(alloc: Global, text: &[u8]) -> Result<Vec<u8>, NoMemory>
     ensures { IfOk result (λ copy. copy.items ≡ text.now) }
 {
     Ok(Vec::from_slice(alloc, text)?)
 }
 
 /// A copy of words.
-pub fn copy_words(alloc: Global, words: &[Vec<u8>]) -> Result<Words, NoMemory> {
+pub(crate) fn copy_words(alloc: Global, words: &[Vec<u8>]) -> Result<Words, NoMemory> {
     let mut copies = Vec::new(alloc);
     for word in words {
         copies.push(copy_text(alloc, word.as_slice())?)?;
@@ -56,7 +56,7 @@ pub fn copy_words(alloc: Global, words: &[Vec<u8>]) -> Result<Words, NoMemory> {
 }
 
 /// Whether words are the same.
-pub fn same_words(words: &[Vec<u8>], others: &[Vec<u8>]) -> bool {
+pub(crate) fn same_words(words: &[Vec<u8>], others: &[Vec<u8>]) -> bool {
     if words.len() != others.len() {
         return false;
     }
@@ -69,7 +69,7 @@ pub fn same_words(words: &[Vec<u8>], others: &[Vec<u8>]) -> bool {
 }
 
 /// Words with a blank between any two.
-pub fn joined(alloc: Global, words: &[Vec<u8>]) -> Result<Vec<u8>, NoMemory> {
+pub(crate) fn joined(alloc: Global, words: &[Vec<u8>]) -> Result<Vec<u8>, NoMemory> {
     let mut text = Vec::new(alloc);
     for word in words {
         if !text.is_empty() {
@@ -81,7 +81,7 @@ pub fn joined(alloc: Global, words: &[Vec<u8>]) -> Result<Vec<u8>, NoMemory> {
 }
 
 /// The parts of a text round a byte.
-pub fn split_at_byte(alloc: Global, text: &[u8], separator: u8) -> Result<Words, NoMemory> {
+pub(crate) fn split_at_byte(alloc: Global, text: &[u8], separator: u8) -> Result<Words, NoMemory> {
     let mut parts = Vec::new(alloc);
     let mut part = Vec::new(alloc);
     for byte in text {

@@ -3,43 +3,38 @@
 ghost use Rattle.std.specs.Prelude.{◌≡◌};
 ghost use Rattle.stickd_ctl.specs.Errors as spec;
 
+use crate::lines::split_at_first;
 use base_lines::{LINE_LIMIT, Parts};
+use table_texts::Message;
+
+/// Why a command may have done nothing.
+const MESSAGES: [Message; 11] = [
+    Message::UnknownCommand,
+    Message::NoSuchTable,
+    Message::InvalidKey,
+    Message::NotStored,
+    Message::NotSettable,
+    Message::InvalidValue,
+    Message::InUse,
+    Message::KeyNotPresent,
+    Message::TableFull,
+    Message::OutOfMemory,
+    Message::Unavailable,
+];
+
+/// Whether a line is what a message is printed as.
+fn is_said_by(line: &[u8], message: Message) -> bool
+    ensures { result ≡ spec.is_said_by line.now message }
+{
+    let (said, _rest) = split_at_first(message.bytes(), b'\n');
+    said == line
+}
 
 /// Whether a line is one that says why a command did nothing.
 fn is_error_line(line: &[u8]) -> bool
     ensures { result ≡ spec.is_error_line line.now }
 {
-    if line == b"Unknown command.".as_slice() {
-        return true;
-    }
-    if line == b"No such table.".as_slice() {
-        return true;
-    }
-    if line == b"Invalid key.".as_slice() {
-        return true;
-    }
-    if line == b"Data type not stored in this table.".as_slice() {
-        return true;
-    }
-    if line == b"Data type can't be set.".as_slice() {
-        return true;
-    }
-    if line == b"Invalid value.".as_slice() {
-        return true;
-    }
-    if line == b"Entry currently in use, cannot remove.".as_slice() {
-        return true;
-    }
-    if line == b"Key not present.".as_slice() {
-        return true;
-    }
-    if line == b"Table full.".as_slice() {
-        return true;
-    }
-    if line == b"Out of memory.".as_slice() {
-        return true;
-    }
-    line == b"Table unavailable.".as_slice()
+    MESSAGES.iter().any(|message| is_said_by(line, *message))
 }
 
 /// Whether a line of what commands are answered says why one of them did nothing.

@@ -7,22 +7,26 @@ ghost use Rattle.rule_warnings.specs.Warnings.{table_warnings as warnings_for};
 ghost use Rattle.admit_drive.specs.Tables.{CanOpen};
 
 mod all_faults;
+mod arguments;
 mod command_line;
 mod declared;
 mod expected;
 mod explanation;
 mod guesses;
+mod help;
 mod hints;
+mod keeping;
+mod options;
 mod suspect_tables;
 mod suspect_terms;
 mod suspects;
 
 use all_faults::find_faults;
 use base_sequence::{NoMemory, Sequence};
-pub use command_line::{
-    CLIENT, CONNECT, FIN, KEEPALIVE, Keeping, SERVER, SOCKET, read_command_line, read_keeping,
-};
+pub use command_line::read_command_line;
 use explanation::{explain_fault, explain_warnings};
+pub use keeping::{Keeping, read_keeping};
+pub use options::{CLIENT, CONNECT, FIN, KEEPALIVE, SERVER, SOCKET};
 use rule_config::{ConfigFault, read_config};
 use rule_model::{Config, NamedSpec, ReadError, Setup};
 use rule_warnings::{Warning, table_warnings};
@@ -119,7 +123,7 @@ fn warn<R: Eprint>(rt: &R, text: &[u8], lines: &[u64], detail: Detail) -> io::Re
 }
 
 /// Prints warnings on standard error, each on a line of its own.
-pub fn print_warnings<R: Eprint>(rt: &R, warnings: &[Warning]) -> io::Result<()> {
+fn print_warnings<R: Eprint>(rt: &R, warnings: &[Warning]) -> io::Result<()> {
     for warning in warnings {
         eprintln!(rt; "stickd: warning: {warning}")?;
     }

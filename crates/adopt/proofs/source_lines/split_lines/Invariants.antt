@@ -1,6 +1,6 @@
 use Rattle.std.proofs.Common.{◌≡◌, ◌++◌, length}
 use Rattle.adopt.specs.Lines.{bare_lines, own_lines, texts_of}
-use Rattle.adopt.proofs.lexer.split_lines.Given as goal
+use Rattle.adopt.proofs.source_lines.split_lines.Given as goal
 
 -- the lines so far, and those that are left
 abbrev pub invariant-loop-part : goal.invariant-loop-part

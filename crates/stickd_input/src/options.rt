@@ -1,0 +1,211 @@
+//! The options of `stickd run`, some of which other commands have too; `command_line` gives them to its commands.
+
+use crate::arguments::{count_option, value_option};
+use clap::{Arg, value_parser};
+use std::alloc::Global;
+
+/// The option that says how long a server may take to accept a connection.
+pub const CONNECT: &str = "timeout-connect";
+
+/// The option that says how long a client may be silent.
+pub const CLIENT: &str = "timeout-client";
+
+/// The option that says how long a server may be silent.
+pub const SERVER: &str = "timeout-server";
+
+/// The option that says how long a client of the command socket may be silent.
+pub const SOCKET: &str = "timeout-socket";
+
+/// The option that says how long a connection may be silent once one side has ended.
+pub const FIN: &str = "timeout-fin";
+
+/// The option that says after how long a silent peer is asked whether it is still there.
+pub const KEEPALIVE: &str = "keepalive";
+
+/// The option that says in how many parts each table is kept.
+pub(crate) fn shards_option<'a>(alloc: Global) -> Arg<'a> {
+    count_option(
+        alloc,
+        "shards",
+        "K",
+        64,
+        "In how many parts each table is kept, 1 to 64",
+    )
+    .default_value("1")
+}
+
+/// The option that says how many entries go at once where a table is full.
+pub(crate) fn purge_option<'a>(alloc: Global) -> Arg<'a> {
+    count_option(
+        alloc,
+        "purge",
+        "N",
+        1024,
+        "How many of its oldest entries a full table removes for a new one, 1 to 1024",
+    )
+    .default_value("1")
+}
+
+/// The option that says how long a server may take to accept a connection.
+pub(crate) fn connect_option<'a>(alloc: Global) -> Arg<'a> {
+    value_option(
+        alloc,
+        CONNECT,
+        "TIME",
+        "How long a server may take to accept a connection, as 1500ms, 5s or 10m",
+    )
+    .default_value("5s")
+}
+
+/// The option that says how long a client may be silent.
+pub(crate) fn client_option<'a>(alloc: Global) -> Arg<'a> {
+    value_option(
+        alloc,
+        CLIENT,
+        "TIME",
+        "How long a client may be silent [default: for ever]",
+    )
+}
+
+/// The option that says how long a server may be silent.
+pub(crate) fn server_option<'a>(alloc: Global) -> Arg<'a> {
+    value_option(
+        alloc,
+        SERVER,
+        "TIME",
+        "How long a server may be silent [default: for ever]",
+    )
+}
+
+/// The limit of all connections together.
+pub(crate) fn connections_option<'a>(alloc: Global) -> Arg<'a> {
+    count_option(
+        alloc,
+        "connections",
+        "N",
+        u32::MAX,
+        "How many connections are open at once at most, on all threads together",
+    )
+    .default_value("10000")
+}
+
+/// When the record of a part of a table begins again.
+pub(crate) fn roll_option<'a>(alloc: Global) -> Arg<'a> {
+    count_option(
+        alloc,
+        "roll-at",
+        "N",
+        u32::MAX,
+        "How many calls of a part of a table are recorded before its record begins again",
+    )
+    .default_value("65536")
+}
+
+/// The socket on which commands are answered.
+pub(crate) fn socket_option<'a>(alloc: Global) -> Arg<'a> {
+    value_option(
+        alloc,
+        "socket",
+        "PATH",
+        "The Unix socket on which commands are answered",
+    )
+    .required(true)
+}
+
+/// The permissions of the socket's file.
+pub(crate) fn mode_option<'a>(alloc: Global) -> Arg<'a> {
+    value_option(
+        alloc,
+        "socket-mode",
+        "MODE",
+        "The permissions of the socket's file, in octal, up to 0777",
+    )
+    .default_value("600")
+}
+
+/// The group of the socket's file.
+pub(crate) fn group_option<'a>(alloc: Global) -> Arg<'a> {
+    value_option(
+        alloc,
+        "socket-group",
+        "GROUP",
+        "The group of the socket's file, a name or a number [default: the program's]",
+    )
+}
+
+/// How many clients of the socket are answered at once.
+pub(crate) fn clients_option<'a>(alloc: Global) -> Arg<'a> {
+    count_option(
+        alloc,
+        "socket-clients",
+        "N",
+        64,
+        "How many clients of the socket are answered at once, 1 to 64",
+    )
+    .default_value("4")
+}
+
+/// How long a client of the socket may be silent.
+pub(crate) fn socket_time_option<'a>(alloc: Global) -> Arg<'a> {
+    value_option(
+        alloc,
+        SOCKET,
+        "TIME",
+        "How long a client of the socket may send nothing, or take nothing",
+    )
+    .default_value("10s")
+}
+
+/// How many connections may wait to be accepted.
+pub(crate) fn backlog_option<'a>(alloc: Global) -> Arg<'a> {
+    count_option(
+        alloc,
+        "backlog",
+        "N",
+        0x7fff_ffff,
+        "How many connections may wait to be accepted [default: as --connections]",
+    )
+}
+
+/// After how long a silent peer is asked whether it is still there.
+pub(crate) fn keepalive_option<'a>(alloc: Global) -> Arg<'a> {
+    value_option(
+        alloc,
+        KEEPALIVE,
+        "TIME",
+        "Ask silent peers whether they are still there after TIME (TCP keepalive) [default: never]",
+    )
+}
+
+/// How long a connection may be silent once one side has ended.
+pub(crate) fn fin_option<'a>(alloc: Global) -> Arg<'a> {
+    value_option(
+        alloc,
+        FIN,
+        "TIME",
+        "How long a connection may be silent once one side has ended [default: as the other timeouts]",
+    )
+}
+
+/// How many threads serve connections.
+pub(crate) fn threads_option<'a>(alloc: Global) -> Arg<'a> {
+    count_option(
+        alloc,
+        "threads",
+        "N",
+        64,
+        "How many threads serve connections, 1 to 64",
+    )
+    .required(true)
+}
+
+/// After how many connections the proxy stops.
+pub(crate) fn stop_option<'a>(alloc: Global) -> Arg<'a> {
+    value_option(
+        alloc,
+        "stop-after",
+        "N",
+        "Stop once N connections have ended, and settle the tables",
+    )
+    .value_parser(value_parser!(u64))
+}
