@@ -1,8 +1,7 @@
 //! Makes each call of a table in shards once, without receipts and with them, and settles it: first with a reference that
 //! is out and isn't shown, then with that given back. And it holds two references over a roll of the record and a hundred
 //! calls, gives both back and rolls again. Where a growth is refused it asks once more, and says how often that was, and
-//! how many answers were those that are wanted. `tests/refusals calls` refuses each of its allocations in turn.
-#![tactic(auto)]
+//! how many answers were those that are wanted; `main` calls `make_calls`.
 
 use shard_book::Seat;
 use shard_locks::Shards;
@@ -177,10 +176,11 @@ fn lead_over_rolls(rt: &impl Wait, alloc: Global, tally: &mut Tally) {
     tally.make_each(rt, alloc, &mut opened, &mut held, &ended);
 }
 
-fn main(rt: HostRuntime) -> io::Result<()> {
+/// Makes each call, without receipts and with them, and over rolls; prints what came of it.
+pub(crate) fn make_calls<R: Wait + Print + AllocGlobal>(rt: &R) -> io::Result<()> {
     for keep in [false, true] {
         let mut tally = START;
-        let missed = lead(&rt, rt.alloc(), keep, &mut tally);
+        let missed = lead(rt, rt.alloc(), keep, &mut tally);
         let Tally {
             refused,
             wanted,
@@ -194,7 +194,7 @@ fn main(rt: HostRuntime) -> io::Result<()> {
         )?;
     }
     let mut tally = START;
-    lead_over_rolls(&rt, rt.alloc(), &mut tally);
+    lead_over_rolls(rt, rt.alloc(), &mut tally);
     let (refused, wanted) = (tally.refused, tally.wanted);
     println!(rt; "{refused} refused, {wanted} of 108 as wanted over two rolls")
 }

@@ -1,13 +1,10 @@
 //! Leads four connections that share a table through a schedule, of which one from each address is admitted at most, and
-//! says after each element what is out, what is held and who is admitted. Its status is 1 where that isn't as the schedule
-//! says. `tests/refusals worlds` refuses each of its allocations in turn.
-#![tactic(auto)]
+//! says after each element what is out, what is held and who is admitted; `main` calls `lead_connections`.
 
 ghost use Rattle.std.specs.Prelude.{◌≡◌, length};
 
 use admit_world::World;
 use std::io;
-use std::process::ExitCode;
 use stick_pooled::StickTable;
 use test_calls::{admitted, go_on, held, limiting, open_world, out, visit};
 
@@ -126,11 +123,12 @@ fn lead<R: Print + AllocGlobal>(rt: &R, world: &mut World<'_, StickTable>) -> io
     Ok(is_right)
 }
 
-fn main(rt: HostRuntime) -> io::Result<ExitCode> {
+/// Leads the connections; answers whether that went as the schedule says, or there was no memory to begin.
+pub(crate) fn lead_connections<R: Print + AllocGlobal>(rt: &R) -> io::Result<bool> {
     let alloc = rt.alloc();
     let Ok(setup) = limiting(alloc, 1, 1) else {
         println!(rt; "out of memory")?;
-        return Ok(ExitCode::SUCCESS);
+        return Ok(true);
     };
     let visits = [
         visit(HOSTS[0]),
@@ -140,11 +138,7 @@ fn main(rt: HostRuntime) -> io::Result<ExitCode> {
     ];
     let Ok(mut world) = open_world::<StickTable>(alloc, &setup, &visits) else {
         println!(rt; "out of memory")?;
-        return Ok(ExitCode::SUCCESS);
+        return Ok(true);
     };
-    if lead(&rt, &mut world)? {
-        Ok(ExitCode::SUCCESS)
-    } else {
-        Ok(ExitCode::FAILURE)
-    }
+    lead(rt, &mut world)
 }

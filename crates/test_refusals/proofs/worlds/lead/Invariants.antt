@@ -1,5 +1,5 @@
 use Rattle.std.proofs.Common.{◌≡◌, length}
-use Rattle.test_lead.proofs.lead.Given as goal
+use Rattle.test_refusals.proofs.worlds.lead.Given as goal
 
 -- four connections on one table in one shard, as far as the schedule went
 abbrev pub invariant-loop-place : goal.invariant-loop-place
