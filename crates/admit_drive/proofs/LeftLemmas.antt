@@ -26,7 +26,7 @@ use Rattle.admit_drive.specs.DriveCode.{moves_left}
 use Rattle.admit_drive.specs.Moves.{Moves, MovesBy}
 use Rattle.admit_drive.specs.Tables.{TableState}
 use Rattle.admit_drive.specs.declared.call.Call.{Call}
-use Rattle.admit_drive.specs.declared.reference.Reference.{Reference}
+use Rattle.shard_port.specs.declared.reference.Reference.{Reference}
 use Rattle.admit_drive.proofs.MakeLemmas.{need_same, setup_same}
 use Rattle.admit_core.proofs.LeftLemmas.{gave_less, refused_less, took_less, turned_less}
 
@@ -150,7 +150,7 @@ wanted_memory {X = X} {E = E} setup wants result error is memory = by (need_take
     by true takes = takes
     by false takes = absurd (false≢true (subst (λ r. IsOk r) is (memory takes)))
 
-memory_moves : (now : ℕ) (tables : List TableState) (connection : Connection Reference) (wants : Need) → need connection ≡ wants → need_takes_memory connection.setup wants ≡ true → Moves now tables connection tables (refused connection None) true
+pub memory_moves : (now : ℕ) (tables : List TableState) (connection : Connection Reference) (wants : Need) → need connection ≡ wants → need_takes_memory connection.setup wants ≡ true → Moves now tables connection tables (refused connection None) true
 memory_moves now tables connection (needs.Get t k) is takes = subst (λ w. MovesBy now tables connection w tables (refused connection None) true) (sym is) (inr (ap (need_takes_memory connection.setup) is ∙ takes), refl, refl)
 memory_moves now tables connection (needs.Track s t k) is takes = subst (λ w. MovesBy now tables connection w tables (refused connection None) true) (sym is) (inr (ap (need_takes_memory connection.setup) is ∙ takes), refl, refl)
 memory_moves now tables connection (needs.Look s) is takes = absurd (false≢true takes)

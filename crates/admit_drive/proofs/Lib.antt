@@ -8,6 +8,7 @@ pub mod ReplyLemmas
 pub mod CallLemmas
 pub mod MakeLemmas
 pub mod LeftLemmas
+pub mod PortLemmas
 pub mod BalanceLemmas
 pub mod TablesLemmas
 pub mod LivedLemmas

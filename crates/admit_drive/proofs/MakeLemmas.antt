@@ -22,7 +22,7 @@ use Rattle.admit_drive.specs.Calls.{AnswersAt, IsOutNow, RefusesAt, call_of, fit
 use Rattle.admit_drive.specs.Moves.{Makes, Moves, MovesBy}
 use Rattle.admit_drive.specs.Tables.{AreTablesOf, HasShard, TableState, shard_at}
 use Rattle.admit_drive.specs.declared.call.Call.{Call}
-use Rattle.admit_drive.specs.declared.reference.Reference.{Reference}
+use Rattle.shard_port.specs.declared.reference.Reference.{Reference}
 use Rattle.admit_drive.proofs.CallLemmas.{can_ask, legal_at}
 use Rattle.admit_drive.proofs.ShardLemmas.{before_of, replaces, step_of}
 use Rattle.admit_drive.proofs.ReplyLemmas.{reply_fits}

@@ -9,7 +9,7 @@ use Rattle.admit_drive.specs.Balance.{IsCovered}
 use Rattle.admit_drive.specs.DriveCode.{HasMoved, HasComeToRest, IsLiving}
 use Rattle.admit_drive.specs.Moves.{Goes, Moves}
 use Rattle.admit_drive.specs.Tables.{AreTablesOf, TableState}
-use Rattle.admit_drive.specs.declared.reference.Reference.{Reference}
+use Rattle.shard_port.specs.declared.reference.Reference.{Reference}
 use Rattle.admit_drive.proofs.MakeLemmas.{need_same, setup_same}
 use Rattle.admit_drive.proofs.KeepingLemmas.{IsKept, move_kept}
 

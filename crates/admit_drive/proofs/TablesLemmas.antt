@@ -21,7 +21,7 @@ use Rattle.admit_drive.specs.Calls.{AnswersAt, call_of, connections_seat}
 use Rattle.admit_drive.specs.Moves.{Makes, Moves, MovesBy}
 use Rattle.admit_drive.specs.Tables.{AreTablesOf, IsTableOf, TableState}
 use Rattle.admit_drive.specs.declared.call.Call.{Call}
-use Rattle.admit_drive.specs.declared.reference.Reference.{Reference}
+use Rattle.shard_port.specs.declared.reference.Reference.{Reference}
 
 -- ---- the books of one table
 

@@ -21,7 +21,7 @@ use Rattle.admit_core.specs.declared.need.Need.{Need}
 use Rattle.admit_core.specs.declared.need.Need.TheVariants.{Get, Track, Look, Count, Release}
 use Rattle.admit_drive.specs.Tables.{TableState, shard_at}
 use Rattle.admit_drive.specs.declared.call.Call.{Call}
-use Rattle.admit_drive.specs.declared.reference.Reference.{Reference}
+use Rattle.shard_port.specs.declared.reference.Reference.{Reference}
 
 -- ---- calls
 

@@ -12,9 +12,8 @@ mod call;
 mod drive;
 pub mod laws;
 mod open;
-mod reference;
 
 pub use call::Call;
 pub use drive::{advance, advance_to_rest};
 pub use open::open_tables;
-pub use reference::Reference;
+pub use shard_port::Reference;

@@ -15,7 +15,7 @@ use Rattle.admit_drive.specs.Tables.{AreTablesOf, TableState, table_states}
 use Rattle.admit_world.specs.World.{Element, WorldState, begun, woken}
 use Rattle.admit_world.specs.WorldCode.{AreVisitors, IsReached, StandsFor, world_view}
 use Rattle.admit_world.specs.declared.visitor.Visitor.{Visitor}
-use Rattle.admit_drive.specs.declared.reference.Reference.{Reference}
+use Rattle.shard_port.specs.declared.reference.Reference.{Reference}
 use Rattle.admit_world.specs.declared.visit.Visit.{Visit}
 use Rattle.admit_drive.proofs.SumLemmas.{some_same, sum_at}
 use Rattle.admit_drive.proofs.MakeLemmas.{setup_same}

@@ -11,7 +11,7 @@ use Rattle.admit_drive.specs.Tables.{CanOpen, HasShard, TableState, empty_tables
 use Rattle.admit_world.specs.World.{Element, Elements, WorldState, begun}
 use Rattle.admit_world.specs.WorldCode.{AreVisitors, IsReached, StandsFor, WorldView, world_view}
 use Rattle.admit_world.specs.declared.visitor.Visitor.{Visitor}
-use Rattle.admit_drive.specs.declared.reference.Reference.{Reference}
+use Rattle.shard_port.specs.declared.reference.Reference.{Reference}
 use Rattle.admit_world.specs.declared.visit.Visit.{Visit}
 use Rattle.admit_drive.proofs.SumLemmas.{get_within, some_same}
 use Rattle.admit_world.proofs.RunLemmas.{visitor_at}

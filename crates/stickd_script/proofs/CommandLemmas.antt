@@ -23,7 +23,7 @@ use Rattle.table_cli.specs.Shards.{AsksInTurn, shards_of}
 use Rattle.table_cli.specs.States.{CommandState}
 use Rattle.admit_drive.specs.Balance.{times_of, times_out}
 use Rattle.admit_drive.specs.Tables.{TableState, shard_of}
-use Rattle.admit_drive.specs.declared.reference.Reference.{Reference}
+use Rattle.shard_port.specs.declared.reference.Reference.{Reference}
 use Rattle.admit_drive.proofs.TicketLemmas.{times}
 use Rattle.stickd_script.specs.Script.{answering, refusing, standing}
 use Rattle.stickd_script.proofs.RollLemmas.{map_rolled, part_rolled}

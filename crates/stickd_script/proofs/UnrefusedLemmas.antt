@@ -18,7 +18,7 @@ use Rattle.admit_core.specs.Left.{is_still}
 use Rattle.admit_core.specs.declared.conn.Conn.{Conn}
 use Rattle.admit_core.specs.declared.need.Phase.{Phase}
 use Rattle.admit_core.specs.declared.need.Phase.TheVariants.{New, Judging, Admitted, Rejected, Ended}
-use Rattle.admit_drive.specs.declared.reference.Reference.{Reference}
+use Rattle.shard_port.specs.declared.reference.Reference.{Reference}
 use Rattle.admit_drive.proofs.BehindLemmas.{as_told, need_told}
 use Rattle.admit_drive.proofs.OneMoveLemmas.{IsOne, SameView, view}
 use Rattle.admit_drive.proofs.PlainConnectionLemmas.{plain_connection, plain_progress}
