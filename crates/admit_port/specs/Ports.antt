@@ -1,5 +1,5 @@
 -- The ports of a setup's tables.
-use Rattle.std.specs.Prelude.{◌≡◌, ℕ, ◌<◌, List, length, slice_get, Some}
+use Rattle.std.specs.Prelude.{◌≡◌, ℕ, ◌<◌, List, length, map, slice_get, Some}
 use Rattle.rule_model.specs.declared.actions.Slot.{Slot}
 use Rattle.rule_model.specs.declared.sections.Setup.{Setup}
 use Rattle.admit_core.specs.Held.{held_at}
@@ -11,6 +11,10 @@ use Rattle.admit_core.specs.declared.need.Need.TheVariants.{Get, Track}
 pub record ArePorts {S : Type 0} (parts : S → ℕ) (setup : Setup) (ports : List S) : Type 0 where
   pub count : length ports ≡ length setup.tables
   pub shards : (i : ℕ) (port : S) → slice_get ports i ≡ Some port → parts port ≡ setup.shards
+
+-- in how many shards each is
+abbrev pub parts_of : {S : Type 0} → (S → ℕ) → List S → List ℕ
+parts_of parts ports = map parts ports
 
 -- each reference that is held names one of so many ports
 abbrev pub HoldsOf : {R : Type 0} → ℕ → Held R → Type 0

@@ -4,6 +4,7 @@ ghost use Rattle.std.specs.Prelude.{◌≡◌, ◌≢◌, ◌+◌, ◌≤◌, �
 ghost use Rattle.admit_core.specs.Conn.{needed, progress_of};
 ghost use Rattle.admit_core.specs.Left.{is_still};
 ghost use Rattle.admit_port.specs.DriveCode.{CanGoOn, HasMoved, IsConnection, IsReleaseRefused, moves_left};
+ghost use Rattle.admit_port.specs.Ports.{parts_of};
 ghost use Rattle.admit_port.specs.declared.moved.Moved.TheVariants.{Kept};
 
 use crate::Moved;
@@ -29,6 +30,7 @@ pub fn advance<P: Port>(
     ensures given { is_some (progress_of conn.new).given ≡ false }
     ensures moved { HasMoved P.meaning moment (map P.state ports.old) conn.old (map P.state ports.new) conn.new result }
     ensures kept { result ≡ Kept → IsReleaseRefused P.meaning moment (map P.state ports.old) conn.old }
+    ensures parts { parts_of P.meaning.parts (map P.state ports.new) ≡ parts_of P.meaning.parts (map P.state ports.old) }
     ensures left { result ≢ Kept → moves_left conn.new + 1 ≤ moves_left conn.old }
 {
     let Ok(need) = conn.want(alloc) else {

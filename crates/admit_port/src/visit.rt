@@ -6,6 +6,7 @@ ghost use Rattle.admit_core.specs.Connection.{is_judged as is_being_judged};
 ghost use Rattle.admit_core.specs.Left.{is_rest, is_still};
 ghost use Rattle.admit_core.specs.declared.need.Need.TheVariants.{Rest};
 ghost use Rattle.admit_port.specs.DriveCode.{CanGoOn, IsConnection, moves_left};
+ghost use Rattle.admit_port.specs.Ports.{parts_of};
 ghost use Rattle.admit_port.specs.Visit.{HasGoneJudged, HasMovedOnce, HasRested};
 ghost use Rattle.admit_port.specs.declared.moved.Moved.TheVariants.{Kept};
 
@@ -36,6 +37,7 @@ fn move_once<P: Port, C: Clock>(
     requires ready { CanGoOn P.meaning (map P.state ports.old) conn.old }
     ensures ready { IsConnection conn.old → CanGoOn P.meaning (map P.state ports.new) conn.new }
     ensures moved { HasMovedOnce P.meaning C.shows (map P.state ports.old) conn.old (C.state clock.old) (map P.state ports.new) conn.new (C.state clock.new) result }
+    ensures parts { parts_of P.meaning.parts (map P.state ports.new) ≡ parts_of P.meaning.parts (map P.state ports.old) }
     ensures left { result ≢ Kept → moves_left conn.new + 1 ≤ moves_left conn.old }
 {
     let moment = clock.now();
@@ -55,6 +57,7 @@ pub fn judge<P: Port, C: Clock>(
     ensures living { IsConnection conn.new }
     ensures ready { CanGoOn P.meaning (map P.state ports.new) conn.new }
     ensures gone { HasGoneJudged P.meaning C.shows (map P.state ports.old) conn.old (C.state clock.old) (map P.state ports.new) conn.new (C.state clock.new) }
+    ensures parts { parts_of P.meaning.parts (map P.state ports.new) ≡ parts_of P.meaning.parts (map P.state ports.old) }
     ensures judged { is_being_judged (progress_of conn.new).phase ≡ false }
     ensures admitted { result ≡ is_rest (needed conn.new) }
     ensures rests { result ≡ true → needed conn.new ≡ Rest }
@@ -81,6 +84,7 @@ pub fn finish<P: Port, C: Clock>(
     ensures living { IsConnection conn.new }
     ensures ready { CanGoOn P.meaning (map P.state ports.new) conn.new }
     ensures rested { HasRested P.meaning C.shows (map P.state ports.old) conn.old (C.state clock.old) (map P.state ports.new) conn.new (C.state clock.new) result }
+    ensures parts { parts_of P.meaning.parts (map P.state ports.new) ≡ parts_of P.meaning.parts (map P.state ports.old) }
 {
     while !conn.is_still() {
         match move_once(alloc, ports, conn, clock) {
