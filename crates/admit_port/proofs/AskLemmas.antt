@@ -5,6 +5,7 @@ use Rattle.std.proofs.lemmas.Bool.{false≢true, ltb-true}
 use Rattle.std.proofs.Math.Logic.{∥∥₁_elim}
 use Rattle.std.proofs.Math.Nat.{ℕ_set}
 use Rattle.std.proofs.lemmas.List.{length-map, length-set, map-set, set-get_or}
+use Rattle.std.proofs.lemmas.Simd.{map-map}
 use Rattle.std.proofs.lemmas.Option.{slice_get-get_or, slice_get-map}
 use Rattle.stick_key.specs.Shard.{shard}
 use Rattle.stick_model.specs.Key.{Key}
@@ -30,7 +31,7 @@ use Rattle.admit_port.specs.Calls.{AnswersAt, Call, IsAskedBy, IsAskedFor, heard
 use Rattle.admit_port.specs.DriveCode.{CanGoOn, HasMoved, IsConnection, IsReleaseRefused}
 use Rattle.admit_port.specs.Moves.{IsRefused, Wants}
 use Rattle.shard_port.specs.Port.{Meaning, came_with, is_tracking, place, row_reply}
-use Rattle.admit_port.specs.Ports.{HoldsOf, NamesOf}
+use Rattle.admit_port.specs.Ports.{HoldsOf, NamesOf, parts_of}
 use Rattle.admit_port.specs.declared.moved.Moved.TheVariants.{Answered, Turned, Refused, Kept}
 use Rattle.admit_port.proofs.CommonLemmas.{need_same, setup_same}
 
@@ -104,6 +105,14 @@ shards_by {P = P} {S = S} parts state xs ys n same before i s is = by (slice_get
         let b : state p ≡ s = cc in
         ap parts (sym b) ∙ a ∙ c
 
+-- one that is asked leaves each with as many
+set_parts : {P S : Type 0} (parts : S → ℕ) (state : P → S) (ports : List P) (i : ℕ) (port after : P) → parts (state after) ≡ parts (state (get_or ports i port)) → map (λ p. parts (state p)) (slice_set ports i after) ≡ map (λ p. parts (state p)) ports
+set_parts parts state ports i port after same =
+    map-set (λ p. parts (state p)) ports i after ∙ ap (λ n. slice_set (map (λ p. parts (state p)) ports) i n) same ∙ sym (map-set (λ p. parts (state p)) ports i (get_or ports i port)) ∙ ap (map (λ p. parts (state p))) (set-get_or ports i port)
+
+pub parts_stay : {P S : Type 0} (parts : S → ℕ) (state : P → S) (ports : List P) (i : ℕ) (port after : P) → parts (state after) ≡ parts (state (get_or ports i port)) → parts_of parts (map state (slice_set ports i after)) ≡ parts_of parts (map state ports)
+parts_stay parts state ports i port after same = map-map parts state (slice_set ports i after) ∙ set_parts parts state ports i port after same ∙ sym (map-map parts state ports)
+
 module _ {P S R : Type 0} (m : Meaning S R) (state : P → S) (now : ℕ) (ports : List P) (conn : Conn R) (ready : CanGoOn m (map state ports) conn) where
   pub names_there : NamesOf (length (map state ports)) (needed conn)
   names_there = named (judged_by conn) (length (map state ports)) (needed conn) ready.shared.count (conn_table conn)
@@ -148,14 +157,10 @@ module _ {P S R : Type 0} (m : Meaning S R) (state : P → S) (now : ℕ) (ports
         given = given;
       }
 
-  set_parts : (i : ℕ) (port after : P) → m.parts (state after) ≡ m.parts (state (get_or ports i port)) → map (λ p. m.parts (state p)) (slice_set ports i after) ≡ map (λ p. m.parts (state p)) ports
-  set_parts i port after same =
-      map-set (λ p. m.parts (state p)) ports i after ∙ ap (λ n. slice_set (map (λ p. m.parts (state p)) ports) i n) same ∙ sym (map-set (λ p. m.parts (state p)) ports i (get_or ports i port)) ∙ ap (map (λ p. m.parts (state p))) (set-get_or ports i port)
-
   module _ (i : ℕ) (port after : P) (later : Conn R) (parts : m.parts (state after) ≡ m.parts (state (get_or ports i port))) (given : is_some (progress_of later).given ≡ false) (held : HoldsOf (length (map state ports)) (progress_of later).held) where
     ready_set : (next : Connection R → Connection R) → ((connection : Connection R) → (next connection).setup ≡ connection.setup) → ((connection : Connection R) → Stands conn connection → Stands later (next connection)) → IsConnection conn
         → CanGoOn m (map state (slice_set ports i after)) later
-    ready_set next same stands living = ready_next (slice_set ports i after) later next same stands (length-set ports i after) (set_parts i port after parts) given held living
+    ready_set next same stands living = ready_next (slice_set ports i after) later next same stands (length-set ports i after) (set_parts m.parts state ports i port after parts) given held living
 
     pub ready_heard : (at : ℕ) (reply : Reply) → ((connection : Connection R) → Stands conn connection → Stands later (heard m connection at reply)) → IsConnection conn → CanGoOn m (map state (slice_set ports i after)) later
     ready_heard at reply stands living = ready_set (λ connection. heard m connection at reply) (λ connection. heard_setup m connection at reply) stands living

@@ -5,6 +5,7 @@ ghost use Rattle.admit_core.specs.Conn.{needed, progress_of};
 ghost use Rattle.admit_core.specs.declared.need.Need.TheVariants as needs;
 ghost use Rattle.admit_port.specs.Answers.{row_answer, tracking_answer};
 ghost use Rattle.admit_port.specs.DriveCode.{CanGoOn, HasMoved, IsConnection, IsReleaseRefused, moves_left};
+ghost use Rattle.admit_port.specs.Ports.{parts_of};
 ghost use Rattle.admit_port.specs.declared.moved.Moved.TheVariants.{Kept};
 
 use crate::Moved;
@@ -51,6 +52,7 @@ pub(crate) fn ask<P: Port>(
     ensures ready { IsConnection conn.old → CanGoOn P.meaning (map P.state ports.new) conn.new }
     ensures given { is_some (progress_of conn.new).given ≡ false }
     ensures moved { HasMoved P.meaning moment (map P.state ports.old) conn.old (map P.state ports.new) conn.new result }
+    ensures parts { parts_of P.meaning.parts (map P.state ports.new) ≡ parts_of P.meaning.parts (map P.state ports.old) }
     ensures left { moves_left conn.new + 1 ≤ moves_left conn.old }
     ensures goes { result ≢ Kept }
 {
@@ -81,6 +83,7 @@ pub(crate) fn track<P: Port>(
     ensures ready { IsConnection conn.old → CanGoOn P.meaning (map P.state ports.new) conn.new }
     ensures given { is_some (progress_of conn.new).given ≡ false }
     ensures moved { HasMoved P.meaning moment (map P.state ports.old) conn.old (map P.state ports.new) conn.new result }
+    ensures parts { parts_of P.meaning.parts (map P.state ports.new) ≡ parts_of P.meaning.parts (map P.state ports.old) }
     ensures left { moves_left conn.new + 1 ≤ moves_left conn.old }
     ensures goes { result ≢ Kept }
 {
@@ -110,6 +113,7 @@ pub(crate) fn look<P: Port>(
     ensures ready { IsConnection conn.old → CanGoOn P.meaning (map P.state ports.new) conn.new }
     ensures given { is_some (progress_of conn.new).given ≡ false }
     ensures moved { HasMoved P.meaning moment (map P.state ports.old) conn.old (map P.state ports.new) conn.new result }
+    ensures parts { parts_of P.meaning.parts (map P.state ports.new) ≡ parts_of P.meaning.parts (map P.state ports.old) }
     ensures left { moves_left conn.new + 1 ≤ moves_left conn.old }
     ensures goes { result ≢ Kept }
 {
@@ -142,6 +146,7 @@ pub(crate) fn count<P: Port>(
     ensures ready { IsConnection conn.old → CanGoOn P.meaning (map P.state ports.new) conn.new }
     ensures given { is_some (progress_of conn.new).given ≡ false }
     ensures moved { HasMoved P.meaning moment (map P.state ports.old) conn.old (map P.state ports.new) conn.new result }
+    ensures parts { parts_of P.meaning.parts (map P.state ports.new) ≡ parts_of P.meaning.parts (map P.state ports.old) }
     ensures left { moves_left conn.new + 1 ≤ moves_left conn.old }
     ensures goes { result ≢ Kept }
 {
@@ -173,6 +178,7 @@ pub(crate) fn release<P: Port>(
     ensures ready { IsConnection conn.old → CanGoOn P.meaning (map P.state ports.new) conn.new }
     ensures given { is_some (progress_of conn.new).given ≡ false }
     ensures moved { HasMoved P.meaning moment (map P.state ports.old) conn.old (map P.state ports.new) conn.new result }
+    ensures parts { parts_of P.meaning.parts (map P.state ports.new) ≡ parts_of P.meaning.parts (map P.state ports.old) }
     ensures left { result ≢ Kept → moves_left conn.new + 1 ≤ moves_left conn.old }
     ensures kept { result ≡ Kept → IsReleaseRefused P.meaning moment (map P.state ports.old) conn.old }
 {

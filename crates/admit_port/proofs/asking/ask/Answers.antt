@@ -3,7 +3,7 @@ use Rattle.stick_model.specs.declared.events.Event.TheVariants as events
 use Rattle.admit_core.specs.Connection.{answers_need}
 use Rattle.admit_core.specs.declared.need.Need.TheVariants as needs
 use Rattle.shard_port.specs.Port.{place, row_reply}
-use Rattle.admit_port.proofs.AskLemmas.{got, row_answers, moved_answered, moved_refused, named_there, names_there, place_is, ready_heard, ready_refused}
+use Rattle.admit_port.proofs.AskLemmas.{got, row_answers, moved_answered, moved_refused, named_there, names_there, place_is, ready_heard, ready_refused, parts_stay}
 use Rattle.admit_port.proofs.asking.ask.Goals as goal
 
 pub bounds-ports-table : goal.bounds-ports-table
@@ -40,3 +40,9 @@ returns-in-Err-clause-moved g c =
     moved_refused g.P.Port.meaning g.P.Port.state c.args.moment c.args.ports.now c.args.conn.now c.requires.ready (needs.Get c.args.table c.args.key) (record { table = c.args.table; shard = (place g.P.Port.meaning (g.P.Port.state (get_or c.args.ports.now c.args.table c.index-ports-table.result)) c.args.key); event = events.Get c.args.moment c.args.key }) c.index-ports-table.result c.ask.new.self c.skip.new.conn c.requires.needs
     (λ k. record { table = c.args.table; shard = place_is g.P.Port.meaning g.P.Port.state c.args.moment c.args.ports.now c.args.conn.now c.requires.ready c.args.table c.index-ports-table.result c.args.key (named_there g.P.Port.meaning g.P.Port.state c.args.moment c.args.ports.now c.args.conn.now c.requires.ready (needs.Get c.args.table c.args.key) c.requires.needs) k; event = events.Get c.args.moment c.args.key })
     (named_there g.P.Port.meaning g.P.Port.state c.args.moment c.args.ports.now c.args.conn.now c.requires.ready (needs.Get c.args.table c.args.key) c.requires.needs) c.in-Err.field-0 c.in-Err.ensures.refused c.in-Err.ensures.err refl c.skip.ensures.stands
+
+pub returns-in-Ok-clause-parts : goal.returns-in-Ok-clause-parts
+returns-in-Ok-clause-parts g c = parts_stay g.P.Port.meaning.parts g.P.Port.state c.args.ports.now c.args.table c.index-ports-table.result c.ask.new.self c.ask.ensures.parts
+
+pub returns-in-Err-clause-parts : goal.returns-in-Err-clause-parts
+returns-in-Err-clause-parts g c = parts_stay g.P.Port.meaning.parts g.P.Port.state c.args.ports.now c.args.table c.index-ports-table.result c.ask.new.self c.ask.ensures.parts

@@ -2,7 +2,7 @@ use Rattle.std.proofs.Common.{length, map, refl}
 use Rattle.stick_model.specs.declared.events.Event.TheVariants as events
 use Rattle.stick_model.specs.declared.replies.Reply.TheVariants as replies
 use Rattle.admit_core.specs.declared.need.Need.TheVariants as needs
-use Rattle.admit_port.proofs.AskLemmas.{by_slot, moved_answered, moved_refused, names_there, none_held, ready_heard, ready_refused, slot_within}
+use Rattle.admit_port.proofs.AskLemmas.{by_slot, moved_answered, moved_refused, names_there, none_held, ready_heard, ready_refused, slot_within, parts_stay}
 use Rattle.admit_port.proofs.asking.look.Goals as goal
 
 pub unreachable-requires : goal.unreachable-requires
@@ -31,3 +31,9 @@ returns-in-Err-clause-moved g c =
     moved_refused g.P.Port.meaning g.P.Port.state c.args.moment c.args.ports.now c.args.conn.now c.requires.ready (needs.Look c.args.slot) (record { table = c.in-Some.table; shard = g.P.Port.meaning.shard_of reference; event = events.Look c.args.moment (g.P.Port.meaning.ticket_of reference) }) c.index-ports-table.result c.look.new.self c.skip.new.conn c.requires.needs
     (by_slot g.P.Port.meaning g.P.Port.state c.args.moment c.args.ports.now c.args.conn.now c.requires.ready (λ ticket. events.Look c.args.moment ticket) c.args.slot c.in-Some.table reference c.in-Some.ensures)
     (slot_within g.P.Port.meaning g.P.Port.state c.args.moment c.args.ports.now c.args.conn.now c.requires.ready c.args.slot (c.in-Some.table, reference) c.in-Some.ensures) c.in-Err.field-0 c.in-Err.ensures.refused c.in-Err.ensures.err refl c.skip.ensures.stands
+
+pub returns-in-Ok-clause-parts : goal.returns-in-Ok-clause-parts
+returns-in-Ok-clause-parts g c = parts_stay g.P.Port.meaning.parts g.P.Port.state c.args.ports.now c.in-Some.table c.index-ports-table.result c.look.new.self c.look.ensures.parts
+
+pub returns-in-Err-clause-parts : goal.returns-in-Err-clause-parts
+returns-in-Err-clause-parts g c = parts_stay g.P.Port.meaning.parts g.P.Port.state c.args.ports.now c.in-Some.table c.index-ports-table.result c.look.new.self c.look.ensures.parts

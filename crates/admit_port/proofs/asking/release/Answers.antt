@@ -3,7 +3,7 @@ use Rattle.stick_model.specs.declared.events.Event.TheVariants as events
 use Rattle.stick_model.specs.declared.replies.Reply.TheVariants as replies
 use Rattle.admit_core.specs.Connection.{gave}
 use Rattle.admit_core.specs.declared.need.Need.TheVariants as needs
-use Rattle.admit_port.proofs.AskLemmas.{by_slot, kept_so, moved_answered, moved_kept, none_held, ready_heard, ready_kept, slot_within}
+use Rattle.admit_port.proofs.AskLemmas.{by_slot, kept_so, moved_answered, moved_kept, none_held, ready_heard, ready_kept, slot_within, parts_stay}
 use Rattle.admit_port.proofs.HearLemmas.{handed_out, kept_holds, released_holds, released_left}
 use Rattle.admit_port.proofs.asking.release.Goals as goal
 
@@ -58,3 +58,9 @@ returns-in-Err-clause-kept g c _ =
     kept_so g.P.Port.meaning g.P.Port.state c.args.moment c.args.ports.now c.args.conn.now c.requires.ready (needs.Release c.args.slot) (record { table = c.in-Some.table; shard = g.P.Port.meaning.shard_of reference; event = events.Release c.args.moment (g.P.Port.meaning.ticket_of reference) }) c.index-ports-table.result c.release.new.self c.refused.new.self c.requires.needs
     (by_slot g.P.Port.meaning g.P.Port.state c.args.moment c.args.ports.now c.args.conn.now c.requires.ready (λ ticket. events.Release c.args.moment ticket) c.args.slot c.in-Some.table reference held)
     (slot_within g.P.Port.meaning g.P.Port.state c.args.moment c.args.ports.now c.args.conn.now c.requires.ready c.args.slot (c.in-Some.table, reference) held) c.in-Err.field-0-1 c.in-Err.ensures.refused c.in-Err.ensures.err refl
+
+pub returns-in-Ok-clause-parts : goal.returns-in-Ok-clause-parts
+returns-in-Ok-clause-parts g c = parts_stay g.P.Port.meaning.parts g.P.Port.state c.args.ports.now c.in-Some.table c.index-ports-table.result c.release.new.self c.release.ensures.parts
+
+pub returns-in-Err-clause-parts : goal.returns-in-Err-clause-parts
+returns-in-Err-clause-parts g c = parts_stay g.P.Port.meaning.parts g.P.Port.state c.args.ports.now c.in-Some.table c.index-ports-table.result c.release.new.self c.release.ensures.parts

@@ -1,4 +1,4 @@
-use Rattle.std.proofs.Common.{◌∙◌, sym, subst, map}
+use Rattle.std.proofs.Common.{◌∙◌, refl, sym, subst, map}
 use Rattle.admit_port.specs.DriveCode.{HasMoved}
 use Rattle.admit_port.proofs.VisitLemmas.{connection_after, judged_goes, judged_more, judged_none, never_kept}
 use Rattle.admit_port.proofs.visit.judge.Goals as goal
@@ -8,6 +8,7 @@ loop-alloc-init g c = record {
   living = c.requires.living;
   ready = c.requires.ready;
   gone = judged_none g.P.Port.meaning g.C.Clock.shows (map g.P.Port.state c.args.ports.now) c.args.conn.now (g.C.Clock.state c.args.clock.now);
+  parts = refl;
 }
 
 pub move_once-requires-clause-wants : goal.move_once-requires-clause-wants
@@ -34,4 +35,5 @@ loop-alloc-preserved g c =
       ready = once.ensures.ready loop.invariant.living;
       gone = judged_more g.P.Port.meaning g.C.Clock.shows (map port c.args.ports.now) (map port loop.ports) (map port once.new.ports) c.args.conn.now loop.conn once.new.conn (state c.args.clock.now) (state loop.clock) (state once.new.clock) once.result
           loop.invariant.living loop.invariant.ready (sym c.is_judged.ensures ∙ c.loop-alloc-test.true) loop.invariant.gone once.ensures.moved;
+      parts = once.ensures.parts ∙ loop.invariant.parts;
     }
