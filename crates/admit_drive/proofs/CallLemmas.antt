@@ -25,7 +25,7 @@ use Rattle.admit_core.specs.declared.need.Need.TheVariants as needs
 use Rattle.admit_drive.specs.Balance.{IsCovered, same_reference, times_in, times_of, times_out}
 use Rattle.admit_drive.specs.Calls.{IsOutNow, call_by, call_of}
 use Rattle.admit_drive.specs.Tables.{AreTablesOf, HasShard, TableState, shard_at, shard_of}
-use Rattle.admit_drive.specs.declared.call.Call.{Call}
+use Rattle.admit_port.specs.Calls.{Call}
 use Rattle.shard_port.specs.declared.reference.Reference.{Reference}
 use Rattle.admit_drive.proofs.SumLemmas.{get_within}
 use Rattle.admit_drive.proofs.HeldLemmas.{times_at}

@@ -64,10 +64,6 @@ track_in Ended want progress slot table key is = cc
 
 -- ---- what is held after an answer
 
--- the progress of a connection that holds out no reference
-abbrev pub took_free : {R : Type 0} → Want → Progress R → Option R → Progress R
-took_free want progress reference = took_in progress.phase want progress reference
-
 heard_none : {R : Type 0} (want : Want) (progress : Progress R) → (heard_by want progress None).held ≡ progress.held
 heard_none (wants.Get t k) progress = refl
 heard_none (wants.Track s t k) progress = refl

@@ -19,7 +19,7 @@ use Rattle.shard_book.specs.BooksState.{IsRefusedAt, live_states}
 use Rattle.shard_port.specs.Books.{BooksAnswer, BooksRefuse, books_meaning}
 use Rattle.shard_port.specs.declared.reference.Reference.{Reference}
 use Rattle.admit_core.specs.Conn.{judged_by, needed, progress_of, Stands}
-use Rattle.admit_core.specs.Connection.{Connection, Progress, is_event, is_release, need, refused}
+use Rattle.admit_core.specs.Connection.{Connection, Progress, is_event, is_release, need, need_takes_memory, refused}
 use Rattle.admit_core.specs.Held.{held_at}
 use Rattle.admit_core.specs.Left.{is_still}
 use Rattle.admit_core.specs.Naming.{names_table_of}
@@ -28,7 +28,8 @@ use Rattle.admit_core.specs.declared.held.Held.{Held}
 use Rattle.admit_core.specs.declared.need.Need.{Need}
 use Rattle.admit_core.specs.declared.need.Need.TheVariants as needs
 use Rattle.admit_core.proofs.NeedLemmas.{conn_table}
-use Rattle.admit_port.specs.Calls.{AnswersAt as PortAnswersAt, Call as PortCall, IsAskedBy, IsAskedFor, RefusedAt, heard as heard_by}
+use Rattle.admit_port.proofs.CommonLemmas.{need_same, setup_same}
+use Rattle.admit_port.specs.Calls.{AnswersAt as PortAnswersAt, Call, IsAskedBy, IsAskedFor, RefusedAt, heard as heard_by}
 use Rattle.admit_port.specs.DriveCode.{CanGoOn, HasMoved as HasMovedBy, IsReleaseRefused}
 use Rattle.admit_port.specs.Moves.{IsRefused as IsRefusedByPort, Moves as MovesByPort}
 use Rattle.admit_port.specs.declared.moved.Moved.{Moved}
@@ -38,24 +39,18 @@ use Rattle.admit_drive.specs.Calls.{AnswersAt, RefusesAt, call_by, call_of, hear
 use Rattle.admit_drive.specs.DriveCode.{HasMoved}
 use Rattle.admit_drive.specs.Moves.{Makes, Moves, MovesBy}
 use Rattle.admit_drive.specs.Tables.{AreTablesOf, TableState, shard_at, shard_of}
-use Rattle.admit_drive.specs.declared.call.Call.{Call}
 use Rattle.admit_drive.proofs.CallLemmas.{CanAsk, can_ask, found_at, held_out, out_here}
-use Rattle.admit_drive.proofs.LeftLemmas.{memory_moves}
-use Rattle.admit_drive.proofs.MakeLemmas.{moves_event, need_same, setup_same}
 
 -- ---- calls
 
-abbrev as_call : PortCall → Call
-as_call call = record { table = call.table; shard = call.shard; event = call.event }
-
-asked_by : (event : Ticket → Event) (held : Option (ℕ × Reference)) (call : PortCall) → IsAskedBy books_meaning event held call → call_by event held ≡ Some (as_call call)
+asked_by : (event : Ticket → Event) (held : Option (ℕ × Reference)) (call : Call) → IsAskedBy books_meaning event held call → call_by event held ≡ Some call
 asked_by event None call asked = absurd asked
-asked_by event (Some entry) call asked = ap (λ (c : PortCall). Some (as_call c)) (sym asked)
+asked_by event (Some entry) call asked = ap (λ (c : Call). Some c) (sym asked)
 
 -- what a need asks of a port is what it asks of the books
-asked_for : (shards now : ℕ) (held : Held Reference) (wanted : Need) (call : PortCall) → IsAskedFor books_meaning shards now held wanted call → (is_event wanted ≡ true) × (call_of shards now held wanted ≡ Some (as_call call))
-asked_for shards now held (needs.Get table key) call asked = (refl, ap (λ (c : PortCall). Some (as_call c)) (sym asked))
-asked_for shards now held (needs.Track slot table key) call asked = (refl, ap (λ (c : PortCall). Some (as_call c)) (sym asked))
+asked_for : (shards now : ℕ) (held : Held Reference) (wanted : Need) (call : Call) → IsAskedFor books_meaning shards now held wanted call → (is_event wanted ≡ true) × (call_of shards now held wanted ≡ Some call)
+asked_for shards now held (needs.Get table key) call asked = (refl, ap (λ (c : Call). Some c) (sym asked))
+asked_for shards now held (needs.Track slot table key) call asked = (refl, ap (λ (c : Call). Some c) (sym asked))
 asked_for shards now held (needs.Look slot) call asked = (refl, asked_by (λ ticket. events.Look now ticket) (held_at held slot) call asked)
 asked_for shards now held (needs.Count slot act) call asked = (refl, asked_by (λ ticket. events.Count now ticket act) (held_at held slot) call asked)
 asked_for shards now held (needs.Release slot) call asked = (refl, asked_by (λ ticket. events.Release now ticket) (held_at held slot) call asked)
@@ -63,12 +58,12 @@ asked_for shards now held needs.Rest call asked = absurd asked
 asked_for shards now held needs.Turn call asked = absurd asked
 asked_for shards now held needs.Finished call asked = absurd asked
 
-released_by : (now : ℕ) (held : Option (ℕ × Reference)) (call : PortCall) → IsAskedBy books_meaning (λ ticket. events.Release now ticket) held call → (ticket : Ticket) × (call.event ≡ events.Release now ticket)
+released_by : (now : ℕ) (held : Option (ℕ × Reference)) (call : Call) → IsAskedBy books_meaning (λ ticket. events.Release now ticket) held call → (ticket : Ticket) × (call.event ≡ events.Release now ticket)
 released_by now None call asked = absurd asked
-released_by now (Some entry) call asked = (entry.1.ticket, ap (λ (c : PortCall). c.event) asked)
+released_by now (Some entry) call asked = (entry.1.ticket, ap (λ (c : Call). c.event) asked)
 
 -- the event of a release
-release_event : (shards now : ℕ) (held : Held Reference) (wanted : Need) (call : PortCall) → is_release wanted ≡ true → IsAskedFor books_meaning shards now held wanted call → (ticket : Ticket) × (call.event ≡ events.Release now ticket)
+release_event : (shards now : ℕ) (held : Held Reference) (wanted : Need) (call : Call) → is_release wanted ≡ true → IsAskedFor books_meaning shards now held wanted call → (ticket : Ticket) × (call.event ≡ events.Release now ticket)
 release_event shards now held (needs.Release slot) call release asked = released_by now (held_at held slot) call asked
 release_event shards now held (needs.Get table key) call release asked = absurd (false≢true release)
 release_event shards now held (needs.Track slot table key) call release asked = absurd (false≢true release)
@@ -88,7 +83,7 @@ heard_same connection at (replies.Row row) = refl
 heard_same connection at (replies.Value value) = refl
 heard_same connection at _ = refl
 
-answered_at : (old new : List TableState) (call : PortCall) (reply : Reply) → PortAnswersAt books_meaning old call reply new → AnswersAt old (as_call call) reply new
+answered_at : (old new : List TableState) (call : Call) (reply : Reply) → PortAnswersAt books_meaning old call reply new → AnswersAt old call reply new
 answered_at old new call reply answers =
     let one : BooksAnswer answers.before call.shard call.event reply answers.after = answers.answers in
     record { taken = one.taken; before = answers.before; after = one.after; at = answers.at; lives = one.lives; extends = one.extends; others = answers.others ∙ ap (λ (t : TableState). slice_set old call.table t) one.others }
@@ -111,12 +106,12 @@ never now states shard ticket refusal (inr spent) so =
     false≢true (sym it.2.1)
 
 -- what is held is out, so that nothing is stale
-module _ (now : ℕ) (tables : List TableState) (setup : Setup) (held : Held Reference) (wanted : Need) (call : PortCall) (are : AreTablesOf setup tables) (covered : IsCovered tables held) (named : names_table_of setup wanted ≡ true)
+module _ (now : ℕ) (tables : List TableState) (setup : Setup) (held : Held Reference) (wanted : Need) (call : Call) (are : AreTablesOf setup tables) (covered : IsCovered tables held) (named : names_table_of setup wanted ≡ true)
     (asked : IsAskedFor books_meaning setup.shards now held wanted call) (so : RefusedAt books_meaning tables call) where
-  can : CanAsk tables (as_call call)
-  can = can_ask setup tables now held wanted (as_call call) are covered named (asked_for setup.shards now held wanted call asked).1
+  can : CanAsk tables call
+  can = can_ask setup tables now held wanted call are covered named (asked_for setup.shards now held wanted call asked).1
 
-  by_book : (refusal : Refusal) → IsRefusedAt (live_states so.port.state) call.shard call.event refusal → RefusesAt tables (as_call call)
+  by_book : (refusal : Refusal) → IsRefusedAt (live_states so.port.state) call.shard call.event refusal → RefusesAt tables call
   by_book refusals.Memory it = record { before = so.port; refusal = refusals.Memory; at = so.at; refused = it; why = inl refl }
   by_book refusals.Exhausted it = record { before = so.port; refusal = refusals.Exhausted; at = so.at; refused = it; why = inr refl }
   by_book (refusals.Behind count front) it = absurd it.2
@@ -125,14 +120,14 @@ module _ (now : ℕ) (tables : List TableState) (setup : Setup) (held : Held Ref
       let same_live : can.1.live ≡ it.0 = same_state can.1.live it.0 (sym can.1.at ∙ found) in
       absurd (false≢true (sym it.2 ∙ subst (λ s. is_out s call.event ≡ true) same_live can.1.out))
 
-  by : (refusal : Refusal) → BooksRefuse so.port call.shard call.event refusal → RefusesAt tables (as_call call)
+  by : (refusal : Refusal) → BooksRefuse so.port call.shard call.event refusal → RefusesAt tables call
   by refusal (inl none) =
       let same : can.0.found ≡ so.port = same_table (slice_get tables call.table) can.0.found so.port can.0.at so.at in
       let within : call.shard < length so.port.state.books = subst (λ (t : TableState). call.shard < length t.state.books) same can.0.within in
       absurd (omega (arith, within, none.0))
   by refusal (inr it) = by_book refusal it
 
-  refuses : RefusesAt tables (as_call call)
+  refuses : RefusesAt tables call
   refuses = by so.refusal so.refused
 
   no_release : is_release wanted ≡ true → ⊥
@@ -148,6 +143,30 @@ was_refused outcomes.Turned = false
 was_refused outcomes.Refused = true
 was_refused outcomes.Kept = true
 
+-- ---- moves
+
+moves_event : (now : ℕ) (old : List TableState) (connection : Connection Reference) (wanted : Need) (new : List TableState) (after : Connection Reference) (was_refused : Bool) → is_event wanted ≡ true → need connection ≡ wanted
+    → Makes old connection (call_of connection.setup.shards now connection.progress.held wanted) new after was_refused → Moves now old connection new after was_refused
+moves_event now old connection (needs.Get table key) new after was_refused event is makes = subst (λ w. MovesBy now old connection w new after was_refused) (sym is) makes
+moves_event now old connection (needs.Track slot table key) new after was_refused event is makes = subst (λ w. MovesBy now old connection w new after was_refused) (sym is) makes
+moves_event now old connection (needs.Look slot) new after was_refused event is makes = subst (λ w. MovesBy now old connection w new after was_refused) (sym is) makes
+moves_event now old connection (needs.Count slot act) new after was_refused event is makes = subst (λ w. MovesBy now old connection w new after was_refused) (sym is) makes
+moves_event now old connection (needs.Release slot) new after was_refused event is makes = subst (λ w. MovesBy now old connection w new after was_refused) (sym is) makes
+moves_event now old connection needs.Rest new after was_refused event is makes = absurd (false≢true event)
+moves_event now old connection needs.Turn new after was_refused event is makes = absurd (false≢true event)
+moves_event now old connection needs.Finished new after was_refused event is makes = absurd (false≢true event)
+
+-- where there is no memory for a key
+memory_moves : (now : ℕ) (tables : List TableState) (connection : Connection Reference) (wants : Need) → need connection ≡ wants → need_takes_memory connection.setup wants ≡ true → Moves now tables connection tables (refused connection None) true
+memory_moves now tables connection (needs.Get t k) is takes = subst (λ w. MovesBy now tables connection w tables (refused connection None) true) (sym is) (inr (ap (need_takes_memory connection.setup) is ∙ takes), refl, refl)
+memory_moves now tables connection (needs.Track s t k) is takes = subst (λ w. MovesBy now tables connection w tables (refused connection None) true) (sym is) (inr (ap (need_takes_memory connection.setup) is ∙ takes), refl, refl)
+memory_moves now tables connection (needs.Look s) is takes = absurd (false≢true takes)
+memory_moves now tables connection (needs.Count s a) is takes = absurd (false≢true takes)
+memory_moves now tables connection (needs.Release s) is takes = absurd (false≢true takes)
+memory_moves now tables connection needs.Rest is takes = absurd (false≢true takes)
+memory_moves now tables connection needs.Turn is takes = absurd (false≢true takes)
+memory_moves now tables connection needs.Finished is takes = absurd (false≢true takes)
+
 -- it is refused: by its port, or as there is no memory for the key
 refused_as : (now : ℕ) (old new : List TableState) (connection after : Connection Reference) → AreTablesOf connection.setup old → IsCovered old connection.progress.held → names_table_of connection.setup (need connection) ≡ true
     → IsRefusedByPort books_meaning now old connection → new ≡ old → after ≡ refused connection None → Moves now old connection new after true
@@ -161,7 +180,7 @@ refused_as now old new connection after are covered named (inr takes) stays is =
 moves_as : (now : ℕ) (old new : List TableState) (connection after : Connection Reference) (moved : Moved) → (moved ≡ outcomes.Kept → ⊥) → AreTablesOf connection.setup old → IsCovered old connection.progress.held
     → names_table_of connection.setup (need connection) ≡ true → MovesByPort books_meaning now old connection new after moved → Moves now old connection new after (was_refused moved)
 moves_as now old new connection after outcomes.Answered goes are covered named moves =
-    let call : PortCall = moves.0 in
+    let call : Call = moves.0 in
     let asks = asked_for connection.setup.shards now connection.progress.held (need connection) call moves.2 in
     moves_event now old connection (need connection) new after false asks.0 refl
     (subst (λ o. Makes old connection o new after false) (sym asks.1) (moves.1, answered_at old new call moves.1 moves.3, moves.4 ∙ heard_same connection call.shard moves.1))

@@ -121,17 +121,6 @@ times_once ticket (held ∷ tickets) distinct =
 pub once_of : (ticket : Ticket) (state : State) → IsLegal state → times_of ticket state ≤ 1
 once_of ticket state legal = times_once ticket state.tickets legal.numbers_differ
 
--- one that has a key is out
-pub out_with_key : (ticket : Ticket) (tickets : List (Ticket × Key)) → is_some (key_of ticket tickets) ≡ true → 1 ≤ times ticket tickets
-out_with_key ticket [] out = absurd (false≢true out)
-out_with_key ticket (held ∷ tickets) out =
-    elim (same_ticket ticket held.0) as (λ b. is_some (cond b (Some held.1) (key_of ticket tickets)) ≡ true → same_ticket ticket held.0 ≡ b → 1 ≤ times ticket (held ∷ tickets)) [
-      | true ↦ λ out is.
-          let one : ◌≡◌ {A = ℕ} (cond (same_ticket ticket held.0) 1 0) 1 = ap (λ b. cond b 1 0) is in
-          omega (arith, one, sum_by-cons (λ (h : Ticket × Key). cond (same_ticket ticket h.0) 1 0) held tickets)
-      | false ↦ λ out differ. omega (arith, out_with_key ticket tickets out, sum_by-cons (λ (h : Ticket × Key). cond (same_ticket ticket h.0) 1 0) held tickets)
-    ] out refl
-
 -- ---- what a step's reply tells
 
 pub tracked_times : (old : State) (event : Event) (given : Ticket) (row : Row) (new : State) (ticket : Ticket) → Step old event (Tracked given row) new → times_of ticket new ≡ times_of ticket old + same ticket given

@@ -90,9 +90,6 @@ reached_more view later number moment was_refused same within below went reached
 abbrev pub HasRun : WorldView → List (ℕ × ℕ) → WorldView → ℕ → Type 0
 HasRun view schedule later count = (visits : List Visit) (world : WorldState) → StandsFor view visits world → (next : WorldState) × StandsFor later visits next × Elements visits world schedule next count
 
-pub ran_none : (view : WorldView) → HasRun view [] view 0
-ran_none view visits world stands = (world, stands, (refl, refl))
-
 pub ran_more : (view middle later : WorldView) (schedule more : List (ℕ × ℕ)) (element : ℕ × ℕ) (count total : ℕ) (was_refused : Bool) → HasRun view schedule middle count → HasWent middle element later was_refused
     → more ≡ schedule ++ element ∷ [] → total ≡ count + cond was_refused 1 0 → HasRun view more later total
 ran_more view middle later schedule more element count total was_refused ran went is sum visits world stands =

@@ -18,7 +18,8 @@ use Rattle.admit_core.specs.declared.need.Phase.TheVariants.{New, Judging, Admit
 use Rattle.stick_model.specs.declared.replies.Reply.{Reply}
 use Rattle.stick_model.specs.declared.replies.Reply.TheVariants as replies
 use Rattle.admit_drive.specs.Balance.{times_by, times_in}
-use Rattle.admit_drive.specs.Calls.{answer_of, call_of, heard, reference_of}
+use Rattle.admit_drive.specs.Calls.{call_of, heard, reference_of}
+use Rattle.admit_port.specs.Calls.{answer_of}
 use Rattle.admit_drive.specs.Moves.{Goes, Makes, MovesBy}
 use Rattle.admit_drive.specs.Tables.{TableState}
 use Rattle.shard_port.specs.declared.reference.Reference.{Reference}
@@ -33,9 +34,6 @@ pub record IsEmpty {R : Type 0} (progress : Progress R) : Type 0 where
 
 abbrev pub EndsEmpty : {R : Type 0} → Progress R → Type 0
 EndsEmpty progress = progress.phase ≡ Ended → IsEmpty progress
-
-not_ended : (phase : Phase) → is_judged phase ≡ true → phase ≡ Ended → ⊥
-not_ended phase judged ended = false≢true (sym (ap is_judged ended) ∙ judged)
 
 by_phase : (want : Want) → phase_by want ≡ Ended → ⊥
 by_phase (wants.Get table key) is = cc

@@ -130,10 +130,6 @@ before_rolls zero tables = none_rolls (table_states tables)
 before_rolls (suc place) [] = tt
 before_rolls (suc place) (table ∷ tables) = (due_rolls table, before_rolls place tables)
 
-pub all_roll : (tables : List (Named BooksState)) → TablesRoll (table_states tables) (table_states (map rolled_named tables))
-all_roll [] = tt
-all_roll (table ∷ tables) = (due_rolls table, all_roll tables)
-
 some_of : {X : Type 0} (x y : X) → Some x ≡ Some y → x ≡ y
 some_of x y e = cc
 
