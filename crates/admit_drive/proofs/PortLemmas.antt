@@ -1,9 +1,8 @@
 -- A move by the ports of the books is a move by the books.
-use Rattle.std.proofs.Common.{◌≡◌, ◌≢◌, ◌⊎◌, ℕ, ◌<◌, ◌≤◌, refl, sym, ap, subst, ◌∙◌, arith, Bool, true, false, List, length, is_some, slice_get, slice_set, Option, Some, None, inl, inr}
+use Rattle.std.proofs.Common.{◌≡◌, ◌≢◌, ◌⊎◌, ℕ, ◌<◌, refl, sym, ap, subst, ◌∙◌, arith, Bool, true, false, List, length, is_some, slice_get, slice_set, Option, Some, None, inl, inr}
 use Rattle.std.specs.Option.{option_and_then}
 use Rattle.std.proofs.lemmas.Bool.{false≢true}
 use Rattle.std.proofs.lemmas.Option.{slice_get-map, slice_get_within}
-use Rattle.rule_model.specs.declared.actions.Slot.{Slot}
 use Rattle.rule_model.specs.declared.sections.Setup.{Setup}
 use Rattle.stick_model.specs.State.{State}
 use Rattle.stick_model.specs.Step.{is_out}
@@ -18,7 +17,7 @@ use Rattle.shard_book.specs.BookState.{BookState}
 use Rattle.shard_book.specs.BooksState.{IsRefusedAt, live_states}
 use Rattle.shard_port.specs.Books.{BooksAnswer, BooksRefuse, books_meaning}
 use Rattle.shard_port.specs.declared.reference.Reference.{Reference}
-use Rattle.admit_core.specs.Conn.{judged_by, needed, progress_of, Stands}
+use Rattle.admit_core.specs.Conn.{judged_by, needed, progress_of}
 use Rattle.admit_core.specs.Connection.{Connection, Progress, is_event, is_release, need, need_takes_memory, refused}
 use Rattle.admit_core.specs.Held.{held_at}
 use Rattle.admit_core.specs.Left.{is_still}

@@ -1,12 +1,12 @@
 -- How often a ticket is out, before and after a step.
-use Rattle.std.proofs.Common.{◌≡◌, ℕ, ◌+◌, ◌≤◌, refl, sym, ap, ◌∙◌, arith, Bool, true, false, cond, not, nat_eq, ◌&&◌, List, [], ◌∷◌, ◌++◌, filter, map, count_by, Some, is_some}
+use Rattle.std.proofs.Common.{◌≡◌, ℕ, ◌+◌, ◌≤◌, refl, sym, ap, ◌∙◌, arith, Bool, true, false, cond, not, nat_eq, ◌&&◌, List, [], ◌∷◌, ◌++◌, filter, map, count_by}
 use Rattle.std.proofs.lemmas.Bool.{false≢true}
 use Rattle.std.proofs.lemmas.Bool.Decides.{nat_tests}
 use Rattle.std.specs.List.{AllByRecursion, IsDistinct}
 use Rattle.std.proofs.lemmas.List.Sums.{sum_by-cons, sum_by_push}
 use Rattle.std.proofs.lemmas.Map.Keys.{IsDistinct-head, IsDistinct-tail}
 use Rattle.stick_model.specs.Key.{Key}
-use Rattle.stick_model.specs.State.{State, key_of, same_ticket}
+use Rattle.stick_model.specs.State.{State, same_ticket}
 use Rattle.stick_model.specs.Legal.{IsLegal, number_in}
 use Rattle.stick_model.specs.Step.{Step}
 use Rattle.stick_model.specs.declared.events.Event.{Event}

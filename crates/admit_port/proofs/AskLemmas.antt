@@ -1,5 +1,5 @@
 -- What asking a port comes to.
-use Rattle.std.proofs.Common.{◌≡◌, ℕ, ◌<◌, refl, sym, ap, subst, ◌∙◌, Bool, true, false, List, length, map, slice_get, slice_set, get_or, Option, Some, None, is_some, inl, inr}
+use Rattle.std.proofs.Common.{◌≡◌, ℕ, ◌<◌, refl, sym, ap, subst, ◌∙◌, true, false, List, length, map, slice_get, slice_set, get_or, Option, Some, None, is_some, inl, inr}
 use Rattle.std.specs.Prelude.{option_map}
 use Rattle.std.proofs.lemmas.Bool.{false≢true, ltb-true}
 use Rattle.std.proofs.Math.Logic.{∥∥₁_elim}

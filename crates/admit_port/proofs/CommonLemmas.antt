@@ -1,9 +1,9 @@
 -- What the code of a connection stands for, and what it is told of memory.
-use Rattle.std.proofs.Common.{◌≡◌, ℕ, refl, sym, subst, ◌∙◌, Bool, true, false, Option, Some, None, is_some, Result, Err}
+use Rattle.std.proofs.Common.{◌≡◌, refl, sym, subst, Bool, true, false, Option, Some, None, is_some, Result, Err}
 use Rattle.std.specs.Prelude.{IsOk}
 use Rattle.std.proofs.lemmas.Bool.{false≢true}
 use Rattle.rule_model.specs.declared.sections.Setup.{Setup}
-use Rattle.admit_core.specs.Conn.{Judges, judged_by, needed, progress_of, Stands}
+use Rattle.admit_core.specs.Conn.{Judges, judged_by, needed, Stands}
 use Rattle.admit_core.specs.Connection.{Connection, is_release, need, need_of, need_takes_memory}
 use Rattle.admit_core.specs.declared.conn.Conn.{Conn}
 use Rattle.admit_core.specs.declared.need.Need.{Need}

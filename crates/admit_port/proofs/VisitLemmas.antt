@@ -1,14 +1,13 @@
 -- A connection goes on, one move after another, each at a moment of its own.
-use Rattle.std.proofs.Common.{◌≡◌, ◌≢◌, ◌<◌, ◌^◌, ℕ, zero, suc, refl, sym, ap, subst, ◌∙◌, true, false, List, Option, Some, None, is_some, is_none, slice_get, arith}
+use Rattle.std.proofs.Common.{◌≡◌, ◌≢◌, ℕ, zero, suc, refl, sym, ap, subst, ◌∙◌, true, false, List, Option, Some, None, is_some, is_none, slice_get}
 use Rattle.std.proofs.Math.Logic.{∥∥₁_elim, ∥∥₁_map}
 use Rattle.stored_data.specs.declared.act.Act.{Act}
 use Rattle.rule_eval.specs.declared.wants.Want.{Want}
 use Rattle.rule_eval.specs.declared.wants.Want.TheVariants as wants
 use Rattle.rule_eval.specs.declared.wants.Verdict.TheVariants.{Accept, Reject}
 use Rattle.rule_model.specs.declared.actions.Slot.{Slot}
-use Rattle.rule_model.specs.declared.sections.Setup.{Setup}
 use Rattle.admit_core.specs.Conn.{needed, progress_of, wanted, Stands}
-use Rattle.admit_core.specs.Connection.{Connection, Progress, counting, is_judged, judging, need, released_of, sessions}
+use Rattle.admit_core.specs.Connection.{Progress, counting, is_judged, judging, need, released_of, sessions}
 use Rattle.admit_core.specs.Held.{holding}
 use Rattle.admit_core.specs.Left.{is_still}
 use Rattle.admit_core.proofs.ConnLemmas.{judged_need}

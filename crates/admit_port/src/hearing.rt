@@ -1,6 +1,6 @@
 //! A connection hears what became of what it wanted.
 
-ghost use Rattle.std.specs.Prelude.{◌≡◌, ◌+◌, ◌≤◌, ◌<◌, ℕ, None, Some, true, false, is_some};
+ghost use Rattle.std.specs.Prelude.{◌≡◌, ◌+◌, ◌≤◌, ◌<◌, ℕ, None, true, false, is_some};
 ghost use Rattle.admit_core.specs.Conn.{needed, progress_of, Stands};
 ghost use Rattle.admit_core.specs.Connection.{Connection, answers_need, is_event, is_release, refused, took};
 ghost use Rattle.admit_port.specs.DriveCode.{moves_left};

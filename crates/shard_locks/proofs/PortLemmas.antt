@@ -1,14 +1,10 @@
 -- What a seat is told, as the answers of a port.
-use Rattle.std.proofs.Common.{◌≡◌, ℕ, ◌∙◌, ap, refl, true, Option, Some, Result, Ok, Err, inr}
-use Rattle.std.specs.Prelude.{IfErr}
+use Rattle.std.proofs.Common.{◌≡◌, ℕ, ◌∙◌, ap, refl, true, Option, Some, inr}
 use Rattle.stick_model.specs.Key.{Key}
 use Rattle.stick_model.specs.declared.events.Event.{Event}
-use Rattle.stick_model.specs.declared.events.Event.TheVariants.{Get, Track}
+use Rattle.stick_model.specs.declared.events.Event.TheVariants.{Track}
 use Rattle.stick_model.specs.declared.replies.Refusal.{Refusal}
-use Rattle.stick_model.specs.declared.replies.Reply.{Reply}
-use Rattle.shard_port.specs.Books.{is_of_get}
 use Rattle.shard_port.specs.Port.{Tracks, came_with, is_tracking, place}
-use Rattle.shard_port.proofs.ReplyLemmas.{got as got_from}
 use Rattle.shard_book.specs.SeatState.{RefState, SeatState}
 use Rattle.shard_book.specs.Told.{IsRefusedTo, Told}
 use Rattle.shard_locks.specs.Ported.{SeatedRefuse, came, seated_meaning}
@@ -16,9 +12,6 @@ use Rattle.shard_locks.specs.ShardsState.{SeatedState}
 use Rattle.shard_locks.specs.Tracking.{IsAt, reply_of}
 use Rattle.shard_locks.specs.declared.tracking.Tracking.{Tracking}
 use Rattle.shard_locks.specs.declared.tracking.Tracking.TheVariants.{Tracked, Full, NoRefs}
-
-pub got : (old new : SeatState) (shard now : ℕ) (key : Key) (reply : Reply) → Told old shard (Get now key) reply new → is_of_get reply ≡ true
-got old new shard now key reply told = got_from now key reply (record { before = told.before; after = told.after; legal = told.legal; step = told.step })
 
 pub refused_key : (old : SeatedState) (shard : ℕ) (event : Event) (refusal : Refusal) → IsRefusedTo old.seat shard event refusal → SeatedRefuse old shard event refusal
 refused_key old shard event refusal so = inr so

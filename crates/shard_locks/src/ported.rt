@@ -33,7 +33,7 @@ impl<'a, T: Table, R: Wait> Port for Seated<'a, T, R> {
 
     ghost meaning = { seated_meaning };
 
-    #[tactic(auto, using(crate::proofs::PortLemmas::got, crate::proofs::PortLemmas::refused_key))]
+    #[tactic(auto, using(crate::proofs::ReplyLemmas::told_got, crate::proofs::PortLemmas::refused_key))]
     fn ask(&mut self, key: StickKey, now: u64) -> Result<Option<Row>, Refusal> {
         let place = shard_of(&key, self.shards.shards());
         let event = Event::Get(now, key);

@@ -1,5 +1,5 @@
 -- What asking a book comes to.
-use Rattle.std.proofs.Common.{◌≡◌, ℕ, Result, Ok, Err}
+use Rattle.std.proofs.Common.{ℕ, Result, Ok, Err}
 use Rattle.std.specs.Prelude.{IfOk}
 use Rattle.stick_model.specs.declared.events.Event.{Event}
 use Rattle.stick_model.specs.declared.replies.Refusal.{Refusal}

@@ -10,4 +10,4 @@ mod replies;
 
 pub use port::Port;
 pub use reference::Reference;
-pub use replies::row_or_none;
+pub use replies::{counted_value, row_or_none, shown_row};

@@ -6,7 +6,7 @@ use stored_data::Act;
 
 /// A table in shards, wherever they are kept: what a connection asks. A refusal changes nothing.
 pub trait Port {
-    ghost use Rattle.std.specs.Prelude.{◌≡◌, ◌<◌, ◌^◌, ℕ, IfOk, IfErr, OnOk, OnErr};
+    ghost use Rattle.std.specs.Prelude.{◌≡◌, ◌<◌, ◌^◌, IfOk, IfErr, OnOk, OnErr};
     ghost use Rattle.stored_data.specs.Laws.{HasTag};
     ghost use Rattle.stick_model.specs.declared.events.Event.TheVariants.{Get, Track as Tracking, Look, Count, Release};
     ghost use Rattle.stick_model.specs.declared.replies.Reply.TheVariants.{Row as Shown, Value, Released};

@@ -1,4 +1,4 @@
-//! What the replies of a shard tell.
+//! What the replies of a shard tell; the ports here and in `shard_locks` read them so.
 
 ghost use Rattle.std.specs.Prelude.{◌≡◌, true};
 ghost use Rattle.stick_model.specs.declared.replies.Reply.TheVariants.{Row as Shown, Value};
@@ -35,7 +35,7 @@ pub(crate) fn reference_in(reply: &Reply, shard: u32) -> Option<Reference>
 }
 
 /// The row that a reply to a Look shows.
-pub(crate) fn shown_row(reply: Reply) -> Row
+pub fn shown_row(reply: Reply) -> Row
     requires { is_of_look reply ≡ true }
     ensures { Shown result ≡ reply }
 {
@@ -46,7 +46,7 @@ pub(crate) fn shown_row(reply: Reply) -> Row
 }
 
 /// The value of a reply to an act.
-pub(crate) fn counted_value(reply: &Reply) -> Option<u64>
+pub fn counted_value(reply: &Reply) -> Option<u64>
     requires { is_of_count reply.now ≡ true }
     ensures { Value result ≡ reply.now }
 {

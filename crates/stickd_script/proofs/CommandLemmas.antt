@@ -1,6 +1,5 @@
 -- Commands leave each table what it was made with, its shards, and the references that they have out.
 use Rattle.std.proofs.Common.{◌≡◌, ℕ, zero, suc, refl, sym, ap, ◌∙◌, Option, Some, None, option_map, Result, Ok, Err, List, [], ◌∷◌, map, length, slice_get, inl, inr}
-use Rattle.std.specs.Prelude.{All}
 use Rattle.std.specs.List.{range_with_len}
 use Rattle.std.specs.Option.{option_and_then, option_map_or}
 use Rattle.std.proofs.Math.Seq.{map-set_same}

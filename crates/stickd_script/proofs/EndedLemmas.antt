@@ -7,7 +7,7 @@ use Rattle.rule_eval.specs.declared.wants.Answer.TheVariants.{Released}
 use Rattle.rule_eval.specs.declared.wants.Verdict.TheVariants.{Accept, Reject}
 use Rattle.rule_eval.specs.declared.wants.Want.{Want}
 use Rattle.rule_eval.specs.declared.wants.Want.TheVariants as wants
-use Rattle.admit_core.specs.Connection.{Connection, Progress, arrived, asks, closed, gave, gave_at, gave_of, heard as heard_by, is_asking, is_event, is_judged, is_release, need, need_given, need_in, need_of, phase_by, refused, refused_before, refused_given, refused_of, skipped, took, took_given, took_in, took_of, turned}
+use Rattle.admit_core.specs.Connection.{Connection, Progress, asks, gave, gave_at, gave_of, heard as heard_by, is_asking, is_judged, need, need_given, need_in, need_of, phase_by, refused, refused_before, refused_given, refused_of, skipped, took, took_given, took_in, took_of, turned}
 use Rattle.admit_core.specs.Held.{held_at, holding}
 use Rattle.admit_core.proofs.HistoryLemmas.{ended_law}
 use Rattle.admit_core.specs.declared.held.Held.{Held}

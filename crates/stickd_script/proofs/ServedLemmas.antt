@@ -1,5 +1,5 @@
 -- Each line keeps what stands before it.
-use Rattle.std.proofs.Common.{rules, zero, suc, ◌≡◌, ℕ, ◌+◌, ◌<◌, ◌^◌, nat_eq, refl, sym, ap, subst, ◌∙◌, arith, Option, Some, None, option_map, List, [], ◌∷◌, ◌++◌, map, length, slice_get, append-nil, inl, inr}
+use Rattle.std.proofs.Common.{rules, zero, suc, ◌≡◌, ℕ, ◌+◌, ◌<◌, ◌^◌, nat_eq, refl, sym, ap, subst, ◌∙◌, arith, Option, Some, None, option_map, List, [], ◌∷◌, map, length, slice_get, inl, inr}
 use Rattle.std.specs.Prelude.{All}
 use Rattle.std.specs.List.{AllByRecursion, IsDistinct}
 use Rattle.std.proofs.lemmas.List.{length-map}

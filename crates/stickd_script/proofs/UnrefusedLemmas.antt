@@ -1,6 +1,5 @@
 -- A script in which nothing is refused has one output.
-use Rattle.std.proofs.Common.{◌≡◌, inl, ℕ, nat_eq, refl, sym, ap, subst, ◌∙◌, Bool, true, false, cond, not, Option, Some, None, option_map, List, [], ◌∷◌, ◌++◌, map, filter}
-use Rattle.std.proofs.lemmas.List.{map-append}
+use Rattle.std.proofs.Common.{◌≡◌, inl, ℕ, refl, sym, ap, subst, ◌∙◌, Bool, true, false, cond, Option, Some, None, option_map, List, [], ◌∷◌, ◌++◌, map}
 use Rattle.std.specs.BTreeMap.{insert_entry, is_at}
 use Rattle.std.specs.Map.{lookup, remove_entry}
 use Rattle.std.specs.Ordering.{is_eq, match_ordering, nat_cmp}

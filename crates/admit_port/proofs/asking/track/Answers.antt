@@ -1,8 +1,8 @@
-use Rattle.std.proofs.Common.{◌∙◌, ap, get_or, length, map, refl, rules, None}
+use Rattle.std.proofs.Common.{◌∙◌, ap, get_or, length, map, refl, rules}
 use Rattle.stick_model.specs.declared.events.Event.TheVariants as events
 use Rattle.admit_core.specs.Connection.{answers_need}
 use Rattle.admit_core.specs.declared.need.Need.TheVariants as needs
-use Rattle.shard_port.specs.Port.{place, row_reply}
+use Rattle.shard_port.specs.Port.{place}
 use Rattle.admit_port.proofs.AskLemmas.{tracked, tracking_answers, moved_answered, moved_refused, named_there, names_there, place_is, ready_heard, ready_refused, parts_stay}
 use Rattle.admit_port.proofs.asking.track.Goals as goal
 
