@@ -20,8 +20,8 @@ use Rattle.admit_drive.specs.Balance.{IsCovered, same_reference, times_by, times
 use Rattle.admit_drive.specs.Calls.{AnswersAt, call_by, call_of, fits, heard}
 use Rattle.admit_drive.specs.Moves.{Makes, Moves, MovesBy}
 use Rattle.admit_drive.specs.Tables.{AreTablesOf, TableState}
-use Rattle.admit_drive.specs.declared.call.Call.{Call}
-use Rattle.admit_drive.specs.declared.reference.Reference.{Reference}
+use Rattle.admit_port.specs.Calls.{Call}
+use Rattle.shard_port.specs.declared.reference.Reference.{Reference}
 use Rattle.admit_drive.proofs.HeldLemmas.{gave_back, refused_same, times_with, took_nothing, took_tracked}
 use Rattle.admit_drive.proofs.CallLemmas.{held_out, legal_at}
 use Rattle.admit_drive.proofs.ShardLemmas.{after_of, before_of, out_less, out_more, out_same, replaces, step_of}

@@ -18,7 +18,7 @@ use Rattle.admit_core.specs.declared.need.Need.TheVariants as needs
 use Rattle.admit_core.specs.declared.need.Phase.{Phase}
 use Rattle.admit_core.specs.declared.need.Phase.TheVariants.{New, Judging, Admitted, Rejected, Ended}
 use Rattle.admit_drive.specs.Calls.{call_of, heard}
-use Rattle.admit_drive.specs.declared.reference.Reference.{Reference}
+use Rattle.shard_port.specs.declared.reference.Reference.{Reference}
 use Rattle.admit_drive.proofs.OneMoveLemmas.{Moved, View, quiet_of}
 
 abbrev pub as_told : Samples → List Answer → Connection Reference → Connection Reference

@@ -25,8 +25,8 @@ use Rattle.admit_core.specs.declared.need.Need.TheVariants as needs
 use Rattle.admit_drive.specs.Balance.{IsCovered, same_reference, times_in, times_of, times_out}
 use Rattle.admit_drive.specs.Calls.{IsOutNow, call_by, call_of}
 use Rattle.admit_drive.specs.Tables.{AreTablesOf, HasShard, TableState, shard_at, shard_of}
-use Rattle.admit_drive.specs.declared.call.Call.{Call}
-use Rattle.admit_drive.specs.declared.reference.Reference.{Reference}
+use Rattle.admit_port.specs.Calls.{Call}
+use Rattle.shard_port.specs.declared.reference.Reference.{Reference}
 use Rattle.admit_drive.proofs.SumLemmas.{get_within}
 use Rattle.admit_drive.proofs.HeldLemmas.{times_at}
 use Rattle.admit_drive.proofs.TicketLemmas.{same_self, times}
@@ -70,7 +70,7 @@ held_out tables held slot entry covered at =
 -- ---- shards
 
 -- a shard that is in a state is there
-found_at : (tables : List TableState) (table shard : ℕ) (live : State) → shard_at tables table shard ≡ Some live → HasShard tables table shard
+pub found_at : (tables : List TableState) (table shard : ℕ) (live : State) → shard_at tables table shard ≡ Some live → HasShard tables table shard
 found_at tables table shard live at = in_table (slice_get tables table) refl at
   where
     in_shard : (found : TableState) (o : Option BookState) → slice_get found.state.books shard ≡ o → option_map (λ (b : BookState). b.live) o ≡ Some live → shard < length found.state.books

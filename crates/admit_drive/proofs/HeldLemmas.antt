@@ -15,7 +15,7 @@ use Rattle.admit_core.specs.declared.need.Need.TheVariants as needs
 use Rattle.admit_core.specs.declared.need.Phase.{Phase}
 use Rattle.admit_core.specs.declared.need.Phase.TheVariants.{New, Judging, Admitted, Rejected, Ended}
 use Rattle.admit_drive.specs.Balance.{times_by, times_in}
-use Rattle.admit_drive.specs.declared.reference.Reference.{Reference}
+use Rattle.shard_port.specs.declared.reference.Reference.{Reference}
 use Rattle.admit_core.proofs.SkippedLemmas.{skipped_leaves}
 
 -- one slot holds another reference, or none
@@ -63,10 +63,6 @@ track_in Rejected want progress slot table key is = absurd (no_track (holding pr
 track_in Ended want progress slot table key is = cc
 
 -- ---- what is held after an answer
-
--- the progress of a connection that holds out no reference
-abbrev pub took_free : {R : Type 0} → Want → Progress R → Option R → Progress R
-took_free want progress reference = took_in progress.phase want progress reference
 
 heard_none : {R : Type 0} (want : Want) (progress : Progress R) → (heard_by want progress None).held ≡ progress.held
 heard_none (wants.Get t k) progress = refl

@@ -17,8 +17,8 @@ use Rattle.admit_drive.specs.Calls.{call_by, call_of, fits, heard}
 use Rattle.admit_drive.specs.Lived.{IsLived}
 use Rattle.admit_drive.specs.Moves.{Goes, Makes, Moves, MovesBy, ComesToRest}
 use Rattle.admit_drive.specs.Tables.{AreTablesOf, TableState}
-use Rattle.admit_drive.specs.declared.call.Call.{Call}
-use Rattle.admit_drive.specs.declared.reference.Reference.{Reference}
+use Rattle.admit_port.specs.Calls.{Call}
+use Rattle.shard_port.specs.declared.reference.Reference.{Reference}
 use Rattle.admit_drive.proofs.TablesLemmas.{move_tables}
 use Rattle.admit_drive.proofs.CallLemmas.{legal_at}
 use Rattle.admit_drive.proofs.LivedLemmas.{is_tracked, lived_free, other_heard, refused_lived, released_lived, took_lived, tracked_heard, turned_lived}

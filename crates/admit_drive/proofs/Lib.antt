@@ -2,12 +2,10 @@ pub mod SumLemmas
 pub mod TicketLemmas
 pub mod ShardLemmas
 pub mod HeldLemmas
-pub mod AskLemmas
 pub mod OpenLemmas
 pub mod ReplyLemmas
 pub mod CallLemmas
-pub mod MakeLemmas
-pub mod LeftLemmas
+pub mod PortLemmas
 pub mod BalanceLemmas
 pub mod TablesLemmas
 pub mod LivedLemmas

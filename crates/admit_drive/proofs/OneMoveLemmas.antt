@@ -13,8 +13,8 @@ use Rattle.admit_core.specs.declared.need.Need.TheVariants as needs
 use Rattle.admit_drive.specs.Calls.{AnswersAt, call_of, heard}
 use Rattle.admit_drive.specs.Moves.{Makes, Moves, MovesBy}
 use Rattle.admit_drive.specs.Tables.{AreTablesOf, TableState, shard_at}
-use Rattle.admit_drive.specs.declared.call.Call.{Call}
-use Rattle.admit_drive.specs.declared.reference.Reference.{Reference}
+use Rattle.admit_port.specs.Calls.{Call}
+use Rattle.shard_port.specs.declared.reference.Reference.{Reference}
 use Rattle.admit_drive.proofs.SumLemmas.{some_same}
 use Rattle.admit_drive.proofs.CallLemmas.{legal_at}
 use Rattle.admit_drive.proofs.ShardLemmas.{after_of, before_of, replaces, step_of}

@@ -8,7 +8,7 @@ use Rattle.shard_book.specs.BooksState.{BooksState, opened_books}
 use Rattle.shard_book.specs.Keeping.{part_of}
 use Rattle.shard_book.specs.declared.named.Named.{Named}
 use Rattle.admit_drive.specs.Tables.{empty_table_of, table_states}
-use Rattle.admit_drive.proofs.AskLemmas.{seen}
+use Rattle.shard_port.specs.Books.{seen}
 
 opened_seen : (shards : ℕ) (named : NamedSpec) (made : Named BooksState) → made.name ≡ named.name → made.keeper ≡ opened_books named.spec shards → seen made ≡ empty_table_of shards named
 opened_seen shards named made name keeper =

@@ -21,8 +21,8 @@ use Rattle.admit_core.specs.declared.need.Need.TheVariants as needs
 use Rattle.admit_core.specs.declared.need.Phase.{Phase}
 use Rattle.admit_core.specs.declared.need.Phase.TheVariants.{New, Judging, Admitted, Rejected, Ended}
 use Rattle.admit_drive.specs.Calls.{call_by, call_of, heard}
-use Rattle.admit_drive.specs.declared.call.Call.{Call}
-use Rattle.admit_drive.specs.declared.reference.Reference.{Reference}
+use Rattle.admit_port.specs.Calls.{Call}
+use Rattle.shard_port.specs.declared.reference.Reference.{Reference}
 use Rattle.admit_drive.proofs.PlainLemmas.{is_asked, plain_event, plain_reply, plain_ticket}
 
 -- ---- without slots

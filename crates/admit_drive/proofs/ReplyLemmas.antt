@@ -22,8 +22,8 @@ use Rattle.admit_core.specs.declared.held.Held.{Held}
 use Rattle.admit_core.specs.declared.need.Need.{Need}
 use Rattle.admit_core.specs.declared.need.Need.TheVariants as needs
 use Rattle.admit_drive.specs.Calls.{call_by, call_of, fits}
-use Rattle.admit_drive.specs.declared.call.Call.{Call}
-use Rattle.admit_drive.specs.declared.reference.Reference.{Reference}
+use Rattle.admit_port.specs.Calls.{Call}
+use Rattle.shard_port.specs.declared.reference.Reference.{Reference}
 
 get_fits : (old : State) (now table : ℕ) (key : Key) (reply : Reply) (new : State) → Step old (events.Get now key) reply new → fits (needs.Get table key) reply ≡ true
 get_fits old now table key reply new step =

@@ -9,8 +9,8 @@ use Rattle.admit_drive.specs.Balance.{IsCovered}
 use Rattle.admit_drive.specs.DriveCode.{HasMoved, HasComeToRest, IsLiving}
 use Rattle.admit_drive.specs.Moves.{Goes, Moves}
 use Rattle.admit_drive.specs.Tables.{AreTablesOf, TableState}
-use Rattle.admit_drive.specs.declared.reference.Reference.{Reference}
-use Rattle.admit_drive.proofs.MakeLemmas.{need_same, setup_same}
+use Rattle.shard_port.specs.declared.reference.Reference.{Reference}
+use Rattle.admit_port.proofs.CommonLemmas.{need_same, setup_same}
 use Rattle.admit_drive.proofs.KeepingLemmas.{IsKept, move_kept}
 
 -- one move more
@@ -65,9 +65,6 @@ gone_more now old middle new conn next later was_refused gone moved connection s
     let so_far = gone connection stands in
     let one = moved so_far.1 so_far.2 in
     (suc so_far.0, one.0, one.1, goes_more now so_far.0 old middle new connection so_far.1 one.0 was_refused so_far.3 one.2)
-
-pub gone_none : (now : ℕ) (tables : List TableState) (conn : Conn Reference) → HasGone now tables conn tables conn
-gone_none now tables conn connection stands = (0, connection, stands, (refl, refl))
 
 pub gone_to_rest : (now : ℕ) (old new : List TableState) (conn later : Conn Reference) → is_still (needed later) ≡ true → HasGone now old conn new later → HasComeToRest now old conn new later
 gone_to_rest now old new conn later still gone connection stands =

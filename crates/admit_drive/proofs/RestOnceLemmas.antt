@@ -15,7 +15,7 @@ use Rattle.admit_drive.specs.Unrefused.{GoesUnrefused, ComesToRestUnrefused}
 use Rattle.admit_drive.specs.Calls.{call_of}
 use Rattle.admit_drive.specs.Moves.{Goes, ComesToRest}
 use Rattle.admit_drive.specs.Tables.{AreTablesOf, TableState, shard_at}
-use Rattle.admit_drive.specs.declared.reference.Reference.{Reference}
+use Rattle.shard_port.specs.declared.reference.Reference.{Reference}
 use Rattle.admit_drive.proofs.BehindLemmas.{as_told, moved_told}
 use Rattle.admit_drive.proofs.TablesLemmas.{move_tables}
 use Rattle.admit_drive.proofs.OneMoveLemmas.{IsOne, Moved, SameView, View, move_plain, moved_once, quiet_of, records_plain, view}

@@ -11,8 +11,8 @@ use Rattle.shard_book.specs.BooksState.{BooksState}
 use Rattle.admit_drive.specs.Balance.{same_reference, times_of, times_out}
 use Rattle.admit_drive.specs.Calls.{AnswersAt}
 use Rattle.admit_drive.specs.Tables.{TableState, book_at, shard_at, shard_of}
-use Rattle.admit_drive.specs.declared.call.Call.{Call}
-use Rattle.admit_drive.specs.declared.reference.Reference.{Reference}
+use Rattle.admit_port.specs.Calls.{Call}
+use Rattle.shard_port.specs.declared.reference.Reference.{Reference}
 use Rattle.admit_drive.proofs.SumLemmas.{get_set_other, get_set_same}
 use Rattle.admit_drive.proofs.TicketLemmas.{same}
 

@@ -15,7 +15,7 @@ use Rattle.shard_book.specs.Keeping.{part_of}
 use Rattle.shard_book.proofs.BooksLemmas.{opened_are_books}
 use Rattle.admit_drive.specs.Balance.{times_of, times_out}
 use Rattle.admit_drive.specs.Tables.{AreTablesOf, CanOpen, IsTableOf, TableState, empty_table_of, empty_tables, shard_at, shard_of}
-use Rattle.admit_drive.specs.declared.reference.Reference.{Reference}
+use Rattle.shard_port.specs.declared.reference.Reference.{Reference}
 use Rattle.admit_drive.proofs.CallLemmas.{legal_at}
 use Rattle.admit_drive.proofs.SumLemmas.{some_same}
 use Rattle.admit_drive.proofs.TicketLemmas.{once_of}

@@ -17,11 +17,12 @@ use Rattle.admit_core.specs.Connection.{Connection, need}
 use Rattle.admit_core.specs.declared.need.Need.{Need}
 use Rattle.admit_core.specs.declared.need.Need.TheVariants as needs
 use Rattle.admit_drive.proofs.SumLemmas.{some_same}
-use Rattle.admit_drive.specs.Calls.{AnswersAt, call_of, connections_seat}
+use Rattle.admit_drive.specs.Calls.{AnswersAt, call_of}
 use Rattle.admit_drive.specs.Moves.{Makes, Moves, MovesBy}
 use Rattle.admit_drive.specs.Tables.{AreTablesOf, IsTableOf, TableState}
-use Rattle.admit_drive.specs.declared.call.Call.{Call}
-use Rattle.admit_drive.specs.declared.reference.Reference.{Reference}
+use Rattle.admit_port.specs.Calls.{Call}
+use Rattle.shard_port.specs.Books.{connections_seat}
+use Rattle.shard_port.specs.declared.reference.Reference.{Reference}
 
 -- ---- the books of one table
 

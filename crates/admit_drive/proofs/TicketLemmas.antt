@@ -1,12 +1,12 @@
 -- How often a ticket is out, before and after a step.
-use Rattle.std.proofs.Common.{◌≡◌, ℕ, ◌+◌, ◌≤◌, refl, sym, ap, ◌∙◌, arith, Bool, true, false, cond, not, nat_eq, ◌&&◌, List, [], ◌∷◌, ◌++◌, filter, map, count_by, Some, is_some}
+use Rattle.std.proofs.Common.{◌≡◌, ℕ, ◌+◌, ◌≤◌, refl, sym, ap, ◌∙◌, arith, Bool, true, false, cond, not, nat_eq, ◌&&◌, List, [], ◌∷◌, ◌++◌, filter, map, count_by}
 use Rattle.std.proofs.lemmas.Bool.{false≢true}
 use Rattle.std.proofs.lemmas.Bool.Decides.{nat_tests}
 use Rattle.std.specs.List.{AllByRecursion, IsDistinct}
 use Rattle.std.proofs.lemmas.List.Sums.{sum_by-cons, sum_by_push}
 use Rattle.std.proofs.lemmas.Map.Keys.{IsDistinct-head, IsDistinct-tail}
 use Rattle.stick_model.specs.Key.{Key}
-use Rattle.stick_model.specs.State.{State, key_of, same_ticket}
+use Rattle.stick_model.specs.State.{State, same_ticket}
 use Rattle.stick_model.specs.Legal.{IsLegal, number_in}
 use Rattle.stick_model.specs.Step.{Step}
 use Rattle.stick_model.specs.declared.events.Event.{Event}
@@ -120,17 +120,6 @@ times_once ticket (held ∷ tickets) distinct =
 
 pub once_of : (ticket : Ticket) (state : State) → IsLegal state → times_of ticket state ≤ 1
 once_of ticket state legal = times_once ticket state.tickets legal.numbers_differ
-
--- one that has a key is out
-pub out_with_key : (ticket : Ticket) (tickets : List (Ticket × Key)) → is_some (key_of ticket tickets) ≡ true → 1 ≤ times ticket tickets
-out_with_key ticket [] out = absurd (false≢true out)
-out_with_key ticket (held ∷ tickets) out =
-    elim (same_ticket ticket held.0) as (λ b. is_some (cond b (Some held.1) (key_of ticket tickets)) ≡ true → same_ticket ticket held.0 ≡ b → 1 ≤ times ticket (held ∷ tickets)) [
-      | true ↦ λ out is.
-          let one : ◌≡◌ {A = ℕ} (cond (same_ticket ticket held.0) 1 0) 1 = ap (λ b. cond b 1 0) is in
-          omega (arith, one, sum_by-cons (λ (h : Ticket × Key). cond (same_ticket ticket h.0) 1 0) held tickets)
-      | false ↦ λ out differ. omega (arith, out_with_key ticket tickets out, sum_by-cons (λ (h : Ticket × Key). cond (same_ticket ticket h.0) 1 0) held tickets)
-    ] out refl
 
 -- ---- what a step's reply tells
 

@@ -6,7 +6,7 @@ use Rattle.stick_model.specs.State.{State, same_ticket}
 use Rattle.stick_model.specs.declared.rows.Ticket.{Ticket}
 use Rattle.admit_core.specs.declared.held.Held.{Held}
 use Rattle.admit_drive.specs.Tables.{TableState, shard_at}
-use Rattle.admit_drive.specs.declared.reference.Reference.{Reference}
+use Rattle.shard_port.specs.declared.reference.Reference.{Reference}
 
 -- whether two references are the same, each with the number of its table
 abbrev pub same_reference : ℕ × Reference → ℕ × Reference → Bool

@@ -12,7 +12,6 @@ use Rattle.stick_model.specs.declared.replies.Refusal.TheVariants.{Exhausted, Me
 use Rattle.stick_model.specs.declared.replies.Reply.{Reply}
 use Rattle.stick_model.specs.declared.replies.Reply.TheVariants as replies
 use Rattle.shard_book.specs.BooksState.{BooksState, ExtendsAt, IsRefusedAt, LivesAt, live_states}
-use Rattle.rule_eval.specs.declared.wants.Answer.{Answer}
 use Rattle.rule_eval.specs.declared.wants.Answer.TheVariants as answers
 use Rattle.admit_core.specs.Connection.{Connection, gave, took}
 use Rattle.admit_core.specs.Held.{held_at}
@@ -20,8 +19,9 @@ use Rattle.admit_core.specs.declared.held.Held.{Held}
 use Rattle.admit_core.specs.declared.need.Need.{Need}
 use Rattle.admit_core.specs.declared.need.Need.TheVariants.{Get, Track, Look, Count, Release}
 use Rattle.admit_drive.specs.Tables.{TableState, shard_at}
-use Rattle.admit_drive.specs.declared.call.Call.{Call}
-use Rattle.admit_drive.specs.declared.reference.Reference.{Reference}
+use Rattle.admit_port.specs.Calls.{Call, answer_of}
+use Rattle.shard_port.specs.Books.{connections_seat}
+use Rattle.shard_port.specs.declared.reference.Reference.{Reference}
 
 -- ---- calls
 
@@ -38,10 +38,6 @@ call_of shards now held (Look slot) = call_by (λ ticket. events.Look now ticket
 call_of shards now held (Count slot act) = call_by (λ ticket. events.Count now ticket act) (held_at held slot)
 call_of shards now held (Release slot) = call_by (λ ticket. events.Release now ticket) (held_at held slot)
 call_of shards now held _ = None
-
--- the seat for which connections are recorded
-abbrev pub connections_seat : ℕ
-connections_seat = 1
 
 -- the event is one that a table takes, the shard has life left for it, its book answers it and records the call; all others stay
 pub record AnswersAt (old : List TableState) (call : Call) (reply : Reply) (new : List TableState) : Type 0 where
@@ -68,14 +64,6 @@ pub record RefusesAt (old : List TableState) (call : Call) : Type 0 where
   pub why : (refusal ≡ Memory) ⊎ (refusal ≡ Exhausted)
 
 -- ---- replies
-
-abbrev pub answer_of : Reply → Answer
-answer_of replies.Absent = answers.Absent
-answer_of (replies.Row row) = answers.Row row
-answer_of (replies.Tracked ticket row) = answers.Tracked
-answer_of (replies.Value value) = answers.Value value
-answer_of replies.Released = answers.Released
-answer_of _ = answers.Untracked
 
 -- the reference that a shard made
 abbrev pub reference_of : ℕ → Reply → Option Reference

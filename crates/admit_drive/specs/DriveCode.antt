@@ -7,7 +7,7 @@ use Rattle.admit_core.specs.declared.conn.Conn.{Conn}
 use Rattle.admit_drive.specs.Lived.{IsLived}
 use Rattle.admit_drive.specs.Moves.{Moves, ComesToRest}
 use Rattle.admit_drive.specs.Tables.{TableState}
-use Rattle.admit_drive.specs.declared.reference.Reference.{Reference}
+use Rattle.shard_port.specs.declared.reference.Reference.{Reference}
 
 -- whatever connection it is, that has moved so
 abbrev pub HasMoved : ℕ → List TableState → Conn Reference → List TableState → Conn Reference → Bool → Type 0

@@ -10,7 +10,7 @@ use Rattle.rule_model.specs.declared.sections.Setup.{Setup}
 use Rattle.admit_core.specs.Connection.{Connection}
 use Rattle.admit_drive.specs.Moves.{Moves}
 use Rattle.admit_drive.specs.Tables.{AreTablesOf, TableState, shard_at}
-use Rattle.admit_drive.specs.declared.reference.Reference.{Reference}
+use Rattle.shard_port.specs.declared.reference.Reference.{Reference}
 use Rattle.admit_drive.specs.Unrefused.{ComesToRestUnrefused}
 
 -- ---- what is out of a shard lies on it

@@ -6,7 +6,7 @@ use Rattle.rule_eval.specs.declared.wants.Want.TheVariants.{Done}
 use Rattle.admit_core.specs.Connection.{Connection, asks, is_judged}
 use Rattle.admit_core.specs.Held.{tables_of}
 use Rattle.admit_core.specs.declared.need.Phase.TheVariants.{Admitted}
-use Rattle.admit_drive.specs.declared.reference.Reference.{Reference}
+use Rattle.shard_port.specs.declared.reference.Reference.{Reference}
 
 -- while it is judged it holds what its rules track; once it is admitted they accept it; and no reference is handed out
 pub record IsLived (connection : Connection Reference) : Type 0 where

@@ -7,8 +7,8 @@ use Rattle.admit_core.specs.declared.need.Need.{Need}
 use Rattle.admit_core.specs.declared.need.Need.TheVariants.{Rest, Turn, Finished}
 use Rattle.admit_drive.specs.Calls.{AnswersAt, RefusesAt, call_of, heard}
 use Rattle.admit_drive.specs.Tables.{TableState}
-use Rattle.admit_drive.specs.declared.call.Call.{Call}
-use Rattle.admit_drive.specs.declared.reference.Reference.{Reference}
+use Rattle.admit_port.specs.Calls.{Call}
+use Rattle.shard_port.specs.declared.reference.Reference.{Reference}
 
 -- a table, or the memory for a key, refuses; the books stay, and it goes on without the event
 abbrev pub IsRefused : List TableState → Connection Reference → Option Call → Type 0

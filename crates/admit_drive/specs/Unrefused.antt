@@ -4,7 +4,7 @@ use Rattle.admit_core.specs.Connection.{Connection, need}
 use Rattle.admit_core.specs.Left.{is_still}
 use Rattle.admit_drive.specs.Moves.{Moves}
 use Rattle.admit_drive.specs.Tables.{TableState}
-use Rattle.admit_drive.specs.declared.reference.Reference.{Reference}
+use Rattle.shard_port.specs.declared.reference.Reference.{Reference}
 
 -- so many times a connection goes on, at one moment, and nothing is refused
 abbrev pub GoesUnrefused : ℕ → ℕ → List TableState → Connection Reference → List TableState → Connection Reference → Type 0

@@ -8,13 +8,10 @@
 //! end. Those who lead connections, in a world or by a script, take what they prove of single moves from its lemmas.
 #![tactic(auto)]
 
-mod call;
 mod drive;
 pub mod laws;
 mod open;
-mod reference;
 
-pub use call::Call;
 pub use drive::{advance, advance_to_rest};
 pub use open::open_tables;
-pub use reference::Reference;
+pub use shard_port::Reference;

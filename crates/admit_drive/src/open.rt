@@ -1,7 +1,7 @@
 //! The tables of a setup, as they are opened; `stickd_script` and `admit_world` call it.
 
 ghost use Rattle.std.specs.Prelude.{◌≡◌, IfOk};
-ghost use Rattle.admit_drive.specs.Tables.{AreTablesOf, CanOpen, empty_tables, table_states};
+ghost use Rattle.admit_drive.specs.Tables.{CanOpen, empty_tables, table_states};
 
 use base_sequence::NoMemory;
 use rule_model::Setup;

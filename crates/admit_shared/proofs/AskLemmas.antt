@@ -34,14 +34,14 @@ use Rattle.admit_core.specs.declared.need.Need.TheVariants as needs
 use Rattle.admit_core.proofs.NeedLemmas.{conn_held, conn_table}
 use Rattle.admit_drive.specs.Calls.{answer_of, fits}
 use Rattle.admit_drive.specs.declared.call.Call.{Call}
-use Rattle.admit_drive.specs.declared.reference.Reference.{Reference}
+use Rattle.shard_port.specs.declared.reference.Reference.{Reference}
 use Rattle.admit_drive.proofs.MakeLemmas.{need_same, setup_same}
 use Rattle.admit_drive.proofs.ReplyLemmas.{reply_fits}
 use Rattle.admit_shared.specs.Calls.{IsAskedBy, IsAskedFor, ToldAt, heard, tracking_answer}
 use Rattle.admit_shared.specs.DriveCode.{HasMoved, IsReady}
 use Rattle.admit_shared.specs.Moves.{IsRefused, Wants}
 use Rattle.admit_shared.specs.Tables.{HoldsOf, NamesOf}
-use Rattle.admit_shared.specs.declared.moved.Moved.TheVariants.{Answered, Turned, Refused, Kept}
+use Rattle.admit_port.specs.declared.moved.Moved.TheVariants.{Answered, Turned, Refused, Kept}
 
 -- ---- what is named is there
 

@@ -1,4 +1,5 @@
 pub mod HearLemmas
 pub mod AskLemmas
 pub mod RestLemmas
+pub mod PortLemmas
 mod VisitLemmas

@@ -9,9 +9,9 @@ use Rattle.admit_core.specs.declared.conn.Conn.{Conn}
 use Rattle.admit_drive.proofs.MakeLemmas.{need_same}
 use Rattle.admit_shared.specs.DriveCode.{HasComeToRest, HasMoved}
 use Rattle.admit_shared.specs.Moves.{Goes, Moves}
-use Rattle.admit_shared.specs.declared.moved.Moved.{Moved}
-use Rattle.admit_shared.specs.declared.moved.Moved.TheVariants.{Kept}
-use Rattle.admit_shared.specs.declared.moved.Rested.TheVariants as rests
+use Rattle.admit_port.specs.declared.moved.Moved.{Moved}
+use Rattle.admit_port.specs.declared.moved.Moved.TheVariants.{Kept}
+use Rattle.admit_port.specs.declared.moved.Rested.TheVariants as rests
 
 -- one move more
 goes_more : (now : ℕ) (tables : List ShardsState) (count : ℕ) (old middle new : List SeatState) (connection next after : Connection RefState) (moved : Moved) → Goes now tables count old connection middle next → Moves now tables middle next new after moved

@@ -19,9 +19,9 @@ use Rattle.admit_core.specs.declared.need.Need.TheVariants.{Turn}
 use Rattle.admit_drive.proofs.MakeLemmas.{need_same}
 use Rattle.admit_shared.specs.DriveCode.{HasMoved, IsReady}
 use Rattle.admit_shared.specs.Tables.{AreShared}
-use Rattle.admit_shared.specs.declared.moved.Moved.{Moved}
-use Rattle.admit_shared.specs.declared.moved.Moved.TheVariants.{Kept}
-use Rattle.admit_shared.specs.declared.moved.Rested.TheVariants as rests
+use Rattle.admit_port.specs.declared.moved.Moved.{Moved}
+use Rattle.admit_port.specs.declared.moved.Moved.TheVariants.{Kept}
+use Rattle.admit_port.specs.declared.moved.Rested.TheVariants as rests
 use Rattle.admit_shared.specs.Visit.{Goes, GoesJudged, HasGone, HasGoneJudged, HasMovedOnce, HasRested, MovesOnce, Visit}
 
 -- one move more

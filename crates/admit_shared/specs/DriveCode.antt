@@ -8,8 +8,8 @@ use Rattle.admit_core.specs.Left.{left_of}
 use Rattle.admit_core.specs.declared.conn.Conn.{Conn}
 use Rattle.admit_shared.specs.Moves.{ComesToRest, Moves}
 use Rattle.admit_shared.specs.Tables.{AreShared, HoldsOf}
-use Rattle.admit_shared.specs.declared.moved.Moved.{Moved}
-use Rattle.admit_shared.specs.declared.moved.Rested.{Rested}
+use Rattle.admit_port.specs.declared.moved.Moved.{Moved}
+use Rattle.admit_port.specs.declared.moved.Rested.{Rested}
 
 -- it is a connection, whatever came of it so far, over tables of its setup, and no reference is handed out
 pub record IsReady (tables : List ShardsState) (seats : List SeatState) (conn : Conn RefState) : Type 0 where

@@ -2,4 +2,5 @@ pub mod Tables
 pub mod Calls
 pub mod Moves
 pub mod DriveCode
+pub mod Seats
 pub mod Visit

@@ -8,10 +8,10 @@ use Rattle.admit_core.specs.Left.{is_still}
 use Rattle.admit_core.specs.declared.need.Need.TheVariants.{Turn}
 use Rattle.admit_drive.specs.declared.call.Call.{Call}
 use Rattle.admit_shared.specs.Calls.{IsAskedFor, RefusedAt, ToldAt, heard}
-use Rattle.admit_shared.specs.declared.moved.Moved.{Moved}
-use Rattle.admit_shared.specs.declared.moved.Moved.TheVariants.{Answered, Turned, Refused, Kept}
-use Rattle.admit_shared.specs.declared.moved.Rested.{Rested}
-use Rattle.admit_shared.specs.declared.moved.Rested.TheVariants as rests
+use Rattle.admit_port.specs.declared.moved.Moved.{Moved}
+use Rattle.admit_port.specs.declared.moved.Moved.TheVariants.{Answered, Turned, Refused, Kept}
+use Rattle.admit_port.specs.declared.moved.Rested.{Rested}
+use Rattle.admit_port.specs.declared.moved.Rested.TheVariants as rests
 
 -- this is what it wants of a table
 abbrev pub Wants : ℕ → Connection RefState → Call → Type 0

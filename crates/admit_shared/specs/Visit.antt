@@ -8,10 +8,10 @@ use Rattle.admit_core.specs.Left.{is_still}
 use Rattle.admit_core.specs.declared.conn.Conn.{Conn}
 use Rattle.admit_shared.specs.DriveCode.{HasMoved}
 use Rattle.admit_shared.specs.Moves.{Moves}
-use Rattle.admit_shared.specs.declared.moved.Moved.{Moved}
-use Rattle.admit_shared.specs.declared.moved.Moved.TheVariants.{Kept as MovedKept}
-use Rattle.admit_shared.specs.declared.moved.Rested.{Rested}
-use Rattle.admit_shared.specs.declared.moved.Rested.TheVariants.{Still, Kept}
+use Rattle.admit_port.specs.declared.moved.Moved.{Moved}
+use Rattle.admit_port.specs.declared.moved.Moved.TheVariants.{Kept as MovedKept}
+use Rattle.admit_port.specs.declared.moved.Rested.{Rested}
+use Rattle.admit_port.specs.declared.moved.Rested.TheVariants.{Still, Kept}
 
 -- how far a visit is: the seats of its tables, the connection, and what the clock is
 pub record Visit (C : Type 0) : Type 0 where

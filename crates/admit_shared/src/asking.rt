@@ -7,7 +7,7 @@ ghost use Rattle.admit_core.specs.declared.need.Need.TheVariants as needs;
 ghost use Rattle.admit_drive.specs.Calls.{answer_of, fits};
 ghost use Rattle.admit_shared.specs.Calls.{tracking_answer};
 ghost use Rattle.admit_shared.specs.DriveCode.{HasMoved, IsReady, moves_left};
-ghost use Rattle.admit_shared.specs.declared.moved.Moved.TheVariants.{Kept};
+ghost use Rattle.admit_port.specs.declared.moved.Moved.TheVariants.{Kept};
 
 use crate::Moved;
 use crate::hearing::{skip, take};

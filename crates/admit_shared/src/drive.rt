@@ -6,7 +6,7 @@ ghost use Rattle.std.specs.Prelude.{◌≡◌, ◌≢◌, ◌+◌, ◌≤◌, �
 ghost use Rattle.admit_core.specs.Conn.{needed};
 ghost use Rattle.admit_core.specs.Left.{is_still};
 ghost use Rattle.admit_shared.specs.DriveCode.{HasMoved, HasComeToRest, IsReady, moves_left};
-ghost use Rattle.admit_shared.specs.declared.moved.Moved.TheVariants.{Kept};
+ghost use Rattle.admit_port.specs.declared.moved.Moved.TheVariants.{Kept};
 
 use crate::asking::{count, get, look, release, track};
 use crate::hearing::skip;

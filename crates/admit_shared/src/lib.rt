@@ -11,9 +11,10 @@
 mod asking;
 mod drive;
 mod hearing;
-mod moved;
+mod seated;
 mod visit;
 
+pub use admit_port::{Moved, Rested};
 pub use drive::{advance, advance_to_rest};
-pub use moved::{Moved, Rested};
+pub use seated::advance_seated;
 pub use visit::{arrive, finish, judge};

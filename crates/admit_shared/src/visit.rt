@@ -8,12 +8,12 @@ ghost use Rattle.admit_core.specs.Left.{is_rest, is_still};
 ghost use Rattle.admit_core.specs.declared.need.Need.TheVariants.{Rest};
 ghost use Rattle.admit_shared.specs.DriveCode.{IsReady, moves_left};
 ghost use Rattle.admit_shared.specs.Tables.{AreShared};
-ghost use Rattle.admit_shared.specs.declared.moved.Moved.TheVariants.{Kept};
+ghost use Rattle.admit_port.specs.declared.moved.Moved.TheVariants.{Kept};
 ghost use Rattle.admit_shared.specs.Visit.{HasGoneJudged, HasMovedOnce, HasRested};
 
 use crate::drive::advance;
-use crate::moved::{Moved, Rested};
 use admit_core::{Conn, Phase};
+use admit_port::{Moved, Rested};
 use base_clock::Clock;
 use rule_eval::Samples;
 use rule_model::Setup;

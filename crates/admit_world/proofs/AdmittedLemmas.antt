@@ -26,7 +26,7 @@ use Rattle.admit_world.specs.Balance.{times_held}
 use Rattle.admit_world.specs.Limit.{admitted_of, holds_key, is_admitted, is_in, key_held}
 use Rattle.admit_drive.specs.Tables.{shard_at}
 use Rattle.admit_world.specs.World.{WorldState}
-use Rattle.admit_drive.specs.declared.reference.Reference.{Reference}
+use Rattle.shard_port.specs.declared.reference.Reference.{Reference}
 use Rattle.admit_drive.proofs.CallLemmas.{self_reference}
 use Rattle.admit_world.proofs.LimitLemmas.{HasTracked, IsLimited, found_among, passed_within, phase_of}
 use Rattle.admit_world.proofs.PassedLemmas.{count_matched}

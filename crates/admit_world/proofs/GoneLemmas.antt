@@ -22,8 +22,8 @@ use Rattle.admit_world.specs.Limit.{key_held}
 use Rattle.admit_drive.specs.Lived.{IsLived}
 use Rattle.admit_drive.specs.Moves.{Makes, Moves, MovesBy}
 use Rattle.admit_drive.specs.Tables.{AreTablesOf, TableState}
-use Rattle.admit_drive.specs.declared.call.Call.{Call}
-use Rattle.admit_drive.specs.declared.reference.Reference.{Reference}
+use Rattle.admit_port.specs.Calls.{Call}
+use Rattle.shard_port.specs.declared.reference.Reference.{Reference}
 use Rattle.admit_world.proofs.GrownLemmas.{IsGrown, IsRun, grown}
 use Rattle.admit_world.proofs.HeardLemmas.{heard_still, tracked_still}
 use Rattle.admit_drive.proofs.HeldLemmas.{refused_same}

@@ -14,7 +14,7 @@ use Rattle.stick_model.proofs.RunLemmas.{run_more}
 use Rattle.stick_model.proofs.TestLemmas.{eq-from}
 use Rattle.admit_drive.specs.Calls.{AnswersAt}
 use Rattle.admit_drive.specs.Tables.{TableState, shard_at}
-use Rattle.admit_drive.specs.declared.call.Call.{Call}
+use Rattle.admit_port.specs.Calls.{Call}
 use Rattle.admit_drive.proofs.SumLemmas.{some_same}
 use Rattle.admit_drive.proofs.CallLemmas.{eq_self}
 use Rattle.admit_drive.proofs.ShardLemmas.{Replaces, after_of, before_of, replaces, replaces_book, step_of}

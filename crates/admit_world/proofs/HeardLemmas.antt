@@ -47,8 +47,8 @@ use Rattle.admit_drive.specs.Calls.{AnswersAt, call_by, call_of, fits, heard}
 use Rattle.admit_world.specs.Limit.{key_held}
 use Rattle.admit_drive.specs.Lived.{IsLived}
 use Rattle.admit_drive.specs.Tables.{AreTablesOf, TableState, shard_at}
-use Rattle.admit_drive.specs.declared.call.Call.{Call}
-use Rattle.admit_drive.specs.declared.reference.Reference.{Reference}
+use Rattle.admit_port.specs.Calls.{Call}
+use Rattle.shard_port.specs.declared.reference.Reference.{Reference}
 use Rattle.admit_drive.proofs.SumLemmas.{some_same}
 use Rattle.admit_world.proofs.GrownLemmas.{IsGrown, IsRun, own_run}
 use Rattle.admit_drive.proofs.HeldLemmas.{took_nothing, took_tracked, track_in}

@@ -27,7 +27,7 @@ use Rattle.admit_core.specs.declared.need.Phase.TheVariants.{New, Judging, Admit
 use Rattle.admit_world.specs.Limit.{is_admitted, key_held}
 use Rattle.admit_drive.specs.Tables.{TableState, shard_at}
 use Rattle.admit_world.specs.World.{WorldState}
-use Rattle.admit_drive.specs.declared.reference.Reference.{Reference}
+use Rattle.shard_port.specs.declared.reference.Reference.{Reference}
 use Rattle.admit_world.proofs.RecordLemmas.{IsRecorded}
 
 -- ---- what holds of each connection behind rules that begin so

@@ -20,7 +20,7 @@ use Rattle.admit_drive.specs.Balance.{times_by}
 use Rattle.admit_world.specs.Limit.{AdmittedLimitLaw, AdmittedPassedLaw, HasPassed, key_held}
 use Rattle.admit_drive.specs.Tables.{book_at, shard_at}
 use Rattle.admit_world.specs.World.{Element, Elements, IsSchedule, WorldState, begun, woken}
-use Rattle.admit_drive.specs.declared.reference.Reference.{Reference}
+use Rattle.shard_port.specs.declared.reference.Reference.{Reference}
 use Rattle.admit_world.specs.declared.visit.Visit.{Visit}
 use Rattle.admit_world.proofs.AdmittedLemmas.{limited_count, ticket_passed}
 use Rattle.admit_drive.proofs.SumLemmas.{some_same, sum_at}

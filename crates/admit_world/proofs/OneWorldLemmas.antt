@@ -11,7 +11,7 @@ use Rattle.admit_core.specs.declared.need.Need.TheVariants as needs
 use Rattle.admit_world.specs.Alike.{OneWorldLaw}
 use Rattle.admit_drive.specs.Tables.{shard_at}
 use Rattle.admit_world.specs.World.{Element, Elements, IsSchedule, WorldState, begun, unless_resting, woken}
-use Rattle.admit_drive.specs.declared.reference.Reference.{Reference}
+use Rattle.shard_port.specs.declared.reference.Reference.{Reference}
 use Rattle.admit_world.specs.declared.visit.Visit.{Visit}
 use Rattle.admit_drive.proofs.SumLemmas.{some_same}
 use Rattle.admit_drive.proofs.PlainConnectionLemmas.{need_plain, plain_connection}

@@ -12,9 +12,10 @@ use Rattle.stick_model.proofs.RunLemmas.{run_determined, run_spec, stored_from_r
 use Rattle.rule_model.specs.declared.sections.Setup.{Setup}
 use Rattle.shard_book.specs.BookState.{BookState, IsBook, recorded, stored_of}
 use Rattle.shard_book.proofs.BookLemmas.{stored_of-push, stored_run}
-use Rattle.admit_drive.specs.Calls.{AnswersAt, connections_seat}
+use Rattle.admit_drive.specs.Calls.{AnswersAt}
 use Rattle.admit_drive.specs.Tables.{AreTablesOf, TableState, book_at}
-use Rattle.admit_drive.specs.declared.call.Call.{Call}
+use Rattle.admit_port.specs.Calls.{Call}
+use Rattle.shard_port.specs.Books.{connections_seat}
 use Rattle.admit_drive.proofs.SumLemmas.{some_same}
 use Rattle.admit_drive.proofs.ShardLemmas.{replaces_book}
 

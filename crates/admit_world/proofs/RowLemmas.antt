@@ -24,8 +24,8 @@ use Rattle.admit_core.proofs.ShownLemmas.{reading_law, row_law}
 use Rattle.admit_drive.specs.Calls.{call_by, call_of, fits}
 use Rattle.admit_world.specs.Shown.{AnsweredRowsLaw, RowsLaw}
 use Rattle.admit_drive.specs.Tables.{shard_at}
-use Rattle.admit_drive.specs.declared.call.Call.{Call}
-use Rattle.admit_drive.specs.declared.reference.Reference.{Reference}
+use Rattle.admit_port.specs.Calls.{Call}
+use Rattle.shard_port.specs.declared.reference.Reference.{Reference}
 use Rattle.admit_drive.proofs.SumLemmas.{some_same}
 use Rattle.admit_drive.proofs.CallLemmas.{legal_at}
 use Rattle.admit_drive.specs.Laws.{IsHome}

@@ -15,10 +15,10 @@ use Rattle.admit_drive.specs.Tables.{AreTablesOf, TableState, table_states}
 use Rattle.admit_world.specs.World.{Element, WorldState, begun, woken}
 use Rattle.admit_world.specs.WorldCode.{AreVisitors, IsReached, StandsFor, world_view}
 use Rattle.admit_world.specs.declared.visitor.Visitor.{Visitor}
-use Rattle.admit_drive.specs.declared.reference.Reference.{Reference}
+use Rattle.shard_port.specs.declared.reference.Reference.{Reference}
 use Rattle.admit_world.specs.declared.visit.Visit.{Visit}
 use Rattle.admit_drive.proofs.SumLemmas.{some_same, sum_at}
-use Rattle.admit_drive.proofs.MakeLemmas.{setup_same}
+use Rattle.admit_port.proofs.CommonLemmas.{setup_same}
 use Rattle.admit_world.proofs.WorldLemmas.{IsWoken, IsWorld, begun_world, elements_world, woken_same}
 
 -- ---- visitors
@@ -80,9 +80,6 @@ module _ (setup : Setup) (tables : List (Named BooksState)) (visitors : List Vis
 
   pub judged_is : (conn : Conn Reference) → Stands conn (woken visitor.visit found.connection) → judged_by conn ≡ setup
   judged_is conn stands = setup_same conn (woken visitor.visit found.connection) stands ∙ awake_it.setup ∙ lived_it.1
-
-  pub shards_are : (conn : Conn Reference) → ((connection : Connection Reference) → Stands visitor.conn connection → Stands conn (woken visitor.visit connection)) → setup.shards ≡ (judged_by conn).shards
-  shards_are conn stands = ap (λ (s : Setup). s.shards) (sym (judged_is conn (stands found.connection stands_it)))
 
   pub tables_are : (conn : Conn Reference) (now : List (Named BooksState)) → ((connection : Connection Reference) → Stands visitor.conn connection → Stands conn (woken visitor.visit connection)) → now ≡ tables → AreTablesOf (judged_by conn) (table_states now)
   tables_are conn now stands same =

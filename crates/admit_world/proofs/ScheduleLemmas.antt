@@ -11,7 +11,7 @@ use Rattle.admit_drive.specs.Tables.{CanOpen, HasShard, TableState, empty_tables
 use Rattle.admit_world.specs.World.{Element, Elements, WorldState, begun}
 use Rattle.admit_world.specs.WorldCode.{AreVisitors, IsReached, StandsFor, WorldView, world_view}
 use Rattle.admit_world.specs.declared.visitor.Visitor.{Visitor}
-use Rattle.admit_drive.specs.declared.reference.Reference.{Reference}
+use Rattle.shard_port.specs.declared.reference.Reference.{Reference}
 use Rattle.admit_world.specs.declared.visit.Visit.{Visit}
 use Rattle.admit_drive.proofs.SumLemmas.{get_within, some_same}
 use Rattle.admit_world.proofs.RunLemmas.{visitor_at}
@@ -89,9 +89,6 @@ reached_more view later number moment was_refused same within below went reached
 -- so far the schedule was gone through, whatever world the code stood for
 abbrev pub HasRun : WorldView → List (ℕ × ℕ) → WorldView → ℕ → Type 0
 HasRun view schedule later count = (visits : List Visit) (world : WorldState) → StandsFor view visits world → (next : WorldState) × StandsFor later visits next × Elements visits world schedule next count
-
-pub ran_none : (view : WorldView) → HasRun view [] view 0
-ran_none view visits world stands = (world, stands, (refl, refl))
 
 pub ran_more : (view middle later : WorldView) (schedule more : List (ℕ × ℕ)) (element : ℕ × ℕ) (count total : ℕ) (was_refused : Bool) → HasRun view schedule middle count → HasWent middle element later was_refused
     → more ≡ schedule ++ element ∷ [] → total ≡ count + cond was_refused 1 0 → HasRun view more later total

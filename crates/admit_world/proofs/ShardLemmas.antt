@@ -15,8 +15,8 @@ use Rattle.rule_eval.specs.declared.wants.Answer.TheVariants as answers
 use Rattle.admit_drive.specs.Calls.{AnswersAt}
 use Rattle.admit_world.specs.Limit.{key_held}
 use Rattle.admit_drive.specs.Tables.{TableState, shard_at}
-use Rattle.admit_drive.specs.declared.call.Call.{Call}
-use Rattle.admit_drive.specs.declared.reference.Reference.{Reference}
+use Rattle.admit_port.specs.Calls.{Call}
+use Rattle.shard_port.specs.declared.reference.Reference.{Reference}
 use Rattle.admit_world.proofs.LimitLemmas.{Looked}
 use Rattle.admit_drive.proofs.ShardLemmas.{after_of, before_of, replaces, step_of}
 use Rattle.admit_world.proofs.StayLemmas.{key_stays}

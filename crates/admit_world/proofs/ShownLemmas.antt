@@ -21,7 +21,7 @@ use Rattle.admit_world.specs.Balance.{times_held}
 use Rattle.admit_world.specs.Shown.{is_of_key, references_of, slots_of_key}
 use Rattle.admit_drive.specs.Tables.{TableState, shard_at}
 use Rattle.admit_world.specs.World.{WorldState}
-use Rattle.admit_drive.specs.declared.reference.Reference.{Reference}
+use Rattle.shard_port.specs.declared.reference.Reference.{Reference}
 use Rattle.admit_drive.proofs.CallLemmas.{eq_self, legal_at}
 use Rattle.admit_drive.specs.Laws.{AreHome}
 use Rattle.admit_drive.proofs.TicketLemmas.{once_of, same_self, same_turned, times}

@@ -19,7 +19,7 @@ use Rattle.shard_book.specs.Keeping.{part_of}
 use Rattle.admit_core.specs.Connection.{Connection, arrived}
 use Rattle.admit_drive.specs.Tables.{CanOpen, TableState, book_at, empty_table_of, empty_tables}
 use Rattle.admit_world.specs.World.{begun}
-use Rattle.admit_drive.specs.declared.reference.Reference.{Reference}
+use Rattle.shard_port.specs.declared.reference.Reference.{Reference}
 use Rattle.admit_world.specs.declared.visit.Visit.{Visit}
 use Rattle.admit_world.proofs.LimitLemmas.{IsLimited}
 use Rattle.admit_drive.proofs.ShardLemmas.{live_in}

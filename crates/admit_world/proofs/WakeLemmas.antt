@@ -8,9 +8,9 @@ use Rattle.admit_core.specs.declared.conn.Conn.{Conn}
 use Rattle.admit_core.specs.declared.need.Need.{Need}
 use Rattle.admit_core.specs.declared.need.Need.TheVariants as needs
 use Rattle.admit_world.specs.World.{unless_resting, woken}
-use Rattle.admit_drive.specs.declared.reference.Reference.{Reference}
+use Rattle.shard_port.specs.declared.reference.Reference.{Reference}
 use Rattle.admit_world.specs.declared.visit.Visit.{Visit}
-use Rattle.admit_drive.proofs.MakeLemmas.{need_same}
+use Rattle.admit_port.proofs.CommonLemmas.{need_same}
 
 pub rest_is : (wanted : Need) → is_rest wanted ≡ true → wanted ≡ needs.Rest
 rest_is needs.Rest is = refl

@@ -1,6 +1,5 @@
 -- Whatever the schedule, the references that are out of a shard are of keys that lie on it.
 use Rattle.std.proofs.Common.{◌≡◌, ℕ, ◌<◌, ◌^◌, sym, ap, subst, ◌∙◌, Bool, List, [], ◌∷◌, length}
-use Rattle.std.specs.Prelude.{All}
 use Rattle.std.proofs.lemmas.List.Elements.{All-head, All-tail}
 use Rattle.rule_model.specs.declared.sections.Setup.{Setup}
 use Rattle.admit_core.specs.Connection.{need}

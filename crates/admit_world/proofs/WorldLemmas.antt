@@ -11,7 +11,7 @@ use Rattle.admit_world.specs.Balance.{times_held}
 use Rattle.admit_drive.specs.Lived.{IsLived}
 use Rattle.admit_drive.specs.Tables.{AreTablesOf, CanOpen}
 use Rattle.admit_world.specs.World.{Element, Elements, IsSchedule, WorldState, begun, unless_resting, woken}
-use Rattle.admit_drive.specs.declared.reference.Reference.{Reference}
+use Rattle.shard_port.specs.declared.reference.Reference.{Reference}
 use Rattle.admit_world.specs.declared.visit.Visit.{Visit}
 use Rattle.admit_drive.proofs.StartLemmas.{from_map, nothing_out, opened_tables}
 use Rattle.admit_drive.proofs.SumLemmas.{sum_at, sum_set}

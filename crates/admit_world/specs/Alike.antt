@@ -7,7 +7,7 @@ use Rattle.admit_core.specs.declared.need.Phase.{Phase}
 use Rattle.admit_drive.specs.Tables.{CanOpen}
 use Rattle.admit_drive.specs.Laws.{records_at}
 use Rattle.admit_world.specs.World.{Elements, IsSchedule, WorldState, begun}
-use Rattle.admit_drive.specs.declared.reference.Reference.{Reference}
+use Rattle.shard_port.specs.declared.reference.Reference.{Reference}
 use Rattle.admit_world.specs.declared.visit.Visit.{Visit}
 
 -- the answers that each connection's rules had, and how far each is

@@ -3,7 +3,7 @@ use Rattle.std.specs.Prelude.{◌≡◌, ℕ, ◌≤◌, List, sum_by}
 use Rattle.admit_core.specs.Connection.{Connection}
 use Rattle.admit_drive.specs.Balance.{times_by, times_out}
 use Rattle.admit_drive.specs.Tables.{TableState}
-use Rattle.admit_drive.specs.declared.reference.Reference.{Reference}
+use Rattle.shard_port.specs.declared.reference.Reference.{Reference}
 
 -- how often connections hold it
 abbrev pub times_held : ℕ × Reference → List (Connection Reference) → ℕ

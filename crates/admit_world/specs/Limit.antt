@@ -15,7 +15,7 @@ use Rattle.admit_core.specs.declared.need.Phase.TheVariants.{Admitted}
 use Rattle.admit_world.specs.Balance.{AreHeld}
 use Rattle.admit_drive.specs.Tables.{CanOpen, TableState, book_at, shard_at}
 use Rattle.admit_world.specs.World.{Elements, IsSchedule, WorldState, begun}
-use Rattle.admit_drive.specs.declared.reference.Reference.{Reference}
+use Rattle.shard_port.specs.declared.reference.Reference.{Reference}
 use Rattle.admit_world.specs.declared.visit.Visit.{Visit}
 
 abbrev pub is_admitted : Phase → Bool

@@ -17,8 +17,8 @@ use Rattle.admit_drive.specs.Calls.{AnswersAt, call_of}
 use Rattle.admit_world.specs.Limit.{is_in, key_held}
 use Rattle.admit_drive.specs.Tables.{CanOpen, TableState, shard_at}
 use Rattle.admit_world.specs.World.{Elements, IsSchedule, WorldState, begun}
-use Rattle.admit_drive.specs.declared.call.Call.{Call}
-use Rattle.admit_drive.specs.declared.reference.Reference.{Reference}
+use Rattle.admit_port.specs.Calls.{Call}
+use Rattle.shard_port.specs.declared.reference.Reference.{Reference}
 use Rattle.admit_world.specs.declared.visit.Visit.{Visit}
 
 -- whether what a slot holds is a reference of the key, in the table

@@ -6,7 +6,7 @@ use Rattle.admit_core.specs.declared.need.Need.{Need}
 use Rattle.admit_core.specs.declared.need.Need.TheVariants.{Rest}
 use Rattle.admit_drive.specs.Moves.{Moves}
 use Rattle.admit_drive.specs.Tables.{TableState, empty_tables}
-use Rattle.admit_drive.specs.declared.reference.Reference.{Reference}
+use Rattle.shard_port.specs.declared.reference.Reference.{Reference}
 use Rattle.admit_world.specs.declared.visit.Visit.{Visit}
 
 -- the tables, and the connections in the order of their visits

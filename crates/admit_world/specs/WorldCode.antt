@@ -8,7 +8,7 @@ use Rattle.admit_core.specs.Connection.{Connection}
 use Rattle.admit_drive.specs.Tables.{CanOpen, TableState, table_states}
 use Rattle.admit_world.specs.World.{Elements, IsSchedule, WorldState, begun}
 use Rattle.admit_world.specs.declared.visitor.Visitor.{Visitor}
-use Rattle.admit_drive.specs.declared.reference.Reference.{Reference}
+use Rattle.shard_port.specs.declared.reference.Reference.{Reference}
 use Rattle.admit_world.specs.declared.visit.Visit.{Visit}
 
 -- the connections that the code's stand for, in the order of their visits

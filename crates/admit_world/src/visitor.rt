@@ -4,7 +4,7 @@ ghost use Rattle.std.specs.Prelude.{◌≡◌, false, is_some};
 ghost use Rattle.admit_core.specs.Conn.{progress_of, Stands};
 ghost use Rattle.admit_core.specs.Connection.{Connection};
 ghost use Rattle.admit_world.specs.World.{woken};
-ghost use Rattle.admit_drive.specs.declared.reference.Reference.{Reference as ItsReference};
+ghost use Rattle.shard_port.specs.declared.reference.Reference.{Reference as ItsReference};
 
 use crate::{Reference, Visit};
 use admit_core::Conn;

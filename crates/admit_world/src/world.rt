@@ -4,7 +4,7 @@ ghost use Rattle.std.specs.Prelude.{◌≡◌, ◌<◌, ◌^◌, List, length, S
 ghost use Rattle.admit_core.specs.Connection.{Connection};
 ghost use Rattle.admit_core.specs.Held.{held_at};
 ghost use Rattle.admit_drive.specs.Tables.{CanOpen, HasShard, TableState, table_states};
-ghost use Rattle.admit_drive.specs.declared.reference.Reference.{Reference as ItsReference};
+ghost use Rattle.shard_port.specs.declared.reference.Reference.{Reference as ItsReference};
 ghost use Rattle.admit_world.specs.World.{begun, Element, Elements, IsSchedule, WorldState};
 ghost use Rattle.admit_world.specs.WorldCode.{IsReached, StandsFor, WorldView, world_view};
 ghost use Rattle.admit_world.specs.declared.visit.Visit.{Visit as ItsVisit};

@@ -1,3 +1,4 @@
 pub mod ShardsLemmas
 pub mod ReplyLemmas
 pub mod ListingLemmas
+pub mod PortLemmas

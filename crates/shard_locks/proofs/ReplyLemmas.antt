@@ -1,35 +1,32 @@
 -- What a caller knows of a reply.
-use Rattle.std.proofs.Common.{◌≡◌, ℕ, true, Option, Some, None, is_some, refl, sym, subst}
+use Rattle.std.proofs.Common.{◌≡◌, ℕ, true}
 use Rattle.std.specs.Prelude.{Result, Ok, Err, IfOk}
-use Rattle.std.proofs.lemmas.Bool.{false≢true}
+use Rattle.stored_data.specs.declared.act.Act.{Act}
 use Rattle.stick_model.specs.Key.{Key}
-use Rattle.stick_model.specs.State.{State, key_of}
-use Rattle.stick_model.specs.Step.{Step, ticket_of}
-use Rattle.stick_model.specs.Laws.{IsAnsweredFrom}
-use Rattle.stick_model.specs.Legal.{IsLegal}
 use Rattle.stick_model.specs.declared.rows.Ticket.{Ticket}
 use Rattle.stick_model.specs.declared.events.Event.{Event}
-use Rattle.stick_model.specs.declared.events.Event.TheVariants.{Look}
+use Rattle.stick_model.specs.declared.events.Event.TheVariants.{Count, Get, Look}
 use Rattle.stick_model.specs.declared.replies.Reply.{Reply}
 use Rattle.stick_model.specs.declared.replies.Refusal.{Refusal}
-use Rattle.stick_model.proofs.ReferenceLemmas.{reference-law}
 use Rattle.shard_book.specs.Keeping.{IsAnswer}
 use Rattle.shard_book.specs.SeatState.{SeatState}
 use Rattle.shard_book.specs.Told.{Told}
-use Rattle.shard_locks.specs.Tracking.{IsShown}
+use Rattle.shard_port.specs.Books.{IsLegalStep, is_of_count, is_of_get, is_of_look}
+use Rattle.shard_port.proofs.ReplyLemmas.{counted, got, looked}
 
--- an event of a ticket that is out is answered from the entry of its key
-answered_from : (before : State) (event : Event) (reply : Reply) (after : State) (ticket : Ticket) (found : Option Key)
-    → IsLegal before → Step before event reply after → ticket_of event ≡ Some ticket → key_of ticket before.tickets ≡ found → is_some found ≡ true
-    → (key : Key) × IsAnsweredFrom before key event reply
-answered_from before event reply after ticket None legal step names is out = absurd (false≢true out)
-answered_from before event reply after ticket (Some key) legal step names is out = (key, reference-law before event reply after ticket key legal step names is)
+-- what a seat was told is by a step from a legal state
+legal_step : (old new : SeatState) (shard : ℕ) (event : Event) (reply : Reply) → Told old shard event reply new → IsLegalStep event reply
+legal_step old new shard event reply told = record { before = told.before; after = told.after; legal = told.legal; step = told.step }
 
--- a look shows a row: it isn't answered that there is no entry
-pub told_shown : (old new : SeatState) (shard now : ℕ) (ticket : Ticket) (reply : Reply) → Told old shard (Look now ticket) reply new → IsShown reply
-told_shown old new shard now ticket reply told =
-    let from = answered_from told.before (Look now ticket) reply told.after ticket (key_of ticket told.before.tickets) told.legal told.step refl refl told.step.out in
-    subst IsShown (sym from.1.answered) tt
+-- so a Get shows a row or that there is none, a look shows a row, and an act gives a value
+pub told_got : (old new : SeatState) (shard now : ℕ) (key : Key) (reply : Reply) → Told old shard (Get now key) reply new → is_of_get reply ≡ true
+told_got old new shard now key reply told = got now key reply (legal_step old new shard (Get now key) reply told)
+
+pub told_shown : (old new : SeatState) (shard now : ℕ) (ticket : Ticket) (reply : Reply) → Told old shard (Look now ticket) reply new → is_of_look reply ≡ true
+told_shown old new shard now ticket reply told = looked now ticket reply (legal_step old new shard (Look now ticket) reply told)
+
+pub told_counted : (old new : SeatState) (shard now : ℕ) (ticket : Ticket) (act : Act) (reply : Reply) → Told old shard (Count now ticket act) reply new → is_of_count reply ≡ true
+told_counted old new shard now ticket act reply told = counted now ticket act reply (legal_step old new shard (Count now ticket act) reply told)
 
 -- what a seat was told is an answer that a table gives
 pub told_answers : (old new : SeatState) (shard : ℕ) (event : Event) (result : Result Reply Refusal)

@@ -1,3 +1,4 @@
 pub mod ShardsState
 pub mod Tracking
 pub mod Listing
+pub mod Ported

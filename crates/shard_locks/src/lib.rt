@@ -4,6 +4,7 @@
 
 mod listing;
 mod opening;
+mod ported;
 mod rolling;
 mod seated;
 mod shards;

@@ -11,9 +11,9 @@ use stick_table::{Event, Refusal, Reply, Spec, Table};
 /// A table in shards that threads share, asked by one seat: what commands ask, as those of a socket.
 #[derive(Drop)]
 pub struct Seated<'a, T: Table, R> {
-    shards: &'a Shards<T>,
-    rt: &'a R,
-    seat: Seat,
+    pub(crate) shards: &'a Shards<T>,
+    pub(crate) rt: &'a R,
+    pub(crate) seat: Seat,
 }
 
 impl<'a, T: Table, R> Model for Seated<'a, T, R> {

@@ -14,11 +14,12 @@ ghost use Rattle.shard_locks.specs.Tracking.{IsAt, reply_of};
 
 use crate::opening::{Locks, open_locks, open_seats, specs_of_shards};
 use crate::rolling::roll_long;
-use crate::tracking::{counted_value, shown_row, tracking_of};
+use crate::tracking::tracking_of;
 use crate::unlocked::{lock_all, unlock_all};
 use crate::{Tracking, Unlocked};
 use base_sequence::NoMemory;
 use shard_book::{Seat, TrackRef, serve};
+use shard_port::{counted_value, shown_row};
 use std::alloc::Global;
 use std::marker::Model;
 use std::sync::Wait;
@@ -267,7 +268,7 @@ impl<T: Table> Shards<T> {
         }
         let event = Event::Count(now, reference.ticket(), act);
         match self.call_any(rt, seat, shard, event) {
-            Ok(reply) => Ok(counted_value(reply)),
+            Ok(reply) => Ok(counted_value(&reply)),
             Err(refusal) => Err(refusal),
         }
     }

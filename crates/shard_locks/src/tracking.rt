@@ -1,9 +1,7 @@
-//! What a track, a look and a count are answered, read from a shard's reply; `Shards` makes it, and `admit_shared` reads
-//! `Tracking`.
+//! What a track is answered, read from a shard's reply; `Shards` makes it, and its port reads it.
 
 ghost use Rattle.std.specs.Prelude.{◌≡◌};
-ghost use Rattle.stick_model.specs.declared.replies.Reply.TheVariants.{Row as Shown, Value};
-ghost use Rattle.shard_locks.specs.Tracking.{IsAt, IsCounted, IsShown, IsTracking, reply_of};
+ghost use Rattle.shard_locks.specs.Tracking.{IsAt, IsTracking, reply_of};
 
 use shard_book::TrackRef;
 use stick_table::{Reply, Row};
@@ -28,28 +26,6 @@ pub(crate) fn tracking_of(reply: Reply, shard: u32) -> Tracking
         Reply::Tracked { ticket, row } => Tracking::Tracked(TrackRef::new(shard, ticket), row),
         Reply::Full => Tracking::Full,
         Reply::NoRefs => Tracking::NoRefs,
-        _ => unreachable!(),
-    }
-}
-
-/// The row of a shard's reply to a look.
-pub(crate) fn shown_row(reply: Reply) -> Row
-    requires { IsShown reply }
-    ensures { Shown result ≡ reply }
-{
-    match reply {
-        Reply::Row(row) => row,
-        _ => unreachable!(),
-    }
-}
-
-/// The value of a shard's reply to an act.
-pub(crate) fn counted_value(reply: Reply) -> Option<u64>
-    requires { IsCounted reply }
-    ensures { Value result ≡ reply }
-{
-    match reply {
-        Reply::Value(value) => value,
         _ => unreachable!(),
     }
 }

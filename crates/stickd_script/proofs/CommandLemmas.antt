@@ -1,6 +1,5 @@
 -- Commands leave each table what it was made with, its shards, and the references that they have out.
 use Rattle.std.proofs.Common.{◌≡◌, ℕ, zero, suc, refl, sym, ap, ◌∙◌, Option, Some, None, option_map, Result, Ok, Err, List, [], ◌∷◌, map, length, slice_get, inl, inr}
-use Rattle.std.specs.Prelude.{All}
 use Rattle.std.specs.List.{range_with_len}
 use Rattle.std.specs.Option.{option_and_then, option_map_or}
 use Rattle.std.proofs.Math.Seq.{map-set_same}
@@ -23,7 +22,7 @@ use Rattle.table_cli.specs.Shards.{AsksInTurn, shards_of}
 use Rattle.table_cli.specs.States.{CommandState}
 use Rattle.admit_drive.specs.Balance.{times_of, times_out}
 use Rattle.admit_drive.specs.Tables.{TableState, shard_of}
-use Rattle.admit_drive.specs.declared.reference.Reference.{Reference}
+use Rattle.shard_port.specs.declared.reference.Reference.{Reference}
 use Rattle.admit_drive.proofs.TicketLemmas.{times}
 use Rattle.stickd_script.specs.Script.{answering, refusing, standing}
 use Rattle.stickd_script.proofs.RollLemmas.{map_rolled, part_rolled}

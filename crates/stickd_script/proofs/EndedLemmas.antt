@@ -7,7 +7,7 @@ use Rattle.rule_eval.specs.declared.wants.Answer.TheVariants.{Released}
 use Rattle.rule_eval.specs.declared.wants.Verdict.TheVariants.{Accept, Reject}
 use Rattle.rule_eval.specs.declared.wants.Want.{Want}
 use Rattle.rule_eval.specs.declared.wants.Want.TheVariants as wants
-use Rattle.admit_core.specs.Connection.{Connection, Progress, arrived, asks, closed, gave, gave_at, gave_of, heard as heard_by, is_asking, is_event, is_judged, is_release, need, need_given, need_in, need_of, phase_by, refused, refused_before, refused_given, refused_of, skipped, took, took_given, took_in, took_of, turned}
+use Rattle.admit_core.specs.Connection.{Connection, Progress, asks, gave, gave_at, gave_of, heard as heard_by, is_asking, is_judged, need, need_given, need_in, need_of, phase_by, refused, refused_before, refused_given, refused_of, skipped, took, took_given, took_in, took_of, turned}
 use Rattle.admit_core.specs.Held.{held_at, holding}
 use Rattle.admit_core.proofs.HistoryLemmas.{ended_law}
 use Rattle.admit_core.specs.declared.held.Held.{Held}
@@ -18,10 +18,11 @@ use Rattle.admit_core.specs.declared.need.Phase.TheVariants.{New, Judging, Admit
 use Rattle.stick_model.specs.declared.replies.Reply.{Reply}
 use Rattle.stick_model.specs.declared.replies.Reply.TheVariants as replies
 use Rattle.admit_drive.specs.Balance.{times_by, times_in}
-use Rattle.admit_drive.specs.Calls.{answer_of, call_of, heard, reference_of}
+use Rattle.admit_drive.specs.Calls.{call_of, heard, reference_of}
+use Rattle.admit_port.specs.Calls.{answer_of}
 use Rattle.admit_drive.specs.Moves.{Goes, Makes, MovesBy}
 use Rattle.admit_drive.specs.Tables.{TableState}
-use Rattle.admit_drive.specs.declared.reference.Reference.{Reference}
+use Rattle.shard_port.specs.declared.reference.Reference.{Reference}
 use Rattle.admit_core.proofs.SkippedLemmas.{skipped_leaves}
 
 -- ---- one that has ended
@@ -33,9 +34,6 @@ pub record IsEmpty {R : Type 0} (progress : Progress R) : Type 0 where
 
 abbrev pub EndsEmpty : {R : Type 0} → Progress R → Type 0
 EndsEmpty progress = progress.phase ≡ Ended → IsEmpty progress
-
-not_ended : (phase : Phase) → is_judged phase ≡ true → phase ≡ Ended → ⊥
-not_ended phase judged ended = false≢true (sym (ap is_judged ended) ∙ judged)
 
 by_phase : (want : Want) → phase_by want ≡ Ended → ⊥
 by_phase (wants.Get table key) is = cc

@@ -40,8 +40,8 @@ use Rattle.stick_model.specs.declared.replies.Reply.TheVariants as replies
 use Rattle.admit_drive.specs.Moves.{Goes as ConnectionGoes, Makes, Moves, MovesBy}
 use Rattle.admit_drive.specs.Tables.{AreTablesOf, TableState, empty_table_of, shard_at}
 use Rattle.admit_core.specs.declared.conn.Conn.{Conn}
-use Rattle.admit_drive.specs.declared.call.Call.{Call}
-use Rattle.admit_drive.specs.declared.reference.Reference.{Reference}
+use Rattle.admit_port.specs.Calls.{Call}
+use Rattle.shard_port.specs.declared.reference.Reference.{Reference}
 use Rattle.admit_drive.proofs.SumLemmas.{some_same}
 use Rattle.admit_drive.proofs.TablesLemmas.{move_tables}
 use Rattle.admit_drive.proofs.HomeLemmas.{asks_home}

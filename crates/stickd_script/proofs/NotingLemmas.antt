@@ -8,7 +8,6 @@ use Rattle.base_lines.specs.Parts.{parts, is_line_end}
 use Rattle.base_lines.specs.Service.{Serves, ServesAll, StopsAfter}
 use Rattle.table_cli.specs.States.{more}
 use Rattle.stickd_script.specs.BadLines.{Noted, Noting, SaysNoting, StopsNoting, bad_after, bad_among, bad_behind, bad_lines, beginning, is_bad, noted, with_bad}
-use Rattle.stickd_script.specs.Guests.{ScriptState}
 use Rattle.stickd_script.specs.Script.{Says, Stops, line_of}
 use Rattle.stickd_script.specs.Start.{start}
 use Rattle.rule_model.specs.declared.sections.Setup.{Setup}

@@ -16,11 +16,12 @@ use Rattle.admit_core.specs.declared.need.Need.{Need}
 use Rattle.admit_core.specs.declared.need.Need.TheVariants as needs
 use Rattle.admit_core.specs.declared.need.Phase.{Phase}
 use Rattle.admit_core.specs.declared.need.Phase.TheVariants.{New, Judging, Admitted, Rejected, Ended}
-use Rattle.admit_drive.specs.Calls.{answer_of, call_of, heard, reference_of}
+use Rattle.admit_drive.specs.Calls.{call_of, heard, reference_of}
+use Rattle.admit_port.specs.Calls.{answer_of}
 use Rattle.admit_core.specs.Left.{is_still}
 use Rattle.admit_drive.specs.Moves.{Goes, Makes, MovesBy}
 use Rattle.admit_drive.specs.Tables.{TableState}
-use Rattle.admit_drive.specs.declared.reference.Reference.{Reference}
+use Rattle.shard_port.specs.declared.reference.Reference.{Reference}
 use Rattle.admit_core.proofs.SkippedLemmas.{skipped_leaves}
 
 -- ---- one that is still

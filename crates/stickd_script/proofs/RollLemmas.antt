@@ -1,19 +1,16 @@
 -- What a roll leaves of tables.
-use Rattle.std.proofs.Common.{rules, ◌≡◌, ◌⊎◌, inl, inr, ℕ, zero, suc, ◌+◌, ◌<◌, ◌≤◌, nat_le, nat_lt, Bool, true, false, List, [], ◌∷◌, ◌++◌, Option, Some, None, length, map, take, drop, slice_get, refl, sym, ap, ◌∙◌, subst, arith}
+use Rattle.std.proofs.Common.{◌≡◌, ◌⊎◌, inl, inr, ℕ, zero, suc, ◌+◌, Bool, true, false, List, [], ◌∷◌, ◌++◌, Some, length, map, take, drop, slice_get, refl, sym, ap, ◌∙◌, subst}
 use Rattle.std.specs.Prelude.{slice_set, if◌then◌else◌}
 use Rattle.std.proofs.lemmas.List.{length-map}
 use Rattle.std.specs.List.{AllByRecursion}
-use Rattle.std.specs.Option.{option_and_then}
-use Rattle.stick_model.specs.State.{State}
 use Rattle.shard_book.specs.BookState.{BookState, rolled}
 use Rattle.shard_book.specs.BooksState.{AreBooks, BooksState}
-use Rattle.shard_book.specs.NamedTables.{NamedState}
-use Rattle.shard_book.specs.Rolling.{RollsInPart, rolled_books, rolled_first}
+use Rattle.shard_book.specs.Rolling.{rolled_books, rolled_first}
 use Rattle.shard_book.specs.declared.named.Named.{Named}
 use Rattle.shard_book.proofs.RollLemmas.{all_rolled, length-rolled_first, rolled_are_books}
 use Rattle.admit_drive.specs.Tables.{TableState, shard_at, shard_of, table_states}
 use Rattle.stickd_script.specs.Guests.{ScriptState}
-use Rattle.stickd_script.specs.Rolling.{RecordsLaw, RefusesRoll, TableRolls, TablesRoll, is_due, rolled_named, rolled_when_due}
+use Rattle.stickd_script.specs.Rolling.{RecordsLaw, RefusesRoll, TableRolls, TablesRoll, is_due, rolled_named}
 
 -- ---- the books of a table
 
@@ -129,10 +126,6 @@ pub before_rolls : (place : ℕ) (tables : List (Named BooksState)) → TablesRo
 before_rolls zero tables = none_rolls (table_states tables)
 before_rolls (suc place) [] = tt
 before_rolls (suc place) (table ∷ tables) = (due_rolls table, before_rolls place tables)
-
-pub all_roll : (tables : List (Named BooksState)) → TablesRoll (table_states tables) (table_states (map rolled_named tables))
-all_roll [] = tt
-all_roll (table ∷ tables) = (due_rolls table, all_roll tables)
 
 some_of : {X : Type 0} (x y : X) → Some x ≡ Some y → x ≡ y
 some_of x y e = cc

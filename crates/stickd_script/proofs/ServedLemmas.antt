@@ -1,5 +1,5 @@
 -- Each line keeps what stands before it.
-use Rattle.std.proofs.Common.{rules, zero, suc, ◌≡◌, ℕ, ◌+◌, ◌<◌, ◌^◌, nat_eq, refl, sym, ap, subst, ◌∙◌, arith, Option, Some, None, option_map, List, [], ◌∷◌, ◌++◌, map, length, slice_get, append-nil, inl, inr}
+use Rattle.std.proofs.Common.{rules, zero, suc, ◌≡◌, ℕ, ◌+◌, ◌<◌, ◌^◌, nat_eq, refl, sym, ap, subst, ◌∙◌, arith, Option, Some, None, option_map, List, [], ◌∷◌, map, length, slice_get, inl, inr}
 use Rattle.std.specs.Prelude.{All}
 use Rattle.std.specs.List.{AllByRecursion, IsDistinct}
 use Rattle.std.proofs.lemmas.List.{length-map}
@@ -24,7 +24,7 @@ use Rattle.admit_drive.specs.Balance.{IsCovered, times_by, times_out}
 use Rattle.admit_drive.specs.Lived.{IsLived}
 use Rattle.admit_drive.specs.Moves.{ComesToRest}
 use Rattle.admit_drive.specs.Tables.{AreTablesOf, CanOpen, IsTableOf, TableState}
-use Rattle.admit_drive.specs.declared.reference.Reference.{Reference}
+use Rattle.shard_port.specs.declared.reference.Reference.{Reference}
 use Rattle.admit_drive.proofs.SumLemmas.{some_same}
 use Rattle.admit_drive.proofs.KeepingLemmas.{IsKept, rest_kept}
 use Rattle.admit_drive.proofs.LivedLemmas.{arrived_lived, closed_lived}

@@ -10,7 +10,7 @@ use Rattle.admit_core.specs.declared.need.Phase.{Phase}
 use Rattle.admit_core.specs.declared.need.Phase.TheVariants.{New, Judging, Admitted, Rejected, Ended}
 use Rattle.admit_drive.specs.Moves.{ComesToRest}
 use Rattle.admit_drive.specs.Tables.{TableState}
-use Rattle.admit_drive.specs.declared.reference.Reference.{Reference}
+use Rattle.shard_port.specs.declared.reference.Reference.{Reference}
 use Rattle.stickd_script.specs.Guests.{Guest, MayBe, ScriptState, guest_of, without}
 use Rattle.stickd_script.specs.Script.{Closes, ClosesAt, OpensAt, admitted, close_text, open_text, samples_of}
 

@@ -1,6 +1,5 @@
 -- A script in which nothing is refused has one output.
-use Rattle.std.proofs.Common.{◌≡◌, inl, ℕ, nat_eq, refl, sym, ap, subst, ◌∙◌, Bool, true, false, cond, not, Option, Some, None, option_map, List, [], ◌∷◌, ◌++◌, map, filter}
-use Rattle.std.proofs.lemmas.List.{map-append}
+use Rattle.std.proofs.Common.{◌≡◌, inl, ℕ, refl, sym, ap, subst, ◌∙◌, Bool, true, false, cond, Option, Some, None, option_map, List, [], ◌∷◌, ◌++◌, map}
 use Rattle.std.specs.BTreeMap.{insert_entry, is_at}
 use Rattle.std.specs.Map.{lookup, remove_entry}
 use Rattle.std.specs.Ordering.{is_eq, match_ordering, nat_cmp}
@@ -18,7 +17,7 @@ use Rattle.admit_core.specs.Left.{is_still}
 use Rattle.admit_core.specs.declared.conn.Conn.{Conn}
 use Rattle.admit_core.specs.declared.need.Phase.{Phase}
 use Rattle.admit_core.specs.declared.need.Phase.TheVariants.{New, Judging, Admitted, Rejected, Ended}
-use Rattle.admit_drive.specs.declared.reference.Reference.{Reference}
+use Rattle.shard_port.specs.declared.reference.Reference.{Reference}
 use Rattle.admit_drive.proofs.BehindLemmas.{as_told, need_told}
 use Rattle.admit_drive.proofs.OneMoveLemmas.{IsOne, SameView, view}
 use Rattle.admit_drive.proofs.PlainConnectionLemmas.{plain_connection, plain_progress}

@@ -11,7 +11,7 @@ use Rattle.admit_core.specs.declared.conn.Conn.{Conn}
 use Rattle.admit_core.specs.declared.need.Phase.TheVariants.{Admitted}
 use Rattle.admit_drive.specs.Balance.{times_by, times_out}
 use Rattle.admit_drive.specs.Tables.{AreTablesOf, TableState}
-use Rattle.admit_drive.specs.declared.reference.Reference.{Reference}
+use Rattle.shard_port.specs.declared.reference.Reference.{Reference}
 use Rattle.admit_drive.specs.Lived.{IsLived}
 
 -- an open connection, behind its ID

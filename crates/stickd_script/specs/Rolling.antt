@@ -1,5 +1,5 @@
 -- When the tables of a script roll their books, and what stays.
-use Rattle.std.specs.Prelude.{◌≡◌, ◌⊎◌, ℕ, ◌≤◌, nat_le, max, Bool, true, false, List, [], ◌∷◌, if◌then◌else◌}
+use Rattle.std.specs.Prelude.{◌≡◌, ◌⊎◌, ℕ, nat_le, max, Bool, true, false, List, [], ◌∷◌, if◌then◌else◌}
 use Rattle.shard_book.specs.BooksState.{BooksState}
 use Rattle.shard_book.specs.Rolling.{RollsInPart, calls_counted, rolled_books}
 use Rattle.shard_book.specs.declared.named.Named.{Named}

@@ -25,7 +25,7 @@ use Rattle.table_cli.specs.Shards.{Answering, Refusing}
 use Rattle.table_cli.specs.States.{CommandState, Showing}
 use Rattle.admit_drive.specs.Moves.{ComesToRest}
 use Rattle.admit_drive.specs.Tables.{TableState}
-use Rattle.admit_drive.specs.declared.reference.Reference.{Reference}
+use Rattle.shard_port.specs.declared.reference.Reference.{Reference}
 use Rattle.stickd_script.specs.Guests.{Guest, MayBe, ScriptState, guest_of, without}
 use Rattle.stickd_script.specs.Rolling.{RecordsRoll}
 

@@ -27,7 +27,7 @@ use Rattle.admit_core.specs.Connection.{Connection, arrived, closed}
 use Rattle.admit_core.specs.declared.conn.Conn.{Conn}
 use Rattle.admit_drive.specs.Unrefused.{ComesToRestUnrefused}
 use Rattle.admit_drive.specs.Tables.{CanOpen, TableState}
-use Rattle.admit_drive.specs.declared.reference.Reference.{Reference}
+use Rattle.shard_port.specs.declared.reference.Reference.{Reference}
 use Rattle.stickd_script.specs.Guests.{MayBe, ScriptState, guest_of, without}
 use Rattle.stickd_script.specs.Script.{Bad, Close, Commanded, Commands, Empty, Line, Open, Says, admitted, answering, bad_line, close_text, line_of, open_text, refusing, samples_of}
 use Rattle.stickd_script.specs.Rolling.{RecordsRoll}

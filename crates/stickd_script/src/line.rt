@@ -2,7 +2,7 @@
 
 ghost use Rattle.std.specs.Prelude.{◌≡◌, ◌<◌, ◌^◌, option_map, IfSome};
 ghost use Rattle.base_lines.specs.Words.{words_left};
-ghost use Rattle.stickd_script.specs.Script.{close_of, id_of, line_of, moment_of, number_below, open_of, port_of};
+ghost use Rattle.stickd_script.specs.Script.{close_of, id_of, line_of, moment_of, open_of, port_of};
 ghost use Rattle.stickd_script.specs.Seen.{IsTimely, seen};
 
 use base_clock::MAX_MOMENT;

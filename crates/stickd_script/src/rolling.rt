@@ -1,7 +1,6 @@
 //! The rolls of a script's books, so that records don't grow with the script; `server` calls it behind its lines.
 
 ghost use Rattle.std.specs.Prelude.{◌≡◌, map, OnErr, OnOk};
-ghost use Rattle.shard_book.specs.BooksState.{BooksState};
 ghost use Rattle.admit_drive.specs.Tables.{table_states};
 ghost use Rattle.stickd_script.specs.Rolling.{RefusesRoll, TablesRoll, lines_between as specified_lines, roll_mark as specified_mark, rolled_named};
 

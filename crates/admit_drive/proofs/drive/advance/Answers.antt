@@ -1,22 +1,27 @@
-use Rattle.std.proofs.Common.{◌∙◌, sym, None}
-use Rattle.admit_core.specs.Connection.{refused}
+use Rattle.std.proofs.Common.{◌∙◌, sym}
 use Rattle.admit_drive.specs.Tables.{table_states}
-use Rattle.admit_core.specs.Conn.{judged_by, needed}
-use Rattle.admit_drive.proofs.LeftLemmas.{moved_memory, no_memory, refused_left, turned_left}
+use Rattle.admit_drive.proofs.PortLemmas.{can_go_on, goes, goes_without, never_kept, stayed, went_on, went_without}
 use Rattle.admit_drive.proofs.drive.advance.Goals as goal
 
-pub returns-in-Err-clause-left : goal.returns-in-Err-clause-left
-returns-in-Err-clause-left g c _ =
-    let no_release = no_memory (judged_by c.args.conn.now) (needed c.args.conn.now) c.want.result c.in-Err.field-0 c.in-Err.is c.want.ensures.memory in
-    refused_left c.args.conn.now c.refused.new.self c.requires.given c.in-Err.ensures.event no_release c.refused.ensures.progress c.refused.ensures.rules
+pub advance-requires-clause-ready : goal.advance-requires-clause-ready
+advance-requires-clause-ready g c = can_go_on (table_states c.args.tables.now) c.args.conn.now c.requires.tables c.requires.covered c.requires.given
 
-pub returns-in-Turn-clause-left : goal.returns-in-Turn-clause-left
-returns-in-Turn-clause-left g c _ =
-    turned_left c.args.conn.now c.turn.new.self c.requires.given (sym c.in-Ok.ensures.needed ∙ c.in-Turn.is) c.turn.ensures.progress c.turn.ensures.rules
+pub unreachable-requires : goal.unreachable-requires
+unreachable-requires g c = never_kept c.args.moment (table_states c.args.tables.now) c.args.conn.now c.requires.tables c.requires.covered (c.advance.ensures.kept c.in-Kept.is)
 
-pub returns-in-Err-clause-moved : goal.returns-in-Err-clause-moved
-returns-in-Err-clause-moved g c connection stands = (
-  refused connection None,
-  c.refused.ensures.stands connection stands,
-  moved_memory c.args.moment (table_states c.args.tables.now) c.args.conn.now connection c.want.result c.in-Err.field-0 stands c.in-Err.is c.want.ensures.memory,
-)
+pub returns-in-Answered-clause-left : goal.returns-in-Answered-clause-left
+returns-in-Answered-clause-left g c _ = c.advance.ensures.left (goes c.advance.result c.in-Answered.is)
+
+pub returns-in-Answered-clause-moved : goal.returns-in-Answered-clause-moved
+returns-in-Answered-clause-moved g c =
+    went_on c.args.moment (table_states c.args.tables.now) (table_states c.advance.new.ports) c.args.conn.now c.advance.new.conn c.advance.result c.requires.tables c.requires.covered c.in-Answered.is c.advance.ensures.moved
+
+pub returns-in-Refused-clause-left : goal.returns-in-Refused-clause-left
+returns-in-Refused-clause-left g c _ = c.advance.ensures.left (goes_without c.advance.result c.in-Refused.is)
+
+pub returns-in-Refused-clause-moved : goal.returns-in-Refused-clause-moved
+returns-in-Refused-clause-moved g c =
+    went_without c.args.moment (table_states c.args.tables.now) (table_states c.advance.new.ports) c.args.conn.now c.advance.new.conn c.advance.result c.requires.tables c.requires.covered c.in-Refused.is c.advance.ensures.moved
+
+pub returns-then-is_still-clause-moved : goal.returns-then-is_still-clause-moved
+returns-then-is_still-clause-moved g c = stayed c.args.moment (table_states c.args.tables.now) c.args.conn.now (sym c.is_still.ensures ∙ c.if-is_still.true)

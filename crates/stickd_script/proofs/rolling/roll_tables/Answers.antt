@@ -1,11 +1,11 @@
-use Rattle.std.proofs.Common.{◌≡◌, ◌<◌, ◌++◌, List, Some, length, slice_get, slice_set, sym, ap, subst, ◌∙◌, arith}
+use Rattle.std.proofs.Common.{◌≡◌, ◌<◌, List, Some, length, slice_get, slice_set, sym, ap, subst, ◌∙◌, arith}
 use Rattle.std.proofs.lemmas.List.Edits.{map_over_more}
 use Rattle.std.proofs.lemmas.Option.{slice_get-get_or}
 use Rattle.shard_book.specs.BooksState.{BooksState}
 use Rattle.shard_book.specs.declared.named.Named.{Named}
 use Rattle.admit_drive.specs.Tables.{table_states}
 use Rattle.stickd_script.specs.Rolling.{TablesRoll, rolled_named}
-use Rattle.stickd_script.proofs.RollLemmas.{before_rolls, length-rolled_before, refused_at, rolled_before}
+use Rattle.stickd_script.proofs.RollLemmas.{before_rolls, length-rolled_before, refused_at}
 use Rattle.stickd_script.proofs.rolling.roll_tables.Goals as goal
 
 pub returns-in-Err-clause-rolls : goal.returns-in-Err-clause-rolls

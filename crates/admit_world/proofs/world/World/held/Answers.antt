@@ -1,7 +1,7 @@
 use Rattle.std.proofs.Common.{◌∙◌, ap, sym}
 use Rattle.admit_core.specs.Connection.{Progress}
 use Rattle.admit_core.specs.Held.{held_at}
-use Rattle.admit_drive.specs.declared.reference.Reference.{Reference}
+use Rattle.shard_port.specs.declared.reference.Reference.{Reference}
 use Rattle.admit_world.specs.WorldCode.{WorldView}
 use Rattle.admit_world.proofs.ScheduleLemmas.{same_progress}
 use Rattle.admit_world.proofs.world.World.held.Goals as goal

@@ -7,8 +7,8 @@ use Rattle.shard_book.specs.declared.named.Named.{Named}
 use Rattle.admit_drive.specs.Balance.{IsCovered}
 use Rattle.admit_drive.specs.Moves.{ComesToRest}
 use Rattle.admit_drive.specs.Tables.{AreTablesOf, table_states}
-use Rattle.admit_drive.specs.declared.reference.Reference.{Reference}
-use Rattle.admit_drive.proofs.MakeLemmas.{need_same, setup_same}
+use Rattle.shard_port.specs.declared.reference.Reference.{Reference}
+use Rattle.admit_port.proofs.CommonLemmas.{need_same, setup_same}
 use Rattle.admit_drive.proofs.LivedLemmas.{closed_lived}
 use Rattle.stickd_script.specs.Guests.{IsOpen, guest_of}
 use Rattle.stickd_script.specs.Script.{Closes, ClosesAt}

@@ -7,8 +7,8 @@ use Rattle.shard_book.specs.BooksState.{BooksState}
 use Rattle.shard_book.specs.declared.named.Named.{Named}
 use Rattle.admit_drive.specs.Moves.{ComesToRest}
 use Rattle.admit_drive.specs.Tables.{AreTablesOf, table_states}
-use Rattle.admit_drive.specs.declared.reference.Reference.{Reference}
-use Rattle.admit_drive.proofs.MakeLemmas.{setup_same}
+use Rattle.shard_port.specs.declared.reference.Reference.{Reference}
+use Rattle.admit_port.proofs.CommonLemmas.{setup_same}
 use Rattle.admit_drive.proofs.LivedLemmas.{arrived_lived}
 use Rattle.stickd_script.specs.Guests.{Guest, guest_of, without}
 use Rattle.stickd_script.specs.Script.{OpensAt, samples_of}

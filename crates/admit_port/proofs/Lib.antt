@@ -1,0 +1,4 @@
+pub mod CommonLemmas
+pub mod HearLemmas
+pub mod AskLemmas
+pub mod VisitLemmas

@@ -1,0 +1,66 @@
+//! A table that threads share, asked by one seat, as a port.
+
+ghost use Rattle.std.specs.Prelude.{◌≡◌};
+ghost use Rattle.shard_locks.specs.Ported.{came};
+
+use crate::{Seated, Tracking};
+use shard_book::TrackRef;
+use shard_port::{Port, row_or_none};
+use std::sync::Wait;
+use stick_key::{StickKey, shard_of};
+use stick_table::{Event, Refusal, Row, Table};
+use stored_data::Act;
+
+/// The reference that comes with what tracking a key is answered, if one does.
+fn reference_in(tracking: Tracking) -> Option<TrackRef>
+    ensures { result ≡ came tracking }
+{
+    match tracking {
+        Tracking::Tracked(reference, _row) => Some(reference),
+        Tracking::Full | Tracking::NoRefs => None,
+    }
+}
+
+impl<'a, T: Table, R: Wait> Port for Seated<'a, T, R> {
+    ghost use Rattle.shard_locks.specs.Ported.{seated_meaning};
+    ghost use Rattle.shard_locks.specs.ShardsState.{SeatedState};
+
+    type Reference = TrackRef;
+
+    ghost State = { SeatedState };
+
+    ghost state = { λ seated. seated };
+
+    ghost meaning = { seated_meaning };
+
+    #[tactic(auto, using(crate::proofs::ReplyLemmas::told_got, crate::proofs::PortLemmas::refused_key))]
+    fn ask(&mut self, key: StickKey, now: u64) -> Result<Option<Row>, Refusal> {
+        let place = shard_of(&key, self.shards.shards());
+        let event = Event::Get(now, key);
+        match self.shards.call(self.rt, &mut self.seat, place, event) {
+            Ok(reply) => Ok(row_or_none(reply)),
+            Err(refusal) => Err(refusal),
+        }
+    }
+
+    #[tactic(auto, using(crate::proofs::PortLemmas::tracks, crate::proofs::PortLemmas::refused_key))]
+    fn track(&mut self, key: StickKey, now: u64) -> Result<Option<TrackRef>, Refusal> {
+        match self.shards.track(self.rt, &mut self.seat, now, key) {
+            Ok(tracking) => Ok(reference_in(tracking)),
+            Err(refusal) => Err(refusal),
+        }
+    }
+
+    fn look(&mut self, reference: &TrackRef, now: u64) -> Result<Row, Refusal> {
+        self.shards.look(self.rt, &mut self.seat, reference, now)
+    }
+
+    fn count(&mut self, reference: &TrackRef, act: Act, now: u64) -> Result<Option<u64>, Refusal> {
+        self.shards
+            .count(self.rt, &mut self.seat, reference, now, act)
+    }
+
+    fn release(&mut self, reference: TrackRef, now: u64) -> Result<(), (TrackRef, Refusal)> {
+        self.shards.release(self.rt, &mut self.seat, reference, now)
+    }
+}
