@@ -60,6 +60,18 @@ pub(crate) fn connect_option<'a>(alloc: Global) -> Arg<'a> {
     .default_value("5s")
 }
 
+/// How often a server that refuses is tried again.
+pub(crate) fn retries_option<'a>(alloc: Global) -> Arg<'a> {
+    value_option(
+        alloc,
+        "retries",
+        "N",
+        "How often a server that refuses a connection is tried again, a second apart, 0 to 1000",
+    )
+    .value_parser(value_parser!(u32).range(0..=1000))
+    .default_value("0")
+}
+
 /// The option that says how long a client may be silent.
 pub(crate) fn client_option<'a>(alloc: Global) -> Arg<'a> {
     value_option(
