@@ -87,7 +87,7 @@ fn begin<T: Table, R: ServeRuntime, G, W: Width>(
     let Some(server) = event_loop.acceptor.take_server() else {
         return Err((0, 0));
     };
-    let Some(mut link) = Link::open(shared.rt, shared.alloc, client, server, moment) else {
+    let Some(mut link) = Link::open(shared.rt, shared.alloc, client, server, moment, 0) else {
         return Err((0, 0));
     };
     if link.start(event_loop.watch.registry(), place, moment, buffer) {
