@@ -129,22 +129,28 @@ fn of_defaults_line(
     }
 }
 
-/// The option that stands for a line.
-fn option_for(options: &[CommandOption], number: usize) -> Option<&CommandOption> {
+/// What is said of a line for which options stand; nothing where none does.
+fn option_note(
+    alloc: Global,
+    options: &[CommandOption],
+    number: usize,
+) -> Result<Vec<u8>, NoMemory> {
+    let mut note = Vec::new(alloc);
+    let mut count = 0usize;
     for option in options {
         if option.line == number {
-            return Some(option);
+            append_str(&mut note, option.flag)?;
+            append_str(&mut note, " ")?;
+            append(&mut note, option.value.as_slice())?;
+            append_str(&mut note, " ")?;
+            count = count.saturating_add(1);
         }
     }
-    None
-}
-
-/// What is said of a line for which an option stands.
-fn option_note(alloc: Global, option: &CommandOption) -> Result<Vec<u8>, NoMemory> {
-    let mut note = text_of(alloc, option.flag)?;
-    append_str(&mut note, " ")?;
-    append(&mut note, option.value.as_slice())?;
-    append_str(&mut note, " stands for it")?;
+    match count {
+        0 => {}
+        1 => append_str(&mut note, "stands for it")?,
+        _ => append_str(&mut note, "stand for it")?,
+    }
     Ok(note)
 }
 
@@ -215,12 +221,11 @@ fn fate_of(
     line: &SourceLine,
 ) -> Result<Fate, NoMemory> {
     let mut fate = of_line(alloc, plan, place, number, line)?;
-    if let Some(option) = option_for(options, number)
-        && !stands(fate.kind)
-    {
+    let note = option_note(alloc, options, number)?;
+    if !note.is_empty() && !stands(fate.kind) {
         fate = Fate {
             kind: FateKind::Moved,
-            note: option_note(alloc, option)?,
+            note,
             text: Vec::new(alloc),
             after: fate.after,
         };

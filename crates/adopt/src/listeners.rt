@@ -7,7 +7,11 @@ use crate::plan::{Plan, begins};
 use crate::reasons::{Refusal, Why};
 use crate::rules::Converted;
 use crate::texts::{Words, copy_text, is_word, text_of, word_at};
+use base_sequence::NoMemory;
 use std::alloc::Global;
+
+/// How often `--bind` may be given.
+const MOST_BINDS: usize = 16;
 
 /// The first line `bind` of the frontend that has a TCP address; where none has one, the first.
 pub(crate) fn first_bind(plan: &Plan) -> Option<usize> {
@@ -26,6 +30,67 @@ pub(crate) fn first_bind(plan: &Plan) -> Option<usize> {
         }
     }
     first
+}
+
+/// An address at which the frontend listens besides its first one, and the line that says so.
+#[derive(Drop)]
+pub(crate) struct FurtherBind {
+    pub(crate) line: usize,
+    pub(crate) endpoint: Vec<u8>,
+}
+
+/// Adds the addresses of a line from one on, unless there would be more than the program takes.
+fn add_binds(
+    alloc: Global,
+    words: &[Vec<u8>],
+    line: usize,
+    from: usize,
+    binds: &mut Vec<FurtherBind>,
+) -> Result<(), NoMemory> {
+    let endpoints = match endpoints_of(alloc, word_at(words, 1)) {
+        Ok(endpoints) => endpoints,
+        Err(Refusal::OutOfMemory) => return Err(NoMemory),
+        Err(Refusal::Lost(_)) => return Ok(()),
+    };
+    let count = endpoints.len().saturating_sub(from);
+    if binds.len().saturating_add(count) > MOST_BINDS {
+        return Ok(());
+    }
+    for (place, endpoint) in endpoints.into_iter().enumerate() {
+        if place >= from {
+            binds.push(FurtherBind { line, endpoint })?;
+        }
+    }
+    Ok(())
+}
+
+/// The addresses at which the frontend listens besides its first one: of each line all or none. None are those of a line whose
+/// options change what is served, or with which there would be more than the program takes.
+pub(crate) fn further_binds(alloc: Global, plan: &Plan) -> Result<Vec<FurtherBind>, NoMemory> {
+    let mut binds = Vec::new(alloc);
+    let Some(section) = plan.frontend.and_then(|place| plan.section(place)) else {
+        return Ok(binds);
+    };
+    let first = first_bind(plan);
+    for number in section.first..section.end {
+        let words = plan.words(number);
+        if begins(words, "bind", "") && bind_loss(words).is_none() {
+            let from = usize::from(first == Some(number));
+            add_binds(alloc, words, number, from, &mut binds)?;
+        }
+    }
+    Ok(binds)
+}
+
+/// Whether the frontend listens on another port too than that of its first address.
+pub(crate) fn has_other_port(alloc: Global, plan: &Plan) -> Result<bool, NoMemory> {
+    let port = listener_port(alloc, plan);
+    for bind in &further_binds(alloc, plan)? {
+        if port_of(bind.endpoint.as_slice()) != port {
+            return Ok(true);
+        }
+    }
+    Ok(false)
 }
 
 /// The port on which the frontend listens, that of its first line.
@@ -91,8 +156,12 @@ pub(crate) fn option_value<'a>(words: &'a [Vec<u8>], name: &str) -> Option<&'a [
     None
 }
 
-/// The first line `bind` in stickd's spelling: its first address alone.
-pub(crate) fn convert_bind(alloc: Global, words: &[Vec<u8>]) -> Result<Converted, Refusal> {
+/// The first line `bind` in stickd's spelling: its first address alone. Of so many of its others options take care.
+pub(crate) fn convert_bind(
+    alloc: Global,
+    words: &[Vec<u8>],
+    others: usize,
+) -> Result<Converted, Refusal> {
     let endpoints = endpoints_of(alloc, word_at(words, 1))?;
     let first = word_at(endpoints.as_slice(), 0);
     if first.is_empty() {
@@ -102,8 +171,8 @@ pub(crate) fn convert_bind(alloc: Global, words: &[Vec<u8>]) -> Result<Converted
     written.push(text_of(alloc, "bind")?)?;
     written.push(copy_text(alloc, first)?)?;
     let loss = bind_loss(words);
-    let altered = if loss.is_none() && endpoints.len() > 1 {
-        Some(Why::OneListener)
+    let altered = if loss.is_none() && endpoints.len() > others.saturating_add(1) {
+        Some(Why::ManyListeners)
     } else {
         loss
     };

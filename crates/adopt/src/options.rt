@@ -1,6 +1,6 @@
 //! Options of the command line that stand for lines; `adoption` makes them, and `command` and `fates` go by them.
 
-use crate::listeners::{first_bind, option_value};
+use crate::listeners::{FurtherBind, first_bind, further_binds, option_value};
 use crate::plan::{Plan, begins};
 use crate::sections::Kind;
 use crate::servers::kept_server;
@@ -27,8 +27,15 @@ const KEEPALIVE: &str = "--keepalive";
 
 const BACKLOG: &str = "--backlog";
 
+const BIND: &str = "--bind";
+
+const RETRIES: &str = "--retries";
+
 /// The most connections that can be asked for.
 const MOST_CONNECTIONS: u64 = 0xffff_ffff;
+
+/// How often a server can be asked to be tried again.
+const MOST_RETRIES: u64 = 1_000;
 
 /// The longest backlog that can be asked for.
 const MOST_BACKLOG: u64 = 0x7fff_ffff;
@@ -302,7 +309,15 @@ pub(crate) fn command_options(alloc: Global, plan: &Plan) -> Result<Vec<CommandO
         let most = Some(limit.most);
         found.add_number(alloc, CONNECTIONS, MOST_CONNECTIONS, most, limit.line)?;
     }
+    for FurtherBind { line, endpoint } in further_binds(alloc, plan)? {
+        found.add(BIND, endpoint, line)?;
+    }
     add_times(alloc, plan, &mut found, frontend)?;
+    let backend = plan.backend.unwrap_or(frontend);
+    if let Some(line) = plan.effective(backend, "retries", "") {
+        let number = read_number(word_at(plan.words(line), 1));
+        found.add_number(alloc, RETRIES, MOST_RETRIES, number, line)?;
+    }
     add_sockets(alloc, plan, &mut found, frontend)?;
     let Found { options } = found;
     Ok(options)

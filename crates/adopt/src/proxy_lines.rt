@@ -6,7 +6,7 @@ use crate::criteria::{behind_two, convert_criterion};
 use crate::fates::{Fate, FateKind, left};
 use crate::keywords::{is_one_of, left_out};
 use crate::lexer::SourceLine;
-use crate::listeners::{convert_bind, first_bind};
+use crate::listeners::{bind_loss, convert_bind, first_bind, further_binds};
 use crate::options::is_limit;
 use crate::plan::{Plan, begins};
 use crate::reasons::{Refusal, Why};
@@ -37,11 +37,15 @@ fn of_acl(alloc: Global, plan: &Plan, origin: usize, line: &SourceLine) -> Resul
 
 /// What becomes of a line `bind`.
 fn of_bind(alloc: Global, plan: &Plan, number: usize, line: &SourceLine) -> Result<Fate, NoMemory> {
+    let words = line.words.as_slice();
     if first_bind(plan) == Some(number) {
-        return of_converted(alloc, line, convert_bind(alloc, line.words.as_slice()));
+        let binds = further_binds(alloc, plan)?;
+        let others = binds.iter().filter(|bind| bind.line == number).count();
+        return of_converted(alloc, line, convert_bind(alloc, words, others));
     }
-    let why = match endpoints_of(alloc, word_at(line.words.as_slice(), 1)) {
-        Ok(_) => Why::OneListener,
+    // Where options stand for the line, they are told in place of this.
+    let why = match endpoints_of(alloc, word_at(words, 1)) {
+        Ok(_) => bind_loss(words).unwrap_or(Why::ManyListeners),
         Err(Refusal::OutOfMemory) => return Err(NoMemory),
         Err(Refusal::Lost(why)) => why,
     };

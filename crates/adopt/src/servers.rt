@@ -3,7 +3,7 @@
 
 use crate::addresses::server_endpoint;
 use crate::keywords::{SERVER_FLAGS, SERVER_VALUES, is_one_of};
-use crate::listeners::listener_port;
+use crate::listeners::{has_other_port, listener_port};
 use crate::plan::{Plan, begins};
 use crate::reasons::{Refusal, Why};
 use crate::rules::Converted;
@@ -126,12 +126,21 @@ pub(crate) fn convert_server(
         word_at(words, 2)
     };
     let endpoint = server_endpoint(alloc, address, listener_port(alloc, plan))?;
+    let has_own_port = match server_endpoint(alloc, address, None) {
+        Ok(_) => true,
+        Err(Refusal::OutOfMemory) => return Err(Refusal::OutOfMemory),
+        Err(Refusal::Lost(_)) => false,
+    };
+    let mut altered = server_loss(words, if is_dispatch { 2 } else { 3 });
+    if altered.is_none() && !has_own_port && has_other_port(alloc, plan)? {
+        altered = Some(Why::OnePort);
+    }
     let mut written: Words = Vec::new(alloc);
     written.push(text_of(alloc, "server")?)?;
     written.push(copy_text(alloc, name)?)?;
     written.push(endpoint)?;
     Ok(Converted {
         words: written,
-        altered: server_loss(words, if is_dispatch { 2 } else { 3 }),
+        altered,
     })
 }

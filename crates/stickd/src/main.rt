@@ -11,7 +11,7 @@ use base_sequence::NoMemory;
 use byte_ports::{StreamSink, StreamSource};
 use clap::ArgMatches;
 use log::Log;
-use run_plan::read_plan;
+use run_plan::{BadWord, read_binds, read_plan};
 use std::alloc::Global;
 use std::net::{Net, TcpListener, TcpStream};
 use std::process::ExitCode;
@@ -260,12 +260,13 @@ fn serve<R: ProxyRuntime + RandomSource + Files + Print + Eprint + AllocGlobal>(
     rt: &R,
     arguments: &ArgMatches<'_>,
 ) -> io::Result<ExitCode> {
-    let plan = match read_plan(arguments) {
+    let binds = match read_binds(rt.alloc(), arguments) {
+        Ok(binds) => binds,
+        Err(bad) => return refuse(rt, bad),
+    };
+    let plan = match read_plan(arguments, binds.as_slice()) {
         Ok(plan) => plan,
-        Err(bad) => {
-            eprintln!(rt; "stickd: {bad}")?;
-            return Ok(ExitCode::from(BAD_COMMAND_LINE));
-        }
+        Err(bad) => return refuse(rt, bad),
     };
     let path = arguments.get_str("FILE");
     let Some(setup) = open_setup(rt, path, read_keeping(arguments))? else {
@@ -273,6 +274,12 @@ fn serve<R: ProxyRuntime + RandomSource + Files + Print + Eprint + AllocGlobal>(
     };
     let is_done = run_pooled(rt.alloc(), rt, &setup, plan)?;
     Ok(status_of(is_done))
+}
+
+/// Says on standard error what is wrong with the command line.
+fn refuse<R: Eprint>(rt: &R, bad: BadWord<'_>) -> io::Result<ExitCode> {
+    eprintln!(rt; "stickd: {bad}")?;
+    Ok(ExitCode::from(BAD_COMMAND_LINE))
 }
 
 /// Says on standard error why the replay stopped.

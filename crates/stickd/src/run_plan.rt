@@ -1,10 +1,13 @@
 //! What `stickd run` is asked, read from the command line; `main` calls `read_plan` before it runs the proxy.
 
-ghost use Rattle.std.specs.Prelude.{◌≤◌, IfOk};
+ghost use Rattle.std.specs.Prelude.{◌≡◌, ◌≤◌, Some, IfOk, length, map};
+ghost use Rattle.rule_addresses.specs.Addresses.{bind_of};
 
 use clap::ArgMatches;
+use rule_addresses::{Endpoint, read_bind};
 use rule_words::read_time;
-use stickd_input::{CLIENT, CONNECT, FIN, KEEPALIVE, SERVER, SOCKET};
+use std::alloc::Global;
+use stickd_input::{BIND, CLIENT, CONNECT, FIN, KEEPALIVE, SERVER, SOCKET};
 use table_socket::read_mode;
 use tcp_link::{Keepalive, Timeouts};
 use tcp_proxy::{Plan, SocketPlan};
@@ -22,6 +25,9 @@ const SOCKET_MODE: u32 = 0o600;
 /// How many connections may wait to be accepted at most: what listen(2) can be asked.
 const MOST_BACKLOG: u32 = 0x7fff_ffff;
 
+/// How often `--bind` may be given.
+const MOST_BINDS: usize = 16;
+
 /// A word behind an option that wants another.
 #[derive(Clone, Copy, Debug, thiserror::Error)]
 pub enum BadWord<'a> {
@@ -29,6 +35,12 @@ pub enum BadWord<'a> {
     Time { option: &'static str, word: &'a str },
     #[error("'{0}' is no mode for --socket-mode: it is one to four octal digits up to 0777, as 600 or 0660")]
     Mode(&'a str),
+    #[error("'{0}' is no place to listen for --bind: it is ADDRESS:PORT, as 127.0.0.1:8080, [::1]:8080 or *:8080")]
+    Bind(&'a str),
+    #[error("--bind can be given 16 times, and no more")]
+    ManyBinds,
+    #[error("out of memory")]
+    Memory,
 }
 
 /// The time that an option names, in ms. None where it isn't given.
@@ -90,9 +102,43 @@ fn read_socket<'a>(arguments: &ArgMatches<'a>) -> Result<SocketPlan<'a>, BadWord
     })
 }
 
+/// Where clients come in besides the `bind` of the configuration.
+pub fn read_binds<'a>(
+    alloc: Global,
+    arguments: &ArgMatches<'a>,
+) -> Result<Vec<Endpoint>, BadWord<'a>> {
+    match arguments.get_strs(BIND) {
+        Some(words) => read_each(alloc, words),
+        None => Ok(Vec::new(alloc)),
+    }
+}
+
+/// The endpoints that these words say, each of which it has to.
+fn read_each<'a>(alloc: Global, words: &[&'a str]) -> Result<Vec<Endpoint>, BadWord<'a>>
+    ensures each { IfOk result (λ binds. map (λ bind. Some bind) binds.items ≡ map (λ word. bind_of word.now) words.now) }
+    ensures few { IfOk result (λ binds. length binds.items ≤ 16) }
+{
+    if words.len() > MOST_BINDS {
+        return Err(BadWord::ManyBinds);
+    }
+    let mut binds = Vec::new(alloc);
+    for word in words {
+        let Some(bind) = read_bind(word.as_bytes()) else {
+            return Err(BadWord::Bind(word));
+        };
+        if binds.push(bind).is_err() {
+            return Err(BadWord::Memory);
+        }
+    }
+    Ok(binds)
+}
+
 /// What `stickd run` is asked. That its numbers are in their ranges was seen as the command line was read. The connections are
 /// shared out among the threads, of which there are no more than connections.
-pub fn read_plan<'a>(arguments: &ArgMatches<'a>) -> Result<Plan<'a>, BadWord<'a>>
+pub fn read_plan<'a>(
+    arguments: &ArgMatches<'a>,
+    more_binds: &'a [Endpoint],
+) -> Result<Plan<'a>, BadWord<'a>>
     ensures threads { IfOk result (λ plan. (1 ≤ plan.threads) × (plan.threads ≤ 64)) }
     ensures backlog { IfOk result (λ plan. (1 ≤ plan.backlog) × (plan.backlog ≤ 2147483647)) }
     ensures clients { IfOk result (λ plan. (1 ≤ plan.socket.clients) × (plan.socket.clients ≤ 64)) }
@@ -113,12 +159,14 @@ pub fn read_plan<'a>(arguments: &ArgMatches<'a>) -> Result<Plan<'a>, BadWord<'a>
     let backlog = arguments.get_one::<u32>("backlog");
     Ok(Plan {
         socket,
+        more_binds,
         backlog: backlog.unwrap_or(connections).clamp(1, MOST_BACKLOG),
         is_backlog_asked: backlog.is_some(),
         threads,
         limits: Limits {
             connections,
             timeouts: read_timeouts(arguments)?,
+            retries: arguments.get_one::<u32>("retries").unwrap_or(0),
             keepalive: read_timeout(arguments, KEEPALIVE)?.map(Keepalive::of),
         },
         stop_after: arguments.get_one::<u64>("stop-after"),

@@ -5,9 +5,10 @@ use crate::arguments::{
 };
 use crate::help::{ADOPT_HELP, CHECK_HELP, CTL_HELP, REPLAY_HELP, RUN_HELP, TOP_HELP};
 use crate::options::{
-    backlog_option, client_option, clients_option, connect_option, connections_option, fin_option,
-    group_option, keepalive_option, mode_option, purge_option, roll_option, server_option,
-    shards_option, socket_option, socket_time_option, stop_option, threads_option,
+    backlog_option, bind_option, client_option, clients_option, connect_option, connections_option,
+    fin_option, group_option, keepalive_option, mode_option, purge_option, retries_option,
+    roll_option, server_option, shards_option, socket_option, socket_time_option, stop_option,
+    threads_option,
 };
 use clap::{Arg, ArgMatches, Command, Error};
 use std::alloc::{AllocError, Global};
@@ -175,11 +176,13 @@ fn run_command<'a>(alloc: Global) -> Result<Command<'a>, AllocError> {
     );
     let command = add_argument(command, socket_option(alloc));
     let command = add_argument(command, threads_option(alloc));
+    let command = add_argument(command, bind_option(alloc));
     let command = add_argument(command, shards_option(alloc));
     let command = add_argument(command, purge_option(alloc));
     let command = add_argument(command, connections_option(alloc));
     let command = add_argument(command, backlog_option(alloc));
     let command = add_argument(command, connect_option(alloc));
+    let command = add_argument(command, retries_option(alloc));
     let command = add_argument(command, client_option(alloc));
     let command = add_argument(command, server_option(alloc));
     let command = add_argument(command, fin_option(alloc));

@@ -26,7 +26,7 @@ use base_sequence::{NoMemory, Sequence};
 pub use command_line::read_command_line;
 use explanation::{explain_fault, explain_warnings};
 pub use keeping::{Keeping, read_keeping};
-pub use options::{CLIENT, CONNECT, FIN, KEEPALIVE, SERVER, SOCKET};
+pub use options::{BIND, CLIENT, CONNECT, FIN, KEEPALIVE, SERVER, SOCKET};
 use rule_config::{ConfigFault, read_config};
 use rule_model::{Config, NamedSpec, ReadError, Setup};
 use rule_warnings::{Warning, table_warnings};

@@ -1,8 +1,11 @@
 //! The options of `stickd run`, some of which other commands have too; `command_line` gives them to its commands.
 
 use crate::arguments::{count_option, value_option};
-use clap::{Arg, value_parser};
+use clap::{Arg, ArgAction, value_parser};
 use std::alloc::Global;
+
+/// The option that says where clients come in too.
+pub const BIND: &str = "bind";
 
 /// The option that says how long a server may take to accept a connection.
 pub const CONNECT: &str = "timeout-connect";
@@ -57,6 +60,18 @@ pub(crate) fn connect_option<'a>(alloc: Global) -> Arg<'a> {
     .default_value("5s")
 }
 
+/// How often a server that refuses is tried again.
+pub(crate) fn retries_option<'a>(alloc: Global) -> Arg<'a> {
+    value_option(
+        alloc,
+        "retries",
+        "N",
+        "How often a server that refuses a connection is tried again, a second apart, 0 to 1000",
+    )
+    .value_parser(value_parser!(u32).range(0..=1000))
+    .default_value("0")
+}
+
 /// The option that says how long a client may be silent.
 pub(crate) fn client_option<'a>(alloc: Global) -> Arg<'a> {
     value_option(
@@ -75,6 +90,17 @@ pub(crate) fn server_option<'a>(alloc: Global) -> Arg<'a> {
         "TIME",
         "How long a server may be silent [default: for ever]",
     )
+}
+
+/// Where clients come in too.
+pub(crate) fn bind_option<'a>(alloc: Global) -> Arg<'a> {
+    value_option(
+        alloc,
+        BIND,
+        "ADDRESS:PORT",
+        "Listen there too; may be given 16 times. dst_port is the port that a client came to",
+    )
+    .action(ArgAction::Append)
 }
 
 /// The limit of all connections together.

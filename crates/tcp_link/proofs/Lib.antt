@@ -1,2 +1,3 @@
 mod AddressLemmas
+mod LinkLemmas
 mod WayLemmas

@@ -3,6 +3,7 @@ pub mod Aheads
 pub mod Closing
 pub mod Keepalives
 pub mod Links
+pub mod Retries
 pub mod Silence
 pub mod Tokens
 pub mod Ways

@@ -1,5 +1,5 @@
 -- What contracts see of a connection between two sockets.
-use Rattle.std.specs.Prelude.{◌≡◌, ◌≢◌, ℕ, Bool, true, false, ◌&&◌, ◌||◌, not, max, nat_lt, Some, if◌then◌else◌}
+use Rattle.std.specs.Prelude.{◌≡◌, ◌≢◌, ℕ, Bool, true, false, ◌&&◌, ◌||◌, not, max, nat_lt, Option, Some, None, is_some, if◌then◌else◌}
 use Rattle.tcp_flow.specs.declared.steps.Step.{Step}
 use Rattle.tcp_flow.specs.declared.steps.Step.TheVariants.{Ended, Failed, WaitsToRead, WaitsToWrite, Yields}
 use Rattle.tcp_link.specs.declared.end.Side.{Side}
@@ -9,7 +9,7 @@ use Rattle.tcp_link.specs.declared.way.Way.{Way}
 use Rattle.tcp_link.specs.Silence.{heard_last, is_silent, limit_at_end}
 use Rattle.tcp_link.specs.Ways.{Advances, has_read, has_written, is_end, unbegun_way}
 
--- the direction from the client to the server and the one back, when something passed last at the client and at the server, in ms, whether the server is known to have accepted the connection, whether the client, and the server, was told that the other has ended, and whether each is watched for room
+-- the direction from the client to the server and the one back, when something passed last at the client and at the server, in ms, whether the server is known to have accepted the connection, whether the client, and the server, was told that the other has ended, and whether each is watched for room; how often a server that refuses may still be tried again, and, where the next try is waited for, when it refused, in ms
 pub record LinkState : Type 0 where
   pub there : Way
   pub back : Way
@@ -20,10 +20,12 @@ pub record LinkState : Type 0 where
   pub server_told : Bool
   pub client_watched : Bool
   pub server_watched : Bool
+  pub tries : ℕ
+  pub refused : Option ℕ
 
--- a connection that begins at a moment
-abbrev pub opened : ℕ → LinkState
-opened moment = record {
+-- a connection that begins at a moment, and whose server may be tried again so often
+abbrev pub opened : ℕ → ℕ → LinkState
+opened moment retries = record {
   there = unbegun_way;
   back = unbegun_way;
   client = moment;
@@ -33,7 +35,13 @@ opened moment = record {
   server_told = false;
   client_watched = false;
   server_watched = false;
+  tries = retries;
+  refused = None;
 }
+
+-- whether its server has refused it, and isn't tried again yet
+abbrev pub waits : LinkState → Bool
+waits link = is_some link.refused
 
 -- nothing goes on, as a socket failed or memory was short
 abbrev pub is_failure : Step → Bool
@@ -100,10 +108,12 @@ has_ended link = is_end link.there.step || is_end link.back.step
 abbrev pub is_held_up : Step → Step → Bool
 is_held_up from to = waits_for_room from && not (waits_for_room to)
 
--- whether a peer has been silent for as long as it may, or longer, at a moment in ms: the server until it accepts, and then each of both that isn't held up by the other. Silence counts from when something passed last, or from a later moment
+-- whether a peer has been silent for as long as it may, or longer, at a moment in ms: the server until it accepts, and then each of both that isn't held up by the other. Silence counts from when something passed last, or from a later moment. No peer is late while the connection waits
 abbrev pub is_late : LinkState → ℕ → ℕ → Timeouts → Bool
 is_late link moment since timeouts =
-    if link.accepted
+    if waits link
+    then false
+    else if link.accepted
     then not (is_held_up link.there.step link.back.step) && is_silent (max link.client since) moment (limit_at_end (has_ended link) timeouts.fin timeouts.client)
     || not (is_held_up link.back.step link.there.step) && is_silent (max link.server since) moment (limit_at_end (has_ended link) timeouts.fin timeouts.server)
     else is_silent (max link.server since) moment (Some timeouts.connect)

@@ -2,7 +2,8 @@
 //! connection.
 //!
 //! The contracts say what a link counts, when it was heard last, when it is late and when it is over. They say when each side is
-//! told that the other has ended, and that in each direction what was read is what was written and what waits. What sockets give
+//! told that the other has ended, and that in each direction what was read is what was written and what waits. A server that
+//! refuses is tried again, so often and so late as they say, and what was read of its client stays meanwhile. What sockets give
 //! and take, and whether they are reported, no contract can say: a link whose sockets are never ready meets its contracts too.
 #![tactic(auto)]
 
@@ -15,6 +16,7 @@ mod end;
 mod incoming;
 mod keepalive;
 mod link;
+mod outgoing;
 mod ready;
 mod resetting;
 mod server_socket;

@@ -1,10 +1,13 @@
 //! A connection between two sockets: it begins, has turns, and closes; `tcp_relay` calls it for each admitted client.
 
-ghost use Rattle.std.specs.Prelude.{◌≡◌, ◌≢◌, ◌||◌, true, false, IfSome, IsTrue, OnOk};
+ghost use Rattle.std.specs.Prelude.{◌≡◌, ◌≢◌, ◌<◌, ◌||◌, not, true, false, IfNone, IfSome, IsTrue, OnOk};
 ghost use Rattle.tcp_link.specs.Closing.{closing};
-ghost use Rattle.tcp_link.specs.Links.{AdvancesIfItWaited, HandsOn, IsHeard, IsWatched, KeepsWhatIsKnown, bytes, has_ended, has_passed, is_held_up, is_late, is_over, must_be_accepted, opened, owes_client, owes_server, way_from, way_to};
+ghost use Rattle.tcp_link.specs.Links.{AdvancesIfItWaited, HandsOn, IsHeard, IsWatched, KeepsWhatIsKnown, bytes, has_ended, has_passed, is_held_up, is_late, is_over, must_be_accepted, opened, owes_client, owes_server, waits, way_from, way_to};
+ghost use Rattle.tcp_link.specs.Retries.{IfTried, IsRefused, fails_unread, may_retry, noted, refused_at, tells_refusal};
 ghost use Rattle.tcp_link.specs.Silence.{heard_last};
 ghost use Rattle.tcp_link.specs.Ways.{Advances, IsWay, told_also};
+
+mod retrying;
 
 use crate::closing::Closing;
 use crate::end::{End, Side};
@@ -27,6 +30,12 @@ pub struct Link {
     back: Way,
     /// Whether the server is known to have accepted the connection.
     is_accepted: bool,
+    /// How often a server that refuses may still be tried again.
+    tries: u32,
+    /// When it refused, in ms, where the next try is waited for.
+    refused: Option<u64>,
+    /// From where a direction that begins anew takes memory.
+    alloc: Global,
 }
 
 impl Model for Link {
@@ -35,34 +44,56 @@ impl Model for Link {
 
     ghost Value = { LinkState };
 
-    ghost view = { λ link. record { there = link.there; back = link.back; client = link.client.heard; server = link.server.heard; accepted = link.is_accepted; client_told = link.client.is_told; server_told = link.server.is_told; client_watched = link.client.watches_room; server_watched = link.server.watches_room } };
+    ghost view = { λ link. record { there = link.there; back = link.back; client = link.client.heard; server = link.server.heard; accepted = link.is_accepted; client_told = link.client.is_told; server_told = link.server.is_told; client_watched = link.client.watches_room; server_watched = link.server.watches_room; tries = link.tries; refused = link.refused } };
 
     ghost invariant = { λ link. IsWay link.there × IsWay link.back };
 }
 
 impl Link {
-    /// Begins to connect a client to its server, at a moment in ms. None where the system says at once that it can't.
+    /// Begins to connect a client to its server, at a moment in ms. A server that refuses may be tried again so many times.
+    /// Where the system says at once that it can't connect, it waits for the first of these, or there is None if there are none.
     pub fn open(
         _rt: &impl Net,
         alloc: Global,
         client: TcpStream,
         server: ServerSocket,
         moment: u64,
+        retries: u32,
     ) -> Option<Link>
-        ensures { IfSome result (λ link. link ≡ opened moment) }
+        ensures open { IfSome result (λ link. waits link ≡ false → link ≡ opened moment retries) }
+        ensures refused { IfSome result (λ link. waits link ≡ true → (0 < retries) × (link ≡ refused_at moment (opened moment retries))) }
+        ensures none { IfNone result (retries ≡ 0) }
     {
-        let server = server.connect().ok()?;
-        Some(Link {
+        match server.connect() {
+            Ok(socket) => Some(Link::new(alloc, client, socket, moment, retries)),
+            Err(_) if retries == 0 => None,
+            Err(socket) => {
+                let mut link = Link::new(alloc, client, socket, moment, retries);
+                link.refuse(moment);
+                Some(link)
+            }
+        }
+    }
+
+    /// A link between these sockets, through which nothing has passed.
+    fn new(alloc: Global, client: TcpStream, server: TcpStream, moment: u64, retries: u32) -> Link
+        ensures { result ≡ opened moment retries }
+    {
+        Link {
             client: End::new(client, moment),
             server: End::new(server, moment),
             there: Way::new(alloc),
             back: Way::new(alloc),
             is_accepted: false,
-        })
+            tries: retries,
+            refused: None,
+            alloc,
+        }
     }
 
     /// Has both sockets reported as those of the connection with this number, which is below 2^63, and moves what the client
-    /// has sent already. Whether it goes on: not where it is over, or the system refuses to report a socket.
+    /// has sent already. Whether it goes on: not where it is over, or the system refuses to report a socket. Where it waits,
+    /// its client alone is reported, and nothing moves.
     pub fn start(
         &mut self,
         registry: &Registry,
@@ -70,13 +101,19 @@ impl Link {
         moment: u64,
         buffer: &mut Buffer,
     ) -> bool
-        ensures there { Advances self.old.there self.new.there }
+        ensures there { waits self.old ≡ false → Advances self.old.there self.new.there }
         ensures back { self.new.back ≡ self.old.back }
-        ensures heard { IsHeard moment self.old self.new }
-        ensures ends { HandsOn self.old self.new }
+        ensures heard { waits self.old ≡ false → IsHeard moment self.old self.new }
+        ensures ends { waits self.old ≡ false → HandsOn self.old self.new }
         ensures going { IsTrue result → is_over self.new ≡ false }
-        ensures watched { IsTrue result → IsWatched self.new }
+        ensures watched { waits self.old ≡ false → IsTrue result → IsWatched self.new }
+        ensures tries { (self.new.tries ≡ self.old.tries) × (self.new.refused ≡ self.old.refused) }
+        ensures waiting { waits self.old ≡ true → self.new ≡ self.old }
     {
+        if self.waits() {
+            let token = Side::Client.token(number);
+            return !self.is_over() && self.client.watch(registry, token).is_ok();
+        }
         self.carry_there(moment, buffer);
         self.hand_on();
         if self.is_over() {
@@ -88,6 +125,9 @@ impl Link {
     /// Moves what can be moved now that a socket is ready: what its peer has sent, and what waited for room there. Whether it
     /// goes on: not where it is over, or the system refuses to report a socket. How much a socket gives or takes is the
     /// system's to say: one that isn't ready moves nothing.
+    ///
+    /// Where the server refuses it and may be tried again, it waits from this moment on. While it waits nothing moves: what is
+    /// told of the client is kept, and of the server nothing is told.
     pub fn turn(
         &mut self,
         registry: &Registry,
@@ -95,19 +135,44 @@ impl Link {
         moment: u64,
         buffer: &mut Buffer,
     ) -> bool
-        ensures from { Advances (told_also (way_from ready.side self.old) ready.ahead ready.has_failed) (way_from ready.side self.new) }
-        ensures to { AdvancesIfItWaited (way_to ready.side self.old) (way_to ready.side self.new) }
-        ensures heard { IsHeard moment self.old self.new }
-        ensures ends { HandsOn self.old self.new }
+        ensures from { IfTried self.old self.new (Advances (told_also (way_from ready.side self.old) ready.ahead ready.has_failed) (way_from ready.side self.new)) }
+        ensures to { IfTried self.old self.new (AdvancesIfItWaited (way_to ready.side self.old) (way_to ready.side self.new)) }
+        ensures heard { IfTried self.old self.new (IsHeard moment self.old self.new) }
+        ensures ends { IfTried self.old self.new (HandsOn self.old self.new) }
         ensures going { IsTrue result → is_over self.new ≡ false }
-        ensures watched { IsTrue result → IsWatched self.new }
+        ensures watched { IfTried self.old self.new (IsTrue result → IsWatched self.new) }
+        ensures tries { IfTried self.old self.new (self.new.tries ≡ self.old.tries) }
+        ensures unrefused { IfTried self.old self.new (tells_refusal self.old ready.side ready.has_failed ≡ true → fails_unread self.new.back ≡ false) }
+        ensures refused { waits self.old ≡ false → waits self.new ≡ true → IsRefused ready.side ready.has_failed moment self.old self.new × IsTrue result }
+        ensures waiting { waits self.old ≡ true → (self.new ≡ noted ready.side ready.ahead ready.has_failed self.old) × (result ≡ not (is_over self.new)) }
     {
-        match ready.side {
-            Side::Client => self.turn_client(ready, moment, buffer),
-            Side::Server => self.turn_server(ready, moment, buffer),
+        if self.waits() {
+            self.note(ready);
+            return !self.is_over();
+        }
+        if self.turn_side(ready, moment, buffer) {
+            return true;
         }
         self.hand_on();
         !self.is_over() && self.watch_on(registry, ready.number).is_ok()
+    }
+
+    /// Moves what can be moved now that a socket is ready. Whether the server refused it, so that it waits from now on.
+    fn turn_side(&mut self, ready: Ready, moment: u64, buffer: &mut Buffer) -> bool
+        ensures from { result ≡ false → Advances (told_also (way_from ready.side self.old) ready.ahead ready.has_failed) (way_from ready.side self.new) }
+        ensures to { result ≡ false → AdvancesIfItWaited (way_to ready.side self.old) (way_to ready.side self.new) }
+        ensures heard { result ≡ false → IsHeard moment self.old self.new }
+        ensures same { result ≡ false → KeepsWhatIsKnown self.old self.new }
+        ensures unrefused { result ≡ false → tells_refusal self.old ready.side ready.has_failed ≡ true → fails_unread self.new.back ≡ false }
+        ensures refused { result ≡ true → IsRefused ready.side ready.has_failed moment self.old self.new }
+    {
+        match ready.side {
+            Side::Client => {
+                self.turn_client(ready, moment, buffer);
+                false
+            }
+            Side::Server => self.turn_server(ready, moment, buffer),
+        }
     }
 
     /// The client is ready: it may have sent something, or have room for what is kept.
@@ -124,18 +189,27 @@ impl Link {
         }
     }
 
-    /// The server is ready: it may have sent something, or have room for what is kept.
-    fn turn_server(&mut self, ready: Ready, moment: u64, buffer: &mut Buffer)
-        ensures back { Advances (told_also self.old.back ready.ahead ready.has_failed) self.new.back }
-        ensures there { AdvancesIfItWaited self.old.there self.new.there }
-        ensures heard { IsHeard moment self.old self.new }
-        ensures same { KeepsWhatIsKnown self.old self.new }
+    /// The server is ready: it may have sent something, or have room for what is kept. Or it refuses the connection; whether it
+    /// does, and it is to be tried again.
+    fn turn_server(&mut self, ready: Ready, moment: u64, buffer: &mut Buffer) -> bool
+        ensures back { result ≡ false → Advances (told_also self.old.back ready.ahead ready.has_failed) self.new.back }
+        ensures there { result ≡ false → AdvancesIfItWaited self.old.there self.new.there }
+        ensures heard { result ≡ false → IsHeard moment self.old self.new }
+        ensures same { result ≡ false → KeepsWhatIsKnown self.old self.new }
+        ensures unrefused { result ≡ false → tells_refusal self.old Side.Server ready.has_failed ≡ true → fails_unread self.new.back ≡ false }
+        ensures refused { result ≡ true → IsRefused Side.Server ready.has_failed moment self.old self.new }
     {
+        let may_refuse = ready.has_failed && self.may_retry();
         self.back.hear_of(ready.ahead, ready.has_failed);
         self.carry_back(moment, buffer);
+        if may_refuse && self.back.fails_unread() {
+            self.refuse(moment);
+            return true;
+        }
         if self.there.step == Step::WaitsToWrite {
             self.carry_there(moment, buffer);
         }
+        false
     }
 
     fn carry_there(&mut self, moment: u64, buffer: &mut Buffer)
@@ -144,8 +218,8 @@ impl Link {
         ensures heard { IsHeard moment self.old self.new }
         ensures same { KeepsWhatIsKnown self.old self.new }
     {
-        self.there
-            .turn(&mut self.client, &mut self.server, moment, buffer);
+        let is_asked = self.may_retry();
+        self.there.turn(&mut self.client, &mut self.server, is_asked, moment, buffer);
     }
 
     fn carry_back(&mut self, moment: u64, buffer: &mut Buffer)
@@ -155,7 +229,7 @@ impl Link {
         ensures same { KeepsWhatIsKnown self.old self.new }
     {
         self.back
-            .turn(&mut self.server, &mut self.client, moment, buffer);
+            .turn(&mut self.server, &mut self.client, false, moment, buffer);
     }
 
     /// Tells each side that the other has ended, where it is to be told so now: the server not before it has accepted, as the
@@ -254,12 +328,16 @@ impl Link {
 
     /// Whether, at a moment in ms, a peer has been silent for as long as it may, or longer: the server until it has accepted the
     /// connection, and then each of both that isn't held up by the other. Silence counts from when something passed last, or from a later moment `since`. Where
-    /// nothing has passed at the server, the system is asked whether it has accepted.
+    /// nothing has passed at the server, the system is asked whether it has accepted. None is late while the connection waits.
     pub fn is_late(&mut self, moment: u64, since: u64, timeouts: &Timeouts) -> bool
         ensures late { result ≡ is_late self.new moment since timeouts.now }
         ensures same { self.new ≡ record self.old { accepted = self.new.accepted } }
-        ensures known { must_be_accepted self.old ≡ true → self.new.accepted ≡ true }
+        ensures known { waits self.old ≡ false → must_be_accepted self.old ≡ true → self.new.accepted ≡ true }
+        ensures waiting { waits self.old ≡ true → self.new ≡ self.old }
     {
+        if self.refused.is_some() {
+            return false;
+        }
         if !self.is_accepted() {
             return self
                 .server
@@ -282,6 +360,7 @@ impl Link {
         let counted = (self.there.direction.read(), self.back.direction.written());
         if self.has_passed() { counted } else { (0, 0) }
     }
+
     /// Closes both sockets: in order where nothing has failed, and where a socket has, the other by a reset, so that what was
     /// carried doesn't look whole. Of a server that never accepted the client reads an end.
     pub fn close(self, rt: &impl Net) {

@@ -38,12 +38,12 @@ impl ServerSocket {
         Ok(ServerSocket { socket, server })
     }
 
-    /// Begins to connect it. It fails where the system says at once that it can't.
-    pub(crate) fn connect(self) -> io::Result<TcpStream> {
+    /// Begins to connect it. Where the system says at once that it can't, the socket is given back as an error.
+    pub(crate) fn connect(self) -> Result<TcpStream, TcpStream> {
         let ServerSocket { socket, server } = self;
         let (address, size) = encode(server);
         match checked(unsafe { connect(socket.as_raw_fd(), &address, size) }) {
-            Err(error) if error.raw_os_error() != Some(EINPROGRESS) => Err(error),
+            Err(error) if error.raw_os_error() != Some(EINPROGRESS) => Err(socket),
             _ => Ok(socket),
         }
     }

@@ -3,6 +3,7 @@
 use crate::buffer::ROOM;
 use crate::end::End;
 use crate::incoming::Incoming;
+use crate::outgoing::Outgoing;
 use crate::{Ahead, Buffer};
 use std::alloc::Global;
 use tcp_flow::{Cause, Direction, ReadyStream, Step};
@@ -21,6 +22,7 @@ pub(crate) struct Way {
 
 impl Way {
     ghost use Rattle.std.specs.Prelude.{◌≡◌, true};
+    ghost use Rattle.tcp_link.specs.Retries.{fails_unread};
     ghost use Rattle.tcp_link.specs.Silence.{heard_last};
     ghost use Rattle.tcp_link.specs.Ways.{Advances, IsWay, has_read, has_written, has_written_more, has_written_more_than, told_also, unbegun_way};
 
@@ -35,8 +37,15 @@ impl Way {
     }
 
     /// Moves what can be moved now. Something that passes is heard at both ends, at this moment in ms. What follows the first
-    /// bytes is sent as it comes.
-    pub(crate) fn turn(&mut self, from: &mut End, to: &mut End, moment: u64, buffer: &mut Buffer)
+    /// bytes is sent as it comes. Where the receiver may still refuse the connection, it is asked first whether it has accepted.
+    pub(crate) fn turn(
+        &mut self,
+        from: &mut End,
+        to: &mut End,
+        is_asked: bool,
+        moment: u64,
+        buffer: &mut Buffer,
+    )
         requires way { IsWay self.old }
         ensures way { IsWay self.new }
         ensures advances { Advances self.old self.new }
@@ -45,7 +54,7 @@ impl Way {
         ensures at_once { has_written_more self.old self.new ≡ true → to.new.sends_at_once ≡ true }
     {
         let (read, written) = (self.direction.read(), self.direction.written());
-        self.carry(from, to, buffer);
+        self.carry(from, to, is_asked, buffer);
         if self.has_written_more(read, written) {
             to.send_at_once();
         }
@@ -63,7 +72,7 @@ impl Way {
     }
 
     /// Moves what can be moved now.
-    fn carry(&mut self, from: &End, to: &End, buffer: &mut Buffer)
+    fn carry(&mut self, from: &End, to: &End, is_asked: bool, buffer: &mut Buffer)
         requires way { IsWay self.old }
         ensures way { IsWay self.new }
         ensures advances { Advances self.old self.new }
@@ -72,12 +81,19 @@ impl Way {
             return;
         }
         let mut reader = ReadyStream::new(Incoming::new(&from.socket, self.ahead));
-        let mut writer = ReadyStream::new(&to.socket);
+        let mut writer = ReadyStream::new(Outgoing::new(&to.socket, is_asked));
         let bytes = buffer.bytes.as_mut_slice();
         let until_end = self.ahead != Ahead::More;
         self.step = self
             .direction
             .turn(&mut reader, &mut writer, bytes, READS, until_end);
+    }
+
+    /// Whether a read has failed before any gave a byte.
+    pub(crate) fn fails_unread(&self) -> bool
+        ensures { result ≡ fails_unread self.now }
+    {
+        matches!(self.step, Step::Failed(Cause::Read)) && self.direction.read() == 0
     }
 
     /// Takes in what is told of its sender: what is ahead, and whether its socket has failed. What had ended in order has then

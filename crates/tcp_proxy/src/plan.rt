@@ -1,5 +1,6 @@
 //! What a run of the proxy is asked; `stickd` makes it of the command line, and `running` and `sockets` go by it.
 
+use rule_addresses::Endpoint;
 use tcp_relay::Limits;
 
 /// The socket on which commands are answered.
@@ -26,7 +27,9 @@ pub struct Plan<'a> {
     pub threads: u32,
     /// How many connections they hold at most, how long a connection may be silent, and how silent peers are asked.
     pub limits: Limits,
-    /// How many connections may wait to be accepted: 1 to 2^31 - 1.
+    /// Where clients come in besides the `bind` of the configuration.
+    pub more_binds: &'a [Endpoint],
+    /// How many connections may wait to be accepted at each: 1 to 2^31 - 1.
     pub backlog: u32,
     /// Whether that number was asked for, and isn't the one that serves without a word.
     pub is_backlog_asked: bool,

@@ -120,7 +120,7 @@ pub fn run_proxy<
         report(rt, FaultKind::NoMemory)?;
         return Ok(false);
     };
-    let Some(sockets) = bind_sockets(rt, bind, plan)? else {
+    let Some(sockets) = bind_sockets(alloc, rt, bind, plan)? else {
         return Ok(false);
     };
     say_warnings(rt, warnings.as_slice());
@@ -246,7 +246,7 @@ fn serve_and_settle<T: Table + Send, R: ProxyRuntime + Files + Print + Eprint>(
         rt,
         setup,
         tables: tables.as_slice(),
-        listener: &sockets.listener,
+        listeners: sockets.listeners.as_slice(),
         socket: &sockets.socket.listener,
         silence: plan.socket.timeout,
         threads: plan.threads,

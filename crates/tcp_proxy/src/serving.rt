@@ -86,7 +86,7 @@ fn serve_where<T: Table + Send, R: ProxyRuntime>(
     serve(
         shared.alloc,
         shared.rt,
-        shared.listener,
+        shared.listeners,
         shared.tables,
         seats,
         shared.setup,

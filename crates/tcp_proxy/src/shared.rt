@@ -14,7 +14,7 @@ use std::sync::atomic::AtomicBool;
 use std::thread::Threads;
 use std::time::{Clock, Instant};
 use stick_table::Table;
-use tcp_relay::Limits;
+use tcp_relay::{Limits, Listener};
 
 /// What the proxy asks of the system: sockets, threads, locks, a clock and a log.
 pub trait ProxyRuntime: Net<Listener = TcpListener, Stream = TcpStream>
@@ -35,7 +35,7 @@ pub(crate) struct Shared<'a, T: Table, R> {
     pub rt: &'a R,
     pub setup: &'a Setup,
     pub tables: &'a [Shards<T>],
-    pub listener: &'a TcpListener,
+    pub listeners: &'a [Listener],
     pub socket: &'a UnixListener,
     /// How long a client of the socket may send or take nothing, in ms.
     pub silence: u64,

@@ -8,13 +8,14 @@ use crate::shared::ProxyRuntime;
 use base_lines::read_number;
 use log::{Log, info, warn};
 use rule_addresses::Endpoint;
+use std::alloc::Global;
 use std::net::TcpListener;
 use std::os::fd::AsRawFd;
 use std::rt::Files;
 use std::time::Instant;
 use std::{fs, io};
 use table_socket::{Access, BoundSocket, bind_socket, group_number};
-use tcp_relay::socket_address;
+use tcp_relay::{Listener, socket_address};
 
 /// Where the system says how many connections wait at most, whatever a listener asks (listen(2)).
 const MOST_WAITING: &str = "/proc/sys/net/core/somaxconn";
@@ -22,14 +23,16 @@ const MOST_WAITING: &str = "/proc/sys/net/core/somaxconn";
 /// Where connections and commands come in.
 #[derive(Drop)]
 pub(crate) struct Sockets {
-    pub listener: TcpListener,
+    /// That of the configuration first.
+    pub listeners: Vec<Listener>,
     pub socket: BoundSocket,
     /// The moment 0.
     pub start: Instant,
 }
 
-/// Binds the listener and the command socket. None where one can't be bound, which is said on standard error.
+/// Binds the listeners and the command socket. None where one can't be bound, which is said on standard error.
 pub(crate) fn bind_sockets<R: ProxyRuntime + Files + Eprint + AllocGlobal>(
+    alloc: Global,
     rt: &R,
     bind: Endpoint,
     plan: Plan<'_>,
@@ -37,13 +40,8 @@ pub(crate) fn bind_sockets<R: ProxyRuntime + Files + Eprint + AllocGlobal>(
     let Some(access) = access_of(rt, plan.socket)? else {
         return Ok(None);
     };
-    let address = socket_address(bind);
-    let listener = match bind_listener(rt, bind, plan) {
-        Ok(listener) => listener,
-        Err(reason) => {
-            eprintln!(rt; "stickd: {address} can't be bound: {reason}")?;
-            return Ok(None);
-        }
+    let Some(listeners) = bind_listeners(alloc, rt, bind, plan)? else {
+        return Ok(None);
     };
     if plan.is_backlog_asked {
         warn_of_backlog(rt, plan.backlog);
@@ -57,15 +55,76 @@ pub(crate) fn bind_sockets<R: ProxyRuntime + Files + Eprint + AllocGlobal>(
             return Ok(None);
         }
     };
+    for further in plan.more_binds {
+        let address = socket_address(*further);
+        info!(rt; "listening on {address}");
+    }
+    let address = socket_address(bind);
     info!(rt; "listening on {address}, for commands on {path}");
     Ok(Some(Sockets {
-        listener,
+        listeners,
         socket,
         start,
     }))
 }
 
-/// A listener, of whose clients so many may wait to be accepted as the plan says, and are asked as it says whether they are still
+/// The listeners of a `bind` and of those that the plan has besides. None where one can't be bound, or there is no memory, which
+/// is said on standard error.
+fn bind_listeners<R: ProxyRuntime + Eprint>(
+    alloc: Global,
+    rt: &R,
+    bind: Endpoint,
+    plan: Plan<'_>,
+) -> io::Result<Option<Vec<Listener>>> {
+    let Ok(mut listeners) = Vec::with_capacity(alloc, plan.more_binds.len().saturating_add(1))
+    else {
+        eprintln!(rt; "stickd: out of memory")?;
+        return Ok(None);
+    };
+    if !add_listener(rt, &mut listeners, bind, plan)? {
+        return Ok(None);
+    }
+    for further in plan.more_binds {
+        if !add_listener(rt, &mut listeners, *further, plan)? {
+            return Ok(None);
+        }
+    }
+    Ok(Some(listeners))
+}
+
+/// Binds one more listener. False where it can't be had, which is said on standard error.
+fn add_listener<R: ProxyRuntime + Eprint>(
+    rt: &R,
+    listeners: &mut Vec<Listener>,
+    bind: Endpoint,
+    plan: Plan<'_>,
+) -> io::Result<bool> {
+    let address = socket_address(bind);
+    let socket = match bind_listener(rt, bind, plan) {
+        Ok(socket) => socket,
+        Err(reason) => {
+            eprintln!(rt; "stickd: {address} can't be bound: {reason}")?;
+            return Ok(false);
+        }
+    };
+    if listeners.push(listener_of(socket, bind)).is_err() {
+        eprintln!(rt; "stickd: out of memory")?;
+        return Ok(false);
+    }
+    Ok(true)
+}
+
+/// A listener whose clients come to the port of this endpoint.
+fn listener_of(socket: TcpListener, bind: Endpoint) -> Listener
+    ensures port { result.port ≡ bind.port }
+{
+    Listener {
+        socket,
+        port: bind.port,
+    }
+}
+
+/// A socket that listens, of whose clients so many may wait to be accepted as the plan says, and are asked as it says whether they are still
 /// there. std's own queue has 128 places; listening once more widens it.
 fn bind_listener<R: ProxyRuntime>(
     rt: &R,

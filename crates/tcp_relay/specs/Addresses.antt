@@ -1,5 +1,5 @@
 -- The addresses of the standard library, as rules know them.
-use Rattle.std.specs.Prelude.{◌≡◌, ℕ, Option, Some, None}
+use Rattle.std.specs.Prelude.{◌≡◌, ℕ}
 use Rattle.std.specs.declared.net.ip_addr.IpAddr.{IpAddr}
 use Rattle.std.specs.declared.net.ip_addr.IpAddr.TheVariants as ips
 use Rattle.std.specs.declared.net.socket_addr.SocketAddr.{SocketAddr}
@@ -7,8 +7,6 @@ use Rattle.std.specs.Net.Addr.{ipv4_octets, ipv6_octets, ipv6_segments, segments
 use Rattle.std.specs.Net.Socket.{socket_ip, socket_port}
 use Rattle.rule_addresses.specs.declared.address.Address.{Address}
 use Rattle.rule_addresses.specs.declared.address.Address.TheVariants.{V4, V6}
-use Rattle.rule_addresses.specs.declared.address.Endpoint.{Endpoint}
-use Rattle.rule_model.specs.declared.sections.Setup.{Setup}
 use Rattle.rule_eval.specs.declared.wants.Samples.{Samples}
 
 -- its octets
@@ -22,11 +20,6 @@ IsAddress (ips.V4 ip) (V4 bytes) = ipv4_octets ip ≡ bytes
 IsAddress (ips.V6 ip) (V6 bytes) = ipv6_segments ip ≡ segments_of bytes
 IsAddress ip address = ⊥
 
--- the port of an endpoint, 0 without one
-abbrev pub port_of : Option Endpoint → ℕ
-port_of (Some endpoint) = endpoint.port
-port_of None = 0
-
 -- where a connection comes from, and the port that it comes to
-abbrev pub samples_of : Setup → SocketAddr → Samples
-samples_of setup peer = record { src = address_of (socket_ip peer); src_port = socket_port peer; dst_port = port_of setup.bind }
+abbrev pub samples_of : SocketAddr → ℕ → Samples
+samples_of peer port = record { src = address_of (socket_ip peer); src_port = socket_port peer; dst_port = port }

@@ -2,6 +2,7 @@ pub mod Accepting
 pub mod Addresses
 pub mod Counts
 pub mod ListenerTurns
+pub mod Listening
 pub mod Numbers
 pub mod Seating
 pub mod Serving

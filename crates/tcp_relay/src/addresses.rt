@@ -2,11 +2,10 @@
 
 ghost use Rattle.std.specs.Prelude.{◌≡◌};
 ghost use Rattle.std.specs.Net.Socket.{socket_ip, socket_port, IsPlainSocket};
-ghost use Rattle.tcp_relay.specs.Addresses.{IsAddress, address_of, port_of, samples_of};
+ghost use Rattle.tcp_relay.specs.Addresses.{IsAddress, address_of, samples_of};
 
 use rule_addresses::{Address, Endpoint};
 use rule_eval::Samples;
-use rule_model::Setup;
 use std::net::{IpAddr, Ipv4Addr, Ipv6Addr, SocketAddr};
 
 /// An address as rules know it.
@@ -37,23 +36,13 @@ pub fn socket_address(endpoint: Endpoint) -> SocketAddr
     SocketAddr::new(make_ip(endpoint.address), endpoint.port)
 }
 
-/// The port that connections come to, 0 without a `bind`.
-fn bound_port(bind: Option<Endpoint>) -> u16
-    ensures { result ≡ port_of bind }
-{
-    match bind {
-        Some(endpoint) => endpoint.port,
-        None => 0,
-    }
-}
-
-/// What the rules of a setup are told of a connection that comes from there.
-pub(crate) fn samples(setup: &Setup, peer: SocketAddr) -> Samples
-    ensures { result ≡ samples_of setup.now peer }
+/// What rules are told of a connection that comes from there, to this port.
+pub(crate) fn samples(peer: SocketAddr, port: u16) -> Samples
+    ensures { result ≡ samples_of peer port }
 {
     Samples {
         src: read_ip(peer.ip()),
         src_port: peer.port(),
-        dst_port: bound_port(setup.bind),
+        dst_port: port,
     }
 }

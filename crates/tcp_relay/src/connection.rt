@@ -10,7 +10,7 @@ use admit_core::Conn;
 use mio::Registry;
 use shard_book::TrackRef;
 use std::marker::PhantomData;
-use tcp_link::{Buffer, Link, Ready, Timeouts};
+use tcp_link::{Buffer, Link, Ready, ServerSocket, Timeouts};
 
 /// A connection that a worker holds: its sockets as long as it is open; without them, it holds references of which a release
 /// was refused.
@@ -68,6 +68,29 @@ impl<'a, W: Width> Connection<'a, W> {
     ) -> bool {
         match &mut self.link {
             Some(link) => !link.turn(registry, ready, moment, buffer),
+            None => false,
+        }
+    }
+
+    /// Whether its server refused it, and is to be tried again at a moment in ms.
+    pub(crate) fn is_due(&self, moment: u64) -> bool {
+        match &self.link {
+            Some(link) => link.is_due(moment),
+            None => false,
+        }
+    }
+
+    /// Tries its server again, by this socket. Whether it is over now.
+    pub(crate) fn retry(
+        &mut self,
+        server: ServerSocket,
+        registry: &Registry,
+        number: usize,
+        moment: u64,
+        buffer: &mut Buffer,
+    ) -> bool {
+        match &mut self.link {
+            Some(link) => !link.retry(server, registry, number, moment, buffer),
             None => false,
         }
     }

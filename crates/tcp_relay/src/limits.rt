@@ -9,6 +9,8 @@ pub struct Limits {
     /// one more where that leaves a rest. A thread that holds as many as it may accepts none.
     pub connections: u32,
     pub timeouts: Timeouts,
+    /// How often a server that refuses a connection is tried again, a second apart each time.
+    pub retries: u32,
     /// How the system asks a silent server. A client is asked as the listener says, of which its socket inherits that.
     pub keepalive: Option<Keepalive>,
 }

@@ -12,8 +12,7 @@ use base_sequence::NoMemory;
 use mio::unix::SourceFd;
 use mio::{Interest, Registry};
 use std::alloc::Global;
-use std::net::TcpListener;
-use std::os::fd::{AsRawFd, RawFd};
+use std::os::fd::RawFd;
 use std::sync::{Mutex, Wait};
 
 /// The workers that wait and can accept, in the order in which they began, and who is told of connections.
@@ -66,7 +65,8 @@ impl WorkerQueue {
 /// The workers of a listener, of whom one at a time is told of new connections.
 #[derive(Drop)]
 pub(crate) struct ListenerTurn {
-    listener: RawFd,
+    /// What is readable while a client waits. None where it can't be watched; no worker runs then.
+    watched: Option<RawFd>,
     /// Through which each worker is told, by its number.
     registries: Vec<Registry>,
     queue: Mutex<WorkerQueue>,
@@ -74,10 +74,10 @@ pub(crate) struct ListenerTurn {
 
 impl ListenerTurn {
     /// Nobody waits yet, and nobody is told.
-    pub(crate) fn new(listener: &TcpListener, parts: TurnParts) -> ListenerTurn {
+    pub(crate) fn new(watched: Option<RawFd>, parts: TurnParts) -> ListenerTurn {
         let TurnParts { registries, queue } = parts;
         ListenerTurn {
-            listener: listener.as_raw_fd(),
+            watched,
             registries,
             queue: Mutex::new(queue),
         }
@@ -85,10 +85,12 @@ impl ListenerTurn {
 
     /// What a worker is told of the listener from now on; at once, if there is something.
     fn tell(&self, worker: u32, what: Interest) {
-        if let Some(registry) = self.registries.get(worker as usize) {
-            // It is registered, so the system has no reason to refuse.
-            let _ = registry.reregister(&mut SourceFd(&self.listener), LISTENER, what);
-        }
+        let (Some(watched), Some(registry)) = (self.watched, self.registries.get(worker as usize))
+        else {
+            return;
+        };
+        // It is registered, so the system has no reason to refuse.
+        let _ = registry.reregister(&mut SourceFd(&watched), LISTENER, what);
     }
 
     /// Has another worker told in place of who is, or nobody.

@@ -11,7 +11,7 @@ use admit_core::Conn;
 use mio::Registry;
 use shard_book::TrackRef;
 use std::mem;
-use tcp_link::{Buffer, Link, Ready, Timeouts};
+use tcp_link::{Buffer, Link, Ready, ServerSocket, Timeouts};
 
 /// The connections that a worker holds, by the numbers of their places: what is reported of a socket names its place. A
 /// connection whose references can't be given back keeps its place, so that no memory is needed for them.
@@ -160,6 +160,33 @@ impl<'a, W: Width> Places<'a, W> {
         is_late_at(self.held.as_mut_slice(), place, moment, since, timeouts)
     }
 
+    /// Whether the server of the connection in a place refused it, and is to be tried again at a moment in ms.
+    pub(crate) fn is_due(&self, place: usize, moment: u64) -> bool {
+        match self.held.get(place) {
+            Some(Some(connection)) => connection.is_due(moment),
+            _ => false,
+        }
+    }
+
+    /// Tries the server of the connection in a place again, by this socket. Whether the connection is over now.
+    pub(crate) fn retry(
+        &mut self,
+        place: usize,
+        server: ServerSocket,
+        registry: &Registry,
+        moment: u64,
+        buffer: &mut Buffer,
+    ) -> bool {
+        retry_at(
+            self.held.as_mut_slice(),
+            place,
+            server,
+            registry,
+            moment,
+            buffer,
+        )
+    }
+
     /// Takes the connection in a place, if it is open. The place stays claimed.
     pub(crate) fn take(&mut self, place: usize) -> Option<(Conn<'a, TrackRef>, Link)>
         ensures free { IfSome result (λ _. slice_get self.new.held.items place ≡ Some None) }
@@ -205,6 +232,21 @@ fn turn_at<W: Width>(
 ) -> bool {
     match held.get_mut(ready.number) {
         Some(Some(connection)) => connection.turn(registry, ready, moment, buffer),
+        _ => false,
+    }
+}
+
+/// Tries the server of the connection in a place again. Whether it is over now.
+fn retry_at<W: Width>(
+    held: &mut [Option<Connection<'_, W>>],
+    place: usize,
+    server: ServerSocket,
+    registry: &Registry,
+    moment: u64,
+    buffer: &mut Buffer,
+) -> bool {
+    match held.get_mut(place) {
+        Some(Some(connection)) => connection.retry(server, registry, place, moment, buffer),
         _ => false,
     }
 }

@@ -1,4 +1,4 @@
-//! A listener's workers, each on a thread of its own; `tcp_proxy` calls `serve`.
+//! The workers of some listeners, each on a thread of its own; `tcp_proxy` calls `serve`.
 
 ghost use Rattle.std.specs.Prelude.{◌≡◌, ◌≤◌, IfErr, IfOk, is_some, length, true, false, vec_len};
 ghost use Rattle.tcp_relay.specs.Accepting.{most_of};
@@ -10,6 +10,7 @@ use crate::addresses::socket_address;
 use crate::connection_counter::ConnectionCounter;
 use crate::gathering::{gather, seat_workers};
 use crate::listener_turn::{ListenerTurn, TurnParts, WorkerTurn};
+use crate::listeners::{Listener, Listeners};
 use crate::reserved::{Reserved, reserve};
 use crate::shared::Shared;
 use crate::shares::share_of;
@@ -25,7 +26,7 @@ use shard_book::Seat;
 use shard_locks::Shards;
 use std::alloc::Global;
 use std::marker::{Brand, PhantomData};
-use std::net::{Net, TcpListener};
+use std::net::Net;
 use std::thread;
 use std::time::Instant;
 use stick_table::Table;
@@ -48,6 +49,7 @@ fn serve_each<'a, T: Table, R: ServeRuntime, G: Gate, W: Width>(
         acceptor: Acceptor::new(),
         clock,
         sweep,
+        next: 0,
     };
     for _turn in shared.rt.forever() {
         event_loop
@@ -63,14 +65,14 @@ fn serve_each<'a, T: Table, R: ServeRuntime, G: Gate, W: Width>(
     }
 }
 
-/// A watch of the listener for the next worker, of this number. None where the system refuses it.
+/// A watch of the listeners for the next worker, of this number. None where the system refuses it.
 fn watch_one(
     rt: &impl Net,
-    listener: &TcpListener,
+    listeners: &Listeners<'_>,
     number: u32,
     parts: &mut TurnParts,
 ) -> Option<Watch> {
-    let watch = Watch::new(rt, listener, number).ok()?;
+    let watch = Watch::new(rt, listeners.watched()?, number).ok()?;
     let registry = watch.registry().try_clone().ok()?;
     if parts.add(registry) {
         Some(watch)
@@ -79,17 +81,17 @@ fn watch_one(
     }
 }
 
-/// Has each worker watch the listener, before the connections of one take the descriptors that another needs for that. One that
+/// Has each worker watch the listeners, before the connections of one take the descriptors that another needs for that. One that
 /// can't has failed.
 fn watch_each<W: Width>(
     rt: &impl Net,
-    listener: &TcpListener,
+    listeners: &Listeners<'_>,
     workers: &mut [Worker<'_, W>],
     parts: &mut TurnParts,
 ) {
     let mut number = 0u32;
     for worker in workers.iter_mut() {
-        worker.watch = watch_one(rt, listener, number, parts);
+        worker.watch = watch_one(rt, listeners, number, parts);
         if worker.watch.is_none() {
             worker.tally.has_failed = true;
         }
@@ -100,13 +102,13 @@ fn watch_each<W: Width>(
 /// The same. There are as many workers afterwards.
 fn watch_all<W: Width>(
     rt: &impl Net,
-    listener: &TcpListener,
+    listeners: &Listeners<'_>,
     workers: &mut Vec<Worker<'_, W>>,
     parts: &mut TurnParts,
 )
     ensures workers { vec_len workers.new ≡ vec_len workers.old }
 {
-    watch_each(rt, listener, workers.as_mut_slice(), parts);
+    watch_each(rt, listeners, workers.as_mut_slice(), parts);
 }
 
 /// Whether a worker has failed.
@@ -120,7 +122,7 @@ fn has_failed<W: Width>(workers: &[Worker<'_, W>]) -> bool {
 }
 
 /// Starts a thread for each worker, and waits until all have ended. Answers whether all could be started; behind the first
-/// that can't, none is started. Nor is any where one can't watch the listener, which has failed then.
+/// that can't, none is started. Nor is any where one can't watch the listeners, which has failed then.
 fn run_each<'a, T: Table + Send, R: ServeRuntime, G: Gate + Sync, W: Width + Send + Sync>(
     shared: &Shared<'a, T, R, G, W>,
     workers: &mut [Worker<'a, W>],
@@ -177,7 +179,7 @@ fn told(served: Served, all_started: bool, has_failed: bool) -> Result<Served, S
 fn serve_wide<W: Width + Send + Sync, T: Table + Send, R: ServeRuntime, G: Gate + Sync>(
     alloc: Global,
     rt: &R,
-    listener: &TcpListener,
+    listeners: &[Listener],
     tables: &[Shards<T>],
     mut seats: Vec<Vec<Seat>>,
     setup: &Setup,
@@ -222,19 +224,21 @@ fn serve_wide<W: Width + Send + Sync, T: Table + Send, R: ServeRuntime, G: Gate 
         all_buffers,
         connections,
     );
-    watch_all(rt, listener, &mut seated, &mut parts);
-    let listener_turn = ListenerTurn::new(listener, parts);
+    let listeners = Listeners::new(rt, listeners);
+    watch_all(rt, &listeners, &mut seated, &mut parts);
+    let listener_turn = ListenerTurn::new(listeners.watched(), parts);
     let counter = ConnectionCounter::new(stop_after, listener_turn);
     let mut workers = seated;
     let shared = Shared {
         alloc,
         rt,
-        listener,
+        listeners: &listeners,
         counter: &counter,
         setup,
         tables,
         server: socket_address(server),
         timeouts: limits.timeouts,
+        retries: limits.retries,
         keepalive: limits.keepalive,
         gate,
         start,
@@ -262,7 +266,7 @@ fn without_memory(alloc: Global, seats: Vec<Vec<Seat>>) -> ServeFault
     }
 }
 
-/// Serves the clients that connect to a listener, on so many threads, over the tables of a setup, each asked by the threads'
+/// Serves the clients that connect to some listeners, each of which is asked in turn, on so many threads, over the tables of a setup, each asked by the threads'
 /// seats of it. A thread waits for all its connections at once, and holds as many as the limits say. Each is judged by the
 /// rules, and then passes the gate; if it is admitted, its bytes go to the server and back until both directions have ended or
 /// a peer has been silent for too long; it is counted, and gives its references back. Moments are ms from the start on. Before a
@@ -276,7 +280,7 @@ fn without_memory(alloc: Global, seats: Vec<Vec<Seat>>) -> ServeFault
 pub fn serve<T: Table + Send, R: ServeRuntime, G: Gate + Sync>(
     alloc: Global,
     rt: &R,
-    listener: &TcpListener,
+    listeners: &[Listener],
     tables: &[Shards<T>],
     seats: Vec<Vec<Seat>>,
     setup: &Setup,
@@ -295,6 +299,6 @@ pub fn serve<T: Table + Send, R: ServeRuntime, G: Gate + Sync>(
     ensures err { IfErr result (λ fault. IsFault (length tables.now) threads (most_of limits.connections threads) seats fault) }
 {
     serve_wide::<Brand, T, R, G>(
-        alloc, rt, listener, tables, seats, setup, gate, threads, limits, stop_after, start,
+        alloc, rt, listeners, tables, seats, setup, gate, threads, limits, stop_after, start,
     )
 }

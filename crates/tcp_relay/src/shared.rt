@@ -4,12 +4,13 @@ ghost use Rattle.std.specs.Prelude.{◌≡◌};
 ghost use Rattle.tcp_relay.specs.Serving.{AreTablesOf};
 
 use crate::connection_counter::ConnectionCounter;
+use crate::listeners::Listeners;
 use crate::width::Width;
 use rule_model::Setup;
 use shard_locks::Shards;
 use std::alloc::Global;
 use std::marker::PhantomData;
-use std::net::{SocketAddr, TcpListener};
+use std::net::SocketAddr;
 use std::time::Instant;
 use stick_table::Table;
 use tcp_link::{Keepalive, Timeouts};
@@ -19,13 +20,15 @@ use tcp_link::{Keepalive, Timeouts};
 pub(crate) struct Shared<'a, T: Table, R, G, W: Width> {
     pub(crate) alloc: Global,
     pub(crate) rt: &'a R,
-    pub(crate) listener: &'a TcpListener,
+    pub(crate) listeners: &'a Listeners<'a>,
     pub(crate) counter: &'a ConnectionCounter,
     pub(crate) setup: &'a Setup,
     pub(crate) tables: &'a [Shards<T>],
     /// Where the server is.
     pub(crate) server: SocketAddr,
     pub(crate) timeouts: Timeouts,
+    /// How often a server that refuses a connection is tried again.
+    pub(crate) retries: u32,
     pub(crate) keepalive: Option<Keepalive>,
     pub(crate) gate: &'a G,
     /// The moment 0.

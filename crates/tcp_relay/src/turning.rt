@@ -2,10 +2,12 @@
 
 ghost use Rattle.std.specs.Prelude.{◌≡◌, Some, None, slice_get};
 
-use crate::accept_errors::{AcceptFault, fault_of};
+use crate::accept_errors::AcceptFault;
 use crate::acceptor::Acceptor;
+use crate::addresses::samples;
 use crate::buffers::Buffers;
 use crate::listener_turn::WorkerTurn;
+use crate::listeners::Accepted;
 use crate::shared::Shared;
 use crate::sweep::Sweep;
 use crate::visiting::{closed, end_at, judge_one};
@@ -15,11 +17,11 @@ use crate::worker::Worker;
 use crate::{Gate, ServeRuntime};
 use base_clock::{Clock, RunningClock};
 use mio::{Events, net};
-use std::net::{SocketAddr, TcpStream};
+use std::net::TcpStream;
+use std::thread;
 use std::time::Duration;
-use std::{io, thread};
 use stick_table::Table;
-use tcp_link::{Buffer, Link, Ready, reset};
+use tcp_link::{Buffer, Link, Ready, ServerSocket, reset};
 
 /// How many connections are accepted before others get their turn.
 const ACCEPTS: u32 = 16;
@@ -36,6 +38,8 @@ pub(crate) struct EventLoop<'r, R> {
     pub(crate) acceptor: Acceptor,
     pub(crate) clock: RunningClock<'r, R>,
     pub(crate) sweep: Sweep,
+    /// The place of the listener that is asked first for the next client.
+    pub(crate) next: usize,
 }
 
 /// Takes a client in: it is judged, and carried to the server if it is admitted.
@@ -46,13 +50,19 @@ fn take_in<'a, T: Table, R: ServeRuntime, G: Gate, W: Width>(
     buffer: &mut Buffer,
     number: u64,
     place: usize,
-    client: TcpStream,
-    peer: SocketAddr,
+    accepted: Accepted,
 )
     requires free { slice_get worker.old.places.held.items place ≡ Some None }
 {
+    let Accepted {
+        client,
+        peer,
+        port,
+        ..
+    } = accepted;
     let seats = worker.seats.as_mut_slice();
-    let (conn, is_admitted) = judge_one(shared, seats, &mut event_loop.clock, number, peer);
+    let samples = samples(peer, port);
+    let (conn, is_admitted) = judge_one(shared, seats, &mut event_loop.clock, number, samples);
     if !is_admitted {
         // First its references: a client that hears of the reset may come again at once.
         end_at(shared, worker, &mut event_loop.clock, place, conn, false);
@@ -87,7 +97,14 @@ fn begin<T: Table, R: ServeRuntime, G, W: Width>(
     let Some(server) = event_loop.acceptor.take_server() else {
         return Err((0, 0));
     };
-    let Some(mut link) = Link::open(shared.rt, shared.alloc, client, server, moment) else {
+    let Some(mut link) = Link::open(
+        shared.rt,
+        shared.alloc,
+        client,
+        server,
+        moment,
+        shared.retries,
+    ) else {
         return Err((0, 0));
     };
     if link.start(event_loop.watch.registry(), place, moment, buffer) {
@@ -115,9 +132,8 @@ fn close<'a, T: Table, R: ServeRuntime, G, W: Width>(
     link.close(shared.rt);
 }
 
-/// What becomes of a client that couldn't be accepted, as this error says.
-fn note_fault<W: Width>(worker: &mut Worker<'_, W>, acceptor: &mut Acceptor, error: &io::Error) {
-    let fault = fault_of(error.raw_os_error().map(i32::unsigned_abs));
+/// What becomes of a client that couldn't be accepted.
+fn note_fault<W: Width>(worker: &mut Worker<'_, W>, acceptor: &mut Acceptor, fault: AcceptFault) {
     acceptor.hear_of_fault(fault);
     match fault {
         AcceptFault::NoneWaits | AcceptFault::Gone => {}
@@ -137,19 +153,18 @@ fn accept_one<'a, T: Table, R: ServeRuntime, G: Gate, W: Width>(
 )
     requires free { slice_get worker.old.places.held.items place ≡ Some None }
 {
-    let accepted = shared.listener.accept();
+    let accepted = shared.listeners.accept(event_loop.next);
     // From here on another is told, as the gate may block this one.
     event_loop.turn.end(shared.rt);
     match accepted {
-        Ok((client, peer)) => {
+        Ok(accepted) => {
+            event_loop.next = accepted.next;
             event_loop.acceptor.pass();
-            take_in(
-                shared, worker, event_loop, buffer, number, place, client, peer,
-            );
+            take_in(shared, worker, event_loop, buffer, number, place, accepted);
         }
-        Err(error) => {
+        Err(fault) => {
             worker.places.free(place);
-            note_fault(worker, &mut event_loop.acceptor, &error);
+            note_fault(worker, &mut event_loop.acceptor, fault);
         }
     }
 }
@@ -232,6 +247,39 @@ fn close_silent<'a, T: Table, R: ServeRuntime, G, W: Width>(
     event_loop.acceptor.try_again();
 }
 
+/// Tries the servers again that refused a connection a second ago. A connection for which the system has no socket waits on.
+fn retry_due<'a, T: Table, R: ServeRuntime, G, W: Width>(
+    shared: &Shared<'a, T, R, G, W>,
+    worker: &mut Worker<'a, W>,
+    event_loop: &mut EventLoop<'_, R>,
+    buffer: &mut Buffer,
+) {
+    let moment = event_loop.clock.now();
+    for place in 0..worker.places.count() {
+        if worker.places.is_due(place, moment) {
+            retry(shared, worker, event_loop, buffer, place, moment);
+        }
+    }
+}
+
+/// Tries the server of the connection in a place again.
+fn retry<'a, T: Table, R: ServeRuntime, G, W: Width>(
+    shared: &Shared<'a, T, R, G, W>,
+    worker: &mut Worker<'a, W>,
+    event_loop: &mut EventLoop<'_, R>,
+    buffer: &mut Buffer,
+    place: usize,
+    moment: u64,
+) {
+    let Ok(server) = ServerSocket::open(shared.rt, shared.server, shared.keepalive) else {
+        return;
+    };
+    let registry = event_loop.watch.registry();
+    if worker.places.retry(place, server, registry, moment, buffer) {
+        close(shared, worker, &mut event_loop.clock, place);
+    }
+}
+
 /// Whether a poll gave as many events as it may, so that there may be more.
 fn is_full(events: &Events) -> bool {
     events.iter().count() >= events.capacity()
@@ -299,7 +347,7 @@ fn wait<'a, T: Table, R: ServeRuntime, G: Gate, W: Width>(
     is_well
 }
 
-/// Waits until something is ready, and gives each its turn; then silent peers are looked for, where that is due. Where each client
+/// Waits until something is ready, and gives each its turn; then silent peers are looked for, and refused connections tried again, where that is due. Where each client
 /// that came was rejected, and that was all, it rests a moment before the next. False where waiting failed.
 pub(crate) fn turn_all<'a, T: Table, R: ServeRuntime, G: Gate, W: Width>(
     shared: &Shared<'a, T, R, G, W>,
@@ -318,6 +366,9 @@ pub(crate) fn turn_all<'a, T: Table, R: ServeRuntime, G: Gate, W: Width>(
     let only_accepts = turn_each(shared, worker, event_loop, events, buffer, moment);
     if let Some(as_of) = as_of {
         close_silent(shared, worker, event_loop, as_of);
+        if shared.retries > 0 {
+            retry_due(shared, worker, event_loop, buffer);
+        }
     }
     if only_accepts && worker.places.open() == open && worker.tally.has_only_rejected(tally) {
         thread::sleep(shared.rt, Duration::from_micros(REST));

@@ -6,7 +6,6 @@ ghost use Rattle.admit_core.specs.Connection.{closed_of};
 ghost use Rattle.admit_core.specs.declared.need.Need.TheVariants.{Rest};
 ghost use Rattle.tcp_relay.specs.Connections.{IsConnection};
 
-use crate::addresses::samples;
 use crate::leaving::let_go;
 use crate::shared::Shared;
 use crate::width::Width;
@@ -15,8 +14,8 @@ use crate::{Gate, ServeRuntime};
 use admit_core::Conn;
 use admit_shared::{arrive, finish, judge};
 use base_clock::{Clock, RunningClock, StoppedClock};
+use rule_eval::Samples;
 use shard_book::{Seat, TrackRef};
-use std::net::SocketAddr;
 use stick_table::Table;
 
 /// Has a connection judged by the rules, all at the moment at which they begin, and passes it through the gate. Whether it is
@@ -26,14 +25,14 @@ pub(crate) fn judge_one<'a, T: Table, R: ServeRuntime, G: Gate, W: Width>(
     seats: &mut [Seat],
     clock: &mut RunningClock<'_, R>,
     number: u64,
-    peer: SocketAddr,
+    samples: Samples,
 ) -> (Conn<'a, TrackRef>, bool)
     requires seats { length seats.old ≡ length W.tables }
     ensures connection { IsConnection W.tables result.0 }
     ensures rests { result.1 ≡ true → needed result.0 ≡ Rest }
 {
     let (alloc, rt, tables) = (shared.alloc, shared.rt, shared.tables);
-    let mut conn = arrive(shared.setup, samples(shared.setup, peer), tables, seats);
+    let mut conn = arrive(shared.setup, samples, tables, seats);
     let mut stopped = StoppedClock::at(clock.now());
     let is_admitted = judge(alloc, rt, tables, seats, &mut conn, &mut stopped);
     shared.gate.pass(number);

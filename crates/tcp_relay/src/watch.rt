@@ -4,8 +4,8 @@ use crate::acceptor::Pause;
 use crate::sweep::TICK;
 use mio::unix::SourceFd;
 use mio::{Events, Interest, Poll, Registry, Token};
-use std::net::{Net, TcpListener};
-use std::os::fd::AsRawFd;
+use std::net::Net;
+use std::os::fd::RawFd;
 use std::time::Duration;
 use std::{io, thread};
 
@@ -27,13 +27,11 @@ pub(crate) struct Watch {
 }
 
 impl Watch {
-    /// A watch of the listener, which is shared with others, and doesn't wait from now on. Nothing is told of it yet.
-    pub(crate) fn new(rt: &impl Net, listener: &TcpListener, worker: u32) -> io::Result<Watch> {
+    /// A watch of what is readable while a client waits, which is shared with others. Nothing is told of it yet.
+    pub(crate) fn new(rt: &impl Net, watched: RawFd, worker: u32) -> io::Result<Watch> {
         let poll = Poll::new(rt)?;
-        listener.set_nonblocking(true)?;
-        let fd = listener.as_raw_fd();
         poll.registry()
-            .register(&mut SourceFd(&fd), LISTENER, NOTHING)?;
+            .register(&mut SourceFd(&watched), LISTENER, NOTHING)?;
         Ok(Watch { poll, worker })
     }
 

@@ -8,7 +8,7 @@ use std::os::fd::AsRawFd;
 use tcp_link::reset;
 
 /// How a peer's connection ended, once all that came before was read. None where it doesn't end.
-fn end_of(mut stream: &TcpStream) -> Option<Result<(), ErrorKind>> {
+pub fn end_of(mut stream: &TcpStream) -> Option<Result<(), ErrorKind>> {
     let mut bytes = [0u8; 8];
     for _read in 0..100u32 {
         match stream.read(&mut bytes) {
@@ -21,7 +21,7 @@ fn end_of(mut stream: &TcpStream) -> Option<Result<(), ErrorKind>> {
 }
 
 /// Ends one side's connection, by a reset or in order.
-fn end<R: Net>(rt: &R, stream: TcpStream, is_reset: bool) {
+pub fn end<R: Net>(rt: &R, stream: TcpStream, is_reset: bool) {
     if is_reset {
         reset(rt, mio::net::TcpStream::from_std(stream));
     }

@@ -7,7 +7,7 @@ use std::net::{Net, Shutdown, SocketAddr, TcpListener, TcpStream};
 use tcp_link::Timeouts;
 
 /// A link at a moment in ms whose client and server may each be silent for so long, and whether it is late.
-type Silence = (u64, Option<u64>, Option<u64>, bool);
+pub type Silence = (u64, Option<u64>, Option<u64>, bool);
 
 /// Whether a link is late as is said, whose server may take 300 ms to accept it. Nothing is said of what has ended.
 fn is_late_as_said(lead: &mut Lead, (moment, client, server, is_late): Silence) -> bool {
@@ -21,7 +21,7 @@ fn is_late_as_said(lead: &mut Lead, (moment, client, server, is_late): Silence) 
 }
 
 /// Whether a link is late as each of these say.
-fn is_late_as_all_say(lead: &mut Lead, silences: &[Silence]) -> bool {
+pub fn is_late_as_all_say(lead: &mut Lead, silences: &[Silence]) -> bool {
     for silence in silences {
         if !is_late_as_said(lead, *silence) {
             return false;
@@ -89,7 +89,7 @@ fn a_link_is_heard_where_a_byte_passes(rt: HostRuntime) {
 }
 
 /// What becomes of a link that has been connecting since 500: what its peers may be silent for doesn't matter.
-static CONNECTING: [Silence; 4] = [
+pub static CONNECTING: [Silence; 4] = [
     (799, Some(1), Some(1), false),
     (799, None, None, false),
     (800, None, None, true),

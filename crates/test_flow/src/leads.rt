@@ -56,34 +56,46 @@ fn client_and_near<R: Net<Listener = TcpListener, Stream = TcpStream>>(
     Some((outer, mio::net::TcpStream::from_std(near)))
 }
 
-/// A link of a client that opens at a moment in ms, whose server is at an address.
+/// A link of a client that opens at a moment in ms, whose server is at an address and may be tried again so often.
 fn lead_from<R: Net>(
     rt: &R,
     alloc: Global,
     near: mio::net::TcpStream,
     server: SocketAddr,
     moment: u64,
+    retries: u32,
 ) -> Option<Lead> {
     let desk = new_desk(rt, alloc)?;
     let server = ServerSocket::open(rt, server, None).ok()?;
-    match Link::open(rt, alloc, near, server, moment) {
+    match Link::open(rt, alloc, near, server, moment, retries) {
         Some(link) => Some(Lead { link, desk }),
         None => None,
     }
 }
 
 /// The same of a client of its own.
+pub fn lead_with_retries<R: Net<Listener = TcpListener, Stream = TcpStream>>(
+    rt: &R,
+    alloc: Global,
+    server: SocketAddr,
+    moment: u64,
+    retries: u32,
+) -> Option<(Lead, TcpStream)> {
+    let (outer, near) = client_and_near(rt)?;
+    match lead_from(rt, alloc, near, server, moment, retries) {
+        Some(lead) => Some((lead, outer)),
+        None => None,
+    }
+}
+
+/// The same where the server isn't tried again.
 pub fn lead_to<R: Net<Listener = TcpListener, Stream = TcpStream>>(
     rt: &R,
     alloc: Global,
     server: SocketAddr,
     moment: u64,
 ) -> Option<(Lead, TcpStream)> {
-    let (outer, near) = client_and_near(rt)?;
-    match lead_from(rt, alloc, near, server, moment) {
-        Some(lead) => Some((lead, outer)),
-        None => None,
-    }
+    lead_with_retries(rt, alloc, server, moment, 0)
 }
 
 /// A link that opens at a moment in ms, and its client, whose server listens.
@@ -191,6 +203,22 @@ impl Lead {
     /// Silence counts from a moment at the earliest.
     pub fn is_late(&mut self, moment: u64, since: u64, timeouts: &Timeouts) -> bool {
         self.link.is_late(moment, since, timeouts)
+    }
+
+    /// Whether its server is to be tried again at a moment in ms.
+    pub fn is_due(&self, moment: u64) -> bool {
+        self.link.is_due(moment)
+    }
+
+    /// Tries a server again at a moment in ms, which may be another one. Whether the link goes on.
+    pub fn retries<R: Net>(&mut self, rt: &R, server: SocketAddr, moment: u64) -> bool {
+        let Ok(server) = ServerSocket::open(rt, server, None) else {
+            return false;
+        };
+        let desk = &mut self.desk;
+        let registry = desk.poll.registry();
+        self.link
+            .retry(server, registry, NUMBER, moment, &mut desk.buffer)
     }
 
     /// Closes the link.

@@ -25,4 +25,6 @@ mod ready_sockets;
 #[cfg(test)]
 mod ready_streams;
 #[cfg(test)]
+mod retried_links;
+#[cfg(test)]
 mod turns;

@@ -78,9 +78,9 @@ fn links_carry_bytes_there_and_back(rt: HostRuntime) {
     }
 }
 
-/// An address at which nobody listens.
-fn deserted<R: Net<Listener = TcpListener, Stream = TcpStream>>(rt: &R) -> Option<SocketAddr> {
-    TcpListener::bind(rt, "127.0.0.1:0").ok()?.local_addr().ok()
+/// An address at which nobody listens, and which the system gives to no client meanwhile.
+pub fn deserted<R: Net<Listener = TcpListener, Stream = TcpStream>>(rt: &R) -> Option<SocketAddr> {
+    TcpListener::bind(rt, "127.0.0.2:0").ok()?.local_addr().ok()
 }
 
 /// What a link counts that isn't accepted at an address, while its client sends five bytes.

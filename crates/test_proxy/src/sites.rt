@@ -17,7 +17,7 @@ use std::thread::Threads;
 use std::time::{Clock, Instant};
 use stick_table::PlainTable;
 use tcp_link::Timeouts;
-use tcp_relay::{FaultKind, Gate, Limits, ServeFault, Served, serve};
+use tcp_relay::{FaultKind, Gate, Limits, Listener, ServeFault, Served, serve};
 
 /// Each of two threads holds two connections, and a server has five seconds to accept one.
 const LIMITS: Limits = Limits {
@@ -28,6 +28,7 @@ const LIMITS: Limits = Limits {
         server: None,
         fin: None,
     },
+    retries: 0,
     keepalive: None,
 };
 
@@ -36,7 +37,7 @@ const LIMITS: Limits = Limits {
 pub struct Site<'a, R> {
     pub alloc: Global,
     pub rt: &'a R,
-    pub listener: TcpListener,
+    listeners: [Listener; 1],
     setup: Setup,
     start: Instant,
 }
@@ -77,7 +78,10 @@ pub fn open_site<'a, R: Net<Listener = TcpListener, Stream = TcpStream> + Clock>
     Some(Site {
         alloc,
         rt,
-        listener,
+        listeners: [Listener {
+            socket: listener,
+            port: 0,
+        }],
         setup,
         start,
     })
@@ -87,7 +91,8 @@ pub fn open_site<'a, R: Net<Listener = TcpListener, Stream = TcpStream> + Clock>
 pub fn client<R: Net<Listener = TcpListener, Stream = TcpStream>>(
     site: &Site<'_, R>,
 ) -> Option<TcpStream> {
-    let Ok(address) = site.listener.local_addr() else {
+    let [listener] = &site.listeners;
+    let Ok(address) = listener.socket.local_addr() else {
         return None;
     };
     TcpStream::connect(site.rt, address).ok()
@@ -178,7 +183,7 @@ fn serve_among<
     match serve(
         site.alloc,
         site.rt,
-        &site.listener,
+        &site.listeners,
         tables,
         seats,
         setup,

@@ -1,0 +1,84 @@
+"""Trials of a server that refuses: it is tried again as often as was asked, a second apart, and what the client sent isn't lost."""
+import contextlib
+import socket
+import threading
+import time
+
+from lib.proxy import PATIENCE, TABLE, TRACK, Proxy, closed_after, echoes, free_port, read_all, wait_for
+
+
+def opens_after(seconds, port, serve):
+    """A server that listens at this port after so many seconds, and serves one client."""
+    def serve_one():
+        time.sleep(seconds)
+        with socket.create_server(('127.0.0.1', port)) as listener:
+            listener.settimeout(PATIENCE)
+            with contextlib.suppress(OSError):
+                client, _ = listener.accept()
+                client.settimeout(PATIENCE)
+                with client:
+                    serve(client)
+
+    server = threading.Thread(target=serve_one)
+    server.start()
+    return server
+
+
+def a_server_that_comes_gets_all():
+    """A client sends before the server listens, and once more while it is waited for: the server that comes half a second later gets
+    all of it in order, as does one that comes behind two more tries; and its answer comes back."""
+    for late, threads in ((0.5, 1), (1.5, 2)):
+        port = free_port()
+        with Proxy(port, [TABLE, TRACK], '--retries', '3', threads=threads) as proxy, proxy.connect() as client:
+            server = opens_after(late, port, echoes)
+            client.sendall(b'first ')
+            time.sleep(0.2)
+            client.sendall(b'second')
+            client.shutdown(socket.SHUT_WR)
+            said = read_all(client)
+            server.join()
+            assert said == b'first second', (late, said)
+            wait_for('its references are given back', proxy.is_unused)
+            row = proxy.rows()['127.0.0.1']
+            assert (row['bytes_in_cnt'], row['bytes_out_cnt']) == (12, 12), row
+
+
+def it_is_tried_as_often_as_asked():
+    """A client of a server that never listens is closed at once without --retries; and with N after N seconds, and soon then. Each
+    is an end and no reset."""
+    for retries, least, most in ((0, 0, 0.9), (1, 0.9, 1.9), (2, 1.9, 2.9)):
+        with Proxy(free_port(), [TABLE, TRACK], '--retries', str(retries), threads=1) as proxy, proxy.connect() as client:
+            began = time.monotonic()
+            assert client.recv(1) == b'', 'an end'
+            took = time.monotonic() - began
+            assert least <= took < most, f'--retries {retries}: closed after {took:.2f} s'
+            wait_for('its reference is given back', proxy.is_unused)
+
+
+def a_client_that_leaves_is_noticed():
+    """A client that resets its connection while its server is waited for gives its reference back by the next try."""
+    with Proxy(free_port(), [TABLE, TRACK], '--retries', '1000', threads=1) as proxy:
+        client = proxy.connect()
+        wait_for('it is tracked', lambda: proxy.rows().get('127.0.0.1', {}).get('conn_cur') == 1)
+        client.setsockopt(socket.SOL_SOCKET, socket.SO_LINGER, b'\1\0\0\0\0\0\0\0')
+        client.close()
+        took = wait_for('its reference is given back', proxy.is_unused)
+        assert took < 2.5, f'{took:.1f} s'
+
+
+def a_server_that_accepted_is_not_tried_again():
+    """A server that accepts and then resets its connection ends the client's at once, however many tries are left."""
+    with socket.create_server(('127.0.0.1', 0)) as listener:
+        listener.settimeout(PATIENCE)
+        with Proxy(listener.getsockname()[1], [TABLE, TRACK], '--retries', '5', threads=1) as proxy, proxy.connect() as client:
+            far, _ = listener.accept()
+            client.sendall(b'.')
+            assert far.recv(1) == b'.', 'a byte passes'
+            far.setsockopt(socket.SOL_SOCKET, socket.SO_LINGER, b'\1\0\0\0\0\0\0\0')
+            far.close()
+            took = closed_after(client)
+            assert took < 0.9, f'{took:.1f} s'
+
+
+TRIALS = [a_server_that_comes_gets_all, it_is_tried_as_often_as_asked, a_client_that_leaves_is_noticed,
+          a_server_that_accepted_is_not_tried_again]
