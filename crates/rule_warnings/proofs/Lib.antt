@@ -1,1 +1,2 @@
 mod AdviceLemmas
+mod FileLemmas

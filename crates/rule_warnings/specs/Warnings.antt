@@ -7,6 +7,7 @@ use Rattle.rule_model.specs.declared.actions.Slot.TheVariants.{Sc0, Sc1, Sc2}
 use Rattle.rule_model.specs.declared.sections.NamedSpec.{NamedSpec}
 use Rattle.rule_model.specs.declared.sections.Setup.{Setup}
 use Rattle.rule_warnings.specs.Limits.{failing, is_always_tracked}
+use Rattle.rule_warnings.specs.NoEffect.{listed, rule_warnings}
 use Rattle.rule_warnings.specs.declared.descriptors.StartPlan.{StartPlan}
 use Rattle.rule_warnings.specs.declared.warning.Warning.{Warning}
 use Rattle.rule_warnings.specs.declared.warning.Warning.TheVariants.{FewDescriptors, NoTimeout, FailsOpen, WideShards}
@@ -64,14 +65,12 @@ shard_warnings setup = filter_map (shard_warning setup.shards) setup.tables
 
 -- ---- all
 
--- of the tables, for so many connections: the limits by sc0, sc1 and sc2, and the shards, each in order of declaration
+-- of the rules and the tables, for so many connections: what rules say that comes to nothing, in order; the limits by sc0, sc1 and
+-- sc2, and the shards, each in order of declaration
 abbrev pub table_warnings : ℕ → Setup → List Warning
 table_warnings connections setup =
-    limit_warnings connections setup Sc0 ++ limit_warnings connections setup Sc1 ++ limit_warnings connections setup Sc2 ++ shard_warnings setup
-
-abbrev pub listed : Option Warning → List Warning
-listed None = []
-listed (Some warning) = warning ∷ []
+    rule_warnings setup
+    ++ limit_warnings connections setup Sc0 ++ limit_warnings connections setup Sc1 ++ limit_warnings connections setup Sc2 ++ shard_warnings setup
 
 abbrev pub warnings_of : Setup → StartPlan → List Warning
 warnings_of setup plan = listed (descriptor_warning plan) ++ listed (timeout_warning plan) ++ table_warnings plan.connections setup

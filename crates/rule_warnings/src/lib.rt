@@ -7,13 +7,16 @@
 #![tactic(auto)]
 
 mod descriptors;
+mod file_lines;
 pub mod laws;
 mod limits;
+mod no_effect;
 mod room;
 mod untracked;
 mod warning;
 mod warnings;
 
 pub use descriptors::{StartPlan, allowed_descriptors, descriptors_wanted};
-pub use warning::{Shortage, Warning};
+pub use file_lines::file_warnings;
+pub use warning::{Shortage, Unread, Warning};
 pub use warnings::{table_warnings, warnings_of};

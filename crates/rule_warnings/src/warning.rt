@@ -1,8 +1,10 @@
 //! A warning, and how it is said; `warnings` makes it, and `tcp_proxy` and `stickd_input` print it.
 
-use rule_model::{Name, Slot};
+use rule_model::{Fetch, Name, Slot};
 use std::fmt::{self, Display, Formatter, Write};
 use std::str;
+use stick_key::KeyType;
+use stored_data::{Field, name};
 
 /// Why a connection may find a table full, so that its slot tracks nothing.
 #[derive(Clone, Copy, Debug)]
@@ -13,6 +15,15 @@ pub enum Shortage {
     References { wanted: u64, references: u32 },
     /// The table is `nopurge`: entries that no connection holds keep their places until they expire.
     Unpurged,
+}
+
+/// What a criterion reads that no connection has, so that it is always false.
+#[derive(Clone, Copy, Debug)]
+pub enum Unread {
+    /// By a slot that no rule in front tracks in a table that stores it.
+    BySlot(Slot, Fetch),
+    /// Of the client's address, in a table that doesn't store it.
+    OfSource(Fetch),
 }
 
 /// What is to be warned of as the proxy starts. It is printed in sentences on one line, the last of which says what to do.
@@ -43,6 +54,38 @@ pub enum Warning {
         table: Name,
         places: u64,
         shards: Option<u32>,
+    },
+    /// The rule of this number tracks what is no key in a table of this type.
+    NeverKey {
+        rule: u64,
+        slot: Slot,
+        kind: KeyType,
+    },
+    /// The rule of this number tracks clients in a table of type `ip`, and clients of IPv6 may come.
+    UntrackedIpv6 {
+        rule: u64,
+        slot: Slot,
+    },
+    /// The rule of this number has a pattern of IPv4 addresses in the form of IPv6, and no client has such an address.
+    MappedPattern {
+        rule: u64,
+    },
+    /// The rule of this number has a criterion that reads what no connection has.
+    NeverRead {
+        rule: u64,
+        unread: Unread,
+    },
+    /// The line of this number begins a section that listens or has rules, and another one is served.
+    Unserved {
+        line: u64,
+    },
+    /// The line of this number is a rule or a table in `defaults`.
+    InDefaults {
+        line: u64,
+    },
+    /// The line of this number declares an ACL that nothing uses.
+    UnusedAcl {
+        line: u64,
     },
 }
 
@@ -159,6 +202,75 @@ fn write_wide<W: Write>(
     }
 }
 
+/// A table's type, as a configuration writes it.
+fn kind_word(kind: KeyType) -> &'static str {
+    match kind {
+        KeyType::Ip => "ip",
+        KeyType::Ipv6 => "ipv6",
+        KeyType::Integer => "integer",
+        KeyType::Text(_) => "string",
+        KeyType::Binary(_) => "binary",
+    }
+}
+
+/// What is read, by the name of what a table stores for it.
+fn write_read<W: Write>(fetch: Fetch, f: &mut Formatter<W>) -> fmt::Result {
+    match fetch {
+        Fetch::Datum(datum) | Fetch::Kilobytes(datum) => f.write_str(name(datum)),
+        Fetch::Element(Field { datum, index }) => {
+            f.write_str(name(datum))?;
+            write!(f, "[{index}]")
+        }
+        Fetch::Trackers => f.write_str("trackers"),
+    }
+}
+
+/// A criterion that is always false.
+fn write_unread<W: Write>(rule: u64, unread: Unread, f: &mut Formatter<W>) -> fmt::Result {
+    match unread {
+        Unread::BySlot(slot, fetch) => {
+            let slot = Shown(slot);
+            write!(
+                f,
+                "Rule {rule}: no rule above it tracks by {slot} in a table that stores "
+            )?;
+            write_read(fetch, f)?;
+            write!(f, ", so a criterion that reads it is always false. ")?;
+            write!(
+                f,
+                "Store it in that table, and put the rule below the track."
+            )
+        }
+        Unread::OfSource(fetch) => {
+            write!(f, "Rule {rule}: a criterion reads, by the source, ")?;
+            write_read(fetch, f)?;
+            write!(
+                f,
+                " in a table that doesn't store it, so it is always false. "
+            )?;
+            write!(f, "Store it in that table.")
+        }
+    }
+}
+
+/// A key that is none, or none of some clients.
+fn write_keyless<W: Write>(
+    rule: u64,
+    slot: Shown,
+    kind: KeyType,
+    f: &mut Formatter<W>,
+) -> fmt::Result {
+    let word = kind_word(kind);
+    write!(
+        f,
+        "Rule {rule}: what track-{slot} names is never a key of type {word}, so {slot} tracks nothing there, and limits by {slot} let all in. "
+    )?;
+    write!(
+        f,
+        "Give the table a type that takes it, or track another key."
+    )
+}
+
 impl Display for Warning {
     fn fmt<W: Write>(&self, f: &mut Formatter<W>) -> fmt::Result {
         match self {
@@ -189,6 +301,35 @@ impl Display for Warning {
                 places,
                 shards,
             } => write_wide(text_of(table), *places, *shards, f),
+            Warning::NeverKey { rule, slot, kind } => write_keyless(*rule, Shown(*slot), *kind, f),
+            Warning::UntrackedIpv6 { rule, slot } => {
+                let slot = Shown(*slot);
+                write!(
+                    f,
+                    "Rule {rule}: track-{slot} tracks no client of IPv6 in a table of type ip, so limits by {slot} let those in. "
+                )?;
+                write!(f, "Give the table type ipv6, which takes IPv4 too.")
+            }
+            Warning::MappedPattern { rule } => {
+                write!(
+                    f,
+                    "Rule {rule}: a pattern in ::ffff:0:0/96 matches no client here, and in HAProxy those of IPv4. "
+                )?;
+                write!(f, "Write the IPv4 address or network.")
+            }
+            Warning::NeverRead { rule, unread } => write_unread(*rule, *unread, f),
+            Warning::Unserved { line } => write!(
+                f,
+                "Line {line}: this section isn't served: nothing listens at its bind, and its rules judge nothing, since the first frontend or listen section alone is served. Run another stickd for it."
+            ),
+            Warning::InDefaults { line } => write!(
+                f,
+                "Line {line}: a rule or a table in defaults is read past, and does nothing. Write it in the section that it is for."
+            ),
+            Warning::UnusedAcl { line } => write!(
+                f,
+                "Line {line}: no rule below it uses this acl. Name it behind if or unless, or leave it out."
+            ),
         }
     }
 }

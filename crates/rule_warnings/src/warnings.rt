@@ -6,6 +6,7 @@ ghost use Rattle.rule_warnings.specs.Warnings as spec;
 
 use crate::descriptors::{StartPlan, descriptors_wanted};
 use crate::limits::is_always_tracked;
+use crate::no_effect::{and_one, and_rules};
 use crate::room::failing;
 use crate::warning::Warning;
 use base_sequence::{NoMemory, Sequence};
@@ -102,22 +103,6 @@ fn shard_warning(shards: u32, named: &NamedSpec) -> Result<Option<Warning>, NoMe
     }))
 }
 
-/// Warnings, and behind them one more, if it is to be given.
-fn and_one(
-    mut warnings: Sequence<Warning>,
-    more: Option<Warning>,
-) -> Result<Sequence<Warning>, NoMemory>
-    ensures { IfOk result (λ all. all ≡ warnings ++ spec.listed more) }
-{
-    match more {
-        Some(warning) => {
-            warnings.push(warning)?;
-            Ok(warnings)
-        }
-        None => Ok(warnings),
-    }
-}
-
 /// Warnings, and behind them those of limits by a slot on some of a setup's tables.
 fn and_limits(
     warnings: Sequence<Warning>,
@@ -158,7 +143,7 @@ fn and_shards(
     Ok(all)
 }
 
-/// Warnings, and behind them those of the tables.
+/// Warnings, and behind them those of the rules and the tables.
 fn and_tables(
     warnings: Sequence<Warning>,
     setup: &Setup,
@@ -168,14 +153,16 @@ fn and_tables(
     ensures { IfOk result (λ all. all ≡ warnings ++ spec.table_warnings connections setup.now) }
 {
     let tables = setup.tables.as_slice();
+    let warnings = and_rules(warnings, setup)?;
     let warnings = and_limits(warnings, connections, setup, Slot::Sc0, tables)?;
     let warnings = and_limits(warnings, connections, setup, Slot::Sc1, tables)?;
     let warnings = and_limits(warnings, connections, setup, Slot::Sc2, tables)?;
     and_shards(warnings, setup.shards, tables)
 }
 
-/// What is to be said of the tables of a setup, for so many connections at once at most: limits that let in what their table
-/// has no room for, by `sc0`, `sc1` and `sc2`; then large shards; each in order of declaration.
+/// What is to be said of the rules and the tables of a setup, for so many connections at once at most: what rules say that comes
+/// to nothing, in their order; limits that let in what their table has no room for, by `sc0`, `sc1` and `sc2`; then large shards;
+/// each in order of declaration.
 pub fn table_warnings(
     alloc: Global,
     setup: &Setup,
@@ -187,7 +174,7 @@ pub fn table_warnings(
     and_tables(Sequence::new(alloc), setup, connections)
 }
 
-/// What is to be said as the proxy of a setup starts: of descriptors, of timeouts, and of its tables.
+/// What is to be said as the proxy of a setup starts: of descriptors, of timeouts, and of its rules and tables.
 pub fn warnings_of(
     alloc: Global,
     setup: &Setup,

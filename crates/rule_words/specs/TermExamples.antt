@@ -54,3 +54,11 @@ criterion-counts_element = refl
 criterion-index_too_great : criterion_of (codes "www") (codes "sc_get_gpc(100,0)" ∷ codes "1" ∷ []) ≡ Err BadCondition
 unfolding subject_of plain_subject on_slot slot_subject fetch_of element_subject element_of source_subject operator_of pattern_of number_of
 criterion-index_too_great = refl
+
+criterion-zeros_before_a_slot : criterion_of (codes "www") (codes "sc_conn_cur(00)" ∷ codes "gt" ∷ codes "1" ∷ []) ≡ Ok (criteria.Matches (Tracked Sc0 (Datum ConnCur)) (Compare Gt 1 ∷ []))
+unfolding subject_of plain_subject on_slot slot_subject fetch_of operator_of pattern_of number_of
+criterion-zeros_before_a_slot = refl
+
+criterion-zeros_before_an_element : criterion_of (codes "www") (codes "sc_get_gpc(01,00)" ∷ codes "gt" ∷ codes "1" ∷ []) ≡ Ok (criteria.Matches (Tracked Sc0 (Element (record { datum = Gpc; index = 1 }))) (Compare Gt 1 ∷ []))
+unfolding subject_of plain_subject on_slot slot_subject fetch_of element_subject element_of operator_of pattern_of number_of
+criterion-zeros_before_an_element = refl

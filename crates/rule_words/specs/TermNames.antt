@@ -1,7 +1,8 @@
 -- What the first word of a criterion asks.
-use Rattle.std.specs.Prelude.{ℕ, ◌-◌, ◌&&◌, not, true, false, Option, Some, None, option_map, option_and_then, List, [], ◌∷◌, length, take, drop, codes, if◌then◌else◌}
+use Rattle.std.specs.Prelude.{ℕ, ◌-◌, ◌==◌, ◌&&◌, not, true, false, Option, Some, None, option_map, option_and_then, List, [], ◌∷◌, length, take, drop, codes, if◌then◌else◌}
 use Rattle.std.specs.Option.{option_or}
 use Rattle.std.specs.Str.{bytes_eq}
+use Rattle.base_lines.specs.Number.{number_of}
 use Rattle.base_lines.specs.Parentheses.{before_parenthesis, from_parenthesis, has_closing, inside}
 use Rattle.base_lines.specs.Words.{is_some_text}
 use Rattle.stored_data.specs.Data.{counts_bytes}
@@ -64,14 +65,20 @@ numbered Sc0 = codes "sc0_"
 numbered Sc1 = codes "sc1_"
 numbered Sc2 = codes "sc2_"
 
-abbrev pub in_parentheses : Slot → List ℕ
-in_parentheses Sc0 = codes "(0)"
-in_parentheses Sc1 = codes "(1)"
-in_parentheses Sc2 = codes "(2)"
+abbrev pub slot_number : Slot → ℕ
+slot_number Sc0 = 0
+slot_number Sc1 = 1
+slot_number Sc2 = 2
+
+-- X of sc_X(n), where n is the slot's number
+abbrev pub with_number : Slot → List ℕ → Option (List ℕ)
+with_number slot text =
+    option_and_then (λ n. if n == slot_number slot then behind (codes "sc_") (before_parenthesis text) else None)
+    (option_and_then number_of (inside (from_parenthesis text)))
 
 -- X of sc0_X and of sc_X(0)
 unfoldable pub on_slot : Slot → List ℕ → Option (List ℕ)
-on_slot slot text = option_or (behind (numbered slot) text) (option_and_then (before (in_parentheses slot)) (behind (codes "sc_") text))
+on_slot slot text = option_or (behind (numbered slot) text) (with_number slot text)
 
 abbrev pub of_slot : Slot → List ℕ → Option Subject
 of_slot slot text = option_and_then (slot_subject slot) (on_slot slot text)

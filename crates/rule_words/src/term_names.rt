@@ -7,7 +7,7 @@ ghost use Rattle.rule_words.specs.TermNames as spec;
 ghost use Rattle.rule_words.specs.TermNames.{fetch_of, named};
 
 use crate::elements::read_element;
-use base_lines::{before_parenthesis, has_closing, inside};
+use base_lines::{before_parenthesis, has_closing, inside, read_number};
 use base_sequence::Sequence;
 use rule_model::{Fault, Fetch, Measure, ReadError, Slot};
 use std::alloc::Global;
@@ -125,23 +125,48 @@ fn slot_subject(slot: Slot, name: &[u8]) -> Option<Subject>
     Some(Subject::Integer(Measure::Tracked(slot, fetch)))
 }
 
+/// A slot's number, as it stands in parentheses.
+fn slot_number(slot: Slot) -> u64
+    ensures { result ≡ spec.slot_number slot }
+{
+    match slot {
+        Slot::Sc0 => 0,
+        Slot::Sc1 => 1,
+        Slot::Sc2 => 2,
+    }
+}
+
+/// X of `sc_X(n)`, where n is the slot's number.
+fn with_number(slot: Slot, text: &[u8]) -> Option<&[u8]>
+    ensures { option_map (λ name. name.now) result ≡ spec.with_number slot text.now }
+{
+    let (name, rest) = before_parenthesis(text);
+    let Some(inner) = inside(rest) else {
+        return None;
+    };
+    let Some(number) = read_number(inner) else {
+        return None;
+    };
+    if number != slot_number(slot) {
+        return None;
+    }
+    behind(b"sc_", name)
+}
+
 /// X of `sc0_X` and of `sc_X(0)`.
 #[tactic(auto, unfolding(crate::specs::TermNames::on_slot))]
 fn on_slot(slot: Slot, text: &[u8]) -> Option<&[u8]>
     ensures { option_map (λ name. name.now) result ≡ spec.on_slot slot text.now }
 {
-    let (prefix, end) = match slot {
-        Slot::Sc0 => (b"sc0_", b"(0)"),
-        Slot::Sc1 => (b"sc1_", b"(1)"),
-        Slot::Sc2 => (b"sc2_", b"(2)"),
+    let prefix = match slot {
+        Slot::Sc0 => b"sc0_",
+        Slot::Sc1 => b"sc1_",
+        Slot::Sc2 => b"sc2_",
     };
     if let Some(name) = behind(prefix, text) {
         return Some(name);
     }
-    let Some(rest) = behind(b"sc_", text) else {
-        return None;
-    };
-    before(end, rest)
+    with_number(slot, text)
 }
 
 /// What a name asks of a slot, if it names this one.

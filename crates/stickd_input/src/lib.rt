@@ -29,7 +29,7 @@ pub use keeping::{Keeping, read_keeping};
 pub use options::{BIND, CLIENT, CONNECT, FIN, KEEPALIVE, SERVER, SOCKET};
 use rule_config::{ConfigFault, read_config};
 use rule_model::{Config, NamedSpec, ReadError, Setup};
-use rule_warnings::{Warning, table_warnings};
+use rule_warnings::{Warning, file_warnings, table_warnings};
 use std::alloc::Global;
 use std::rt::Files;
 use std::{fs, io, str};
@@ -45,8 +45,10 @@ const SHARDS: u32 = 1;
 pub enum Detail {
     /// Its line, and what it is.
     Short,
+    /// The same; and behind all lines, what lines say that comes to nothing.
+    Started,
     /// The text of the line too, and what commonly causes that, or what is lost; and behind all lines what `stickd run` would
-    /// warn of the tables.
+    /// warn of lines, rules and tables.
     Explained,
 }
 
@@ -69,7 +71,7 @@ fn report_fault<R: Eprint + AllocGlobal>(
 ) -> io::Result<()> {
     eprintln!(rt; "stickd: {fault}")?;
     match detail {
-        Detail::Short => Ok(()),
+        Detail::Short | Detail::Started => Ok(()),
         Detail::Explained => explain_fault(rt, text, declaring, fault),
     }
 }
@@ -130,7 +132,18 @@ fn print_warnings<R: Eprint>(rt: &R, warnings: &[Warning]) -> io::Result<()> {
     Ok(())
 }
 
-/// What `stickd run` would warn of the tables of a configuration, where it isn't told of connections or shards.
+/// Prints what lines of a text without a fault say that comes to nothing. Answers whether there was memory for that; where there
+/// wasn't, it is said.
+fn warn_of_lines<R: Eprint + AllocGlobal>(rt: &R, text: &[u8]) -> io::Result<bool> {
+    let Ok(warnings) = file_warnings(rt.alloc(), text) else {
+        eprintln!(rt; "stickd: out of memory")?;
+        return Ok(false);
+    };
+    print_warnings(rt, warnings.as_slice())?;
+    Ok(true)
+}
+
+/// What `stickd run` would warn of the rules and tables of a configuration, where it isn't told of connections or shards.
 fn warnings_unless_told(alloc: Global, config: &Config) -> Result<Sequence<Warning>, NoMemory>
     requires { AreTables config.now.sections }
     ensures { IfOk result (λ warnings. warnings ≡ warnings_for 10000 (served_by config.now 1)) }
@@ -139,7 +152,7 @@ fn warnings_unless_told(alloc: Global, config: &Config) -> Result<Sequence<Warni
     table_warnings(alloc, &setup, CONNECTIONS)
 }
 
-/// Prints what `stickd run` would warn of the tables of a configuration. Answers whether there was memory for that; where there
+/// Prints what `stickd run` would warn of the rules and tables of a configuration. Answers whether there was memory for that; where there
 /// wasn't, it is said.
 fn warn_of_tables<R: Eprint + AllocGlobal>(rt: &R, config: &Config) -> io::Result<bool>
     requires { AreTables config.now.sections }
@@ -181,6 +194,9 @@ pub fn read_file<R: Files + Eprint + AllocGlobal>(
         }
     };
     warn(rt, text.as_slice(), config.warnings.as_slice(), detail)?;
+    if detail != Detail::Short && !warn_of_lines(rt, text.as_slice())? {
+        return Ok(None);
+    }
     if detail == Detail::Explained && !warn_of_tables(rt, &config)? {
         return Ok(None);
     }
@@ -208,19 +224,20 @@ fn report_narrow<R: Eprint>(rt: &R, named: &NamedSpec) -> io::Result<()> {
     }
 }
 
-/// What is served by a configuration, or without one, each table kept in this way. None where that can't be had, which
-/// is said on standard error.
-pub fn open_setup<R: Files + Eprint + AllocGlobal>(
+/// What is served by a configuration, or without one, each table kept in this way, and so much said of it. None where that can't
+/// be had, which is said on standard error.
+fn read_setup<R: Files + Eprint + AllocGlobal>(
     rt: &R,
     path: Option<&str>,
     keeping: Keeping,
+    detail: Detail,
 ) -> io::Result<Option<Setup>>
     requires shards { (1 ≤ keeping.shards) × (keeping.shards ≤ 64) }
     requires purge { (1 ≤ keeping.purge) × (keeping.purge ≤ 1024) }
     ensures { IfOk result (λ opened. IfSome opened CanOpen) }
 {
     let made = match path {
-        Some(path) => match read_file(rt, path, Telling::First, Detail::Short)? {
+        Some(path) => match read_file(rt, path, Telling::First, detail)? {
             Some(config) => setup_of(rt.alloc(), &config, keeping.shards),
             None => return Ok(None),
         },
@@ -236,4 +253,31 @@ pub fn open_setup<R: Files + Eprint + AllocGlobal>(
         return Ok(None);
     }
     Ok(Some(setup))
+}
+
+/// What a script is replayed on: what is served by a configuration, or without one, each table kept in this way. None where that
+/// can't be had, which is said on standard error.
+pub fn open_setup<R: Files + Eprint + AllocGlobal>(
+    rt: &R,
+    path: Option<&str>,
+    keeping: Keeping,
+) -> io::Result<Option<Setup>>
+    requires shards { (1 ≤ keeping.shards) × (keeping.shards ≤ 64) }
+    requires purge { (1 ≤ keeping.purge) × (keeping.purge ≤ 1024) }
+    ensures { IfOk result (λ opened. IfSome opened CanOpen) }
+{
+    read_setup(rt, path, keeping, Detail::Short)
+}
+
+/// What the proxy serves: the same; and what lines of the configuration say that comes to nothing is said too.
+pub fn open_served<R: Files + Eprint + AllocGlobal>(
+    rt: &R,
+    path: Option<&str>,
+    keeping: Keeping,
+) -> io::Result<Option<Setup>>
+    requires shards { (1 ≤ keeping.shards) × (keeping.shards ≤ 64) }
+    requires purge { (1 ≤ keeping.purge) × (keeping.purge ≤ 1024) }
+    ensures { IfOk result (λ opened. IfSome opened CanOpen) }
+{
+    read_setup(rt, path, keeping, Detail::Started)
 }

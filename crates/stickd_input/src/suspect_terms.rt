@@ -1,7 +1,7 @@
 //! The word at fault in a condition or in a criterion.
 
 use crate::expected::{ELEMENT_FETCHES, Expected, SLOT_FETCHES, SOURCE_FETCHES};
-use crate::suspects::{Suspect, is_among, is_element};
+use crate::suspects::{Suspect, is_among, is_element, is_slot};
 use base_lines::{Parts, before_parenthesis, has_closing, inside, read_number};
 use rule_addresses::read_network;
 
@@ -106,7 +106,7 @@ fn values_of(name: &[u8]) -> Option<Values> {
     if is_among(fetch, &ELEMENT_FETCHES) && is_element(rest) {
         return Some(Values::Integers);
     }
-    if is_among(rest, &["(0)", "(1)", "(2)"]) {
+    if is_slot(rest) {
         return values_of_slot(fetch);
     }
     None

@@ -189,7 +189,7 @@ fn wrong_action<'a>(words: &[&'a [u8]]) -> Option<Suspect<'a>> {
 }
 
 /// Whether a text is the number of a slot in parentheses.
-fn is_slot(text: &[u8]) -> bool {
+pub(crate) fn is_slot(text: &[u8]) -> bool {
     match inside(text) {
         Some(number) => read_bounded(number, 0, 2).is_ok(),
         None => false,

@@ -7,9 +7,13 @@
 #[cfg(test)]
 mod cases;
 #[cfg(test)]
+mod file_rows;
+#[cfg(test)]
 mod lives;
 #[cfg(test)]
 mod rows;
+#[cfg(test)]
+mod rule_warning_rows;
 #[cfg(test)]
 mod warning_cases;
 #[cfg(test)]

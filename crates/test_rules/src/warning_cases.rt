@@ -1,9 +1,13 @@
 //! What is said of each configuration.
 
+use crate::file_rows::{FILES, FileRow};
+use crate::rule_warning_rows;
 use crate::warning_rows::{ROWS, Row};
 use rule_config::read_config;
 use rule_model::Setup;
-use rule_warnings::{StartPlan, Warning, descriptors_wanted, table_warnings, warnings_of};
+use rule_warnings::{
+    StartPlan, Warning, descriptors_wanted, file_warnings, table_warnings, warnings_of,
+};
 use std::alloc::Global;
 use std::fmt::Write;
 
@@ -50,6 +54,35 @@ fn wrong_row(alloc: Global, rows: &[Row]) -> Option<usize> {
 #[test]
 fn tables_get_their_warnings(rt: HostRuntime) {
     assert_eq!(rt; wrong_row(rt.alloc(), &ROWS), None);
+}
+
+#[test]
+fn rules_get_their_warnings(rt: HostRuntime) {
+    assert_eq!(rt; wrong_row(rt.alloc(), &rule_warning_rows::ROWS), None);
+}
+
+/// Whether a file has no fault, and its lines get the warnings of the row.
+fn is_right_file(alloc: Global, row: &FileRow) -> bool {
+    let text = row.text.as_bytes();
+    if read_config(alloc, text).is_err() {
+        return false;
+    }
+    let Ok(warnings) = file_warnings(alloc, text) else {
+        return false;
+    };
+    match lines_of(alloc, warnings.as_slice()) {
+        Some(lines) => lines.as_bytes() == row.said.as_bytes(),
+        None => false,
+    }
+}
+
+#[test]
+fn lines_get_their_warnings(rt: HostRuntime) {
+    let alloc = rt.alloc();
+    assert_eq!(rt;
+        FILES.iter().position(|row| !is_right_file(alloc, row)),
+        None
+    );
 }
 
 /// A run with four connections on two threads, which wants 33 descriptors.
