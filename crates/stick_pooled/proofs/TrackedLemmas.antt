@@ -1,50 +1,119 @@
 -- What is shown of a key that is tracked once more.
-use Rattle.std.proofs.Common.{◌≡◌, ℕ, ◌+◌, ◌-◌, sym, ◌∙◌, ap, List, filter, cond, Option, Some, None, unwrap_or}
-use Rattle.std.specs.Prelude.{max}
-use Rattle.std.specs.Option.{option_map}
-use Rattle.stored_data.specs.Acts.{acted}
-use Rattle.stored_data.specs.declared.act.Act.TheVariants.{Connection}
-use Rattle.stored_data.specs.declared.values.StoredValue.{StoredValue}
-use Rattle.entry_pool.specs.declared.slot_handle.Handle.{Handle}
-use Rattle.stick_pooled.specs.Stock.{Stock, IsAt, IsAbsent}
-use Rattle.stick_pooled.specs.Tickets.{Tickets}
+use Rattle.std.proofs.Common.{◌≡◌, ℕ, ◌+◌, refl, sym, ◌∙◌, ap, List, [], ◌∷◌, ◌++◌, Bool, true, false, cond, not, ◌&&◌, nat_eq, arith, Option, Some, None}
+use Rattle.std.specs.Prelude.{nat_lt}
+use Rattle.std.specs.Option.{option_map, option_map_or}
+use Rattle.std.proofs.lemmas.Bool.{and_parts}
+use Rattle.std.proofs.lemmas.Bool.Decides.{nat_tests}
+use Rattle.stick_table.specs.References.{entered}
+use Rattle.stick_table.proofs.TicketLemmas.{refs_more}
 use Rattle.stick_model.specs.Key.{Key}
-use Rattle.stick_model.specs.State.{State, refs, record_at, row_of, stays, zero_record}
-use Rattle.stick_model.specs.Step.{begun, connected}
-use Rattle.stick_model.specs.declared.rows.Cell.{Cell}
+use Rattle.stick_model.specs.State.{State, key_of, is_free, record_at, refs, row, row_of, same_ticket}
+use Rattle.stick_model.specs.Room.{stored_in}
+use Rattle.stick_model.specs.Step.{begun, connected, is_free_slot, with_ticket as with_ticket_of}
+use Rattle.stick_model.specs.declared.rows.Ticket.{Ticket}
 use Rattle.stick_model.specs.declared.rows.Record.{Record}
 use Rattle.stick_model.specs.declared.rows.Row.{Row}
 use Rattle.stick_model.specs.declared.specification.Spec.{Spec}
-use Rattle.stick_pooled.specs.Seen.{IsLive, IsGone, cells_of}
+use Rattle.stick_model.proofs.KeyLemmas.{same_key-refl}
+use Rattle.stick_model.proofs.RecordLemmas.{is-stored, stored-found}
+use Rattle.stick_pooled.specs.Stock.{Held, Stock, held_at}
+use Rattle.stick_pooled.specs.Tickets.{Tickets, entry_of}
 use Rattle.stick_pooled.specs.Shown.{record_of, records_of}
-use Rattle.stick_pooled.specs.Table.{tickets_of, IsTable}
-use Rattle.stick_pooled.proofs.LookLemmas.{live-record, gone-record}
-use Rattle.stick_pooled.proofs.StoreLemmas.{refs-absent}
+use Rattle.stick_pooled.specs.Table.{key_in, tickets_of, state_of, IsTable}
+use Rattle.stick_pooled.proofs.StockLemmas.{none_some, same_some}
+use Rattle.stick_pooled.proofs.CountLemmas.{lookup-keys, held-of}
+use Rattle.stick_pooled.proofs.RecordLemmas.{lookup-at}
+use Rattle.stick_pooled.proofs.RowLemmas.{row-shown}
 
-module _ (spec : Spec) (clock events : ℕ) (s : Stock) (book : Tickets) (table : IsTable spec clock events s book) (key : Key) where
-  pub refs-there : (handle : Handle) (at : IsAt s key handle) → at.held.entry.refs ≡ refs key (tickets_of s book)
-  refs-there handle at = table.counted handle.slot at.held at.there ∙ ap (λ k. refs k (tickets_of s book)) at.keyed
+-- ---- a reference that was made
+-- a ticket of a place that none has is found behind all others
+found-last : (ticket : Ticket) (key : Key) (tickets : List (Ticket × Key)) → is_free ticket.slot tickets ≡ true → key_of ticket (tickets ++ (ticket, key) ∷ []) ≡ Some key
+found-last ticket key [] free =
+    let number : nat_eq ticket.number ticket.number ≡ true = grind (arith, nat_tests) in
+    let slot : nat_eq ticket.slot ticket.slot ≡ true = grind (arith, nat_tests) in
+    ap (λ b. cond (b && nat_eq ticket.slot ticket.slot) (Some key) None) number ∙ ap (λ b. cond b (Some key) None) slot
+found-last ticket key (held ∷ tickets) free =
+    let parts = and_parts (not (nat_eq held.0.slot ticket.slot)) (is_free ticket.slot tickets) free in
+    let apart : nat_eq ticket.slot held.0.slot ≡ false = grind (arith, nat_tests) in
+    ap (λ b. cond (nat_eq ticket.number held.0.number && b) (Some held.1) (key_of ticket (tickets ++ (ticket, key) ∷ []))) apart
+    ∙ never (nat_eq ticket.number held.0.number) ∙ found-last ticket key tickets parts.1
+  where
+    never : (b : Bool) → cond (b && false) (Some held.1) (key_of ticket (tickets ++ (ticket, key) ∷ [])) ≡ key_of ticket (tickets ++ (ticket, key) ∷ [])
+    never true = refl
+    never false = refl
 
-  pub refs-none : IsAbsent s key → ◌≡◌ {A = ℕ} 0 (refs key (tickets_of s book))
-  refs-none none = sym (refs-absent s key none book.tickets table.held)
+-- what a state has in which a reference was made
+record IsEntered (state : State) (key : Key) (found : Record) (ticket : Ticket) (new : State) : Type 0 where
+  pub spec : new.spec ≡ state.spec
+  pub clock : new.clock ≡ state.clock
+  pub out : key_of ticket new.tickets ≡ Some key
+  pub counted : refs key new.tickets ≡ refs key state.tickets + 1
+  pub kept : record_at key new.records ≡ Some found
 
-  module _ (at : ℕ) where
-    -- the data of a key's entry
-    pub values-live : (slot : ℕ) (l : IsLive s spec.expire at key slot) → l.held.values ≡ (unwrap_or (record_at key (filter (stays at (tickets_of s book)) (records_of spec.expire s))) (zero_record spec.columns)).values
-    values-live slot l =
-        sym (ap (λ k. (unwrap_or (record_at k (filter (stays at (tickets_of s book)) (records_of spec.expire s))) (zero_record spec.columns)).values) (sym l.keyed)
-        ∙ ap (λ (o : Option Record). (unwrap_or o (zero_record spec.columns)).values) (live-record spec clock events s book table at slot l.held l.there ∙ ap (λ b. cond b (Some (record_of spec.expire l.held)) None) l.kept))
+is-entered : (state : State) (key : Key) (slot : ℕ) (found : Record) (ticket : Ticket) (new : State) → is_free slot state.tickets ≡ true → entered state key slot found ≡ (Some ticket, new) → IsEntered state key found ticket new
+is-entered state key slot found ticket new free enters = go (stored_in state.spec state.tickets state.records key found) refl
+  where
+    made : Ticket
+    made = record { number = state.events; slot = slot }
 
-    pub values-gone : IsGone s spec.expire at key → (zero_record spec.columns).values ≡ (unwrap_or (record_at key (filter (stays at (tickets_of s book)) (records_of spec.expire s))) (zero_record spec.columns)).values
-    values-gone gone = sym (ap (λ (o : Option Record). (unwrap_or o (zero_record spec.columns)).values) (gone-record spec clock events s book table at key gone))
+    outcome : Option (List (Key × Record)) → Option Ticket × State
+    outcome room = option_map_or {U = Option Ticket × State} (λ roomy. (Some made, with_ticket_of roomy made key)) (option_map (λ rs. record state { records = rs }) room) (None, state)
 
--- the row of a key that is tracked once more
-pub connected-row : (state : State) (now clock : ℕ) (key shown : Key) (count left : ℕ) (values acts : List StoredValue) (cells : List Cell) → clock ≡ max state.clock now → shown ≡ key → count ≡ refs key state.tickets + 1
-    → values ≡ (unwrap_or (record_at key (filter (stays clock state.tickets) state.records)) (zero_record state.spec.columns)).values
-    → acts ≡ acted values clock Connection → cells ≡ cells_of state.spec.columns clock count acts
-    → left ≡ unwrap_or (option_map (λ life. clock + life) state.spec.expire) 0 - clock
-    → ◌≡◌ {A = Row} (record { key = shown; refs = count; left = left; cells = cells }) (row_of state.spec.columns (max state.clock now) (refs key state.tickets + 1) key (connected (begun state now) key))
-connected-row state now clock key shown count left values acts cells is named counts was acting shows lives =
-    (λ i. record { key = named i; refs = counts i; left = lives i; cells = (shows ∙ (λ j. cells_of state.spec.columns clock (counts j) (acting j))) i })
-    ∙ ap (λ (vs : List StoredValue). record { key = key; refs = refs key state.tickets + 1; left = unwrap_or (option_map (λ life. clock + life) state.spec.expire) 0 - clock; cells = cells_of state.spec.columns clock (refs key state.tickets + 1) (acted vs clock Connection) }) was
-    ∙ ap (λ (at : ℕ). record { key = key; refs = refs key state.tickets + 1; left = unwrap_or (option_map (λ life. at + life) state.spec.expire) 0 - at; cells = cells_of state.spec.columns at (refs key state.tickets + 1) (acted (unwrap_or (record_at key (filter (stays at state.tickets) state.records)) (zero_record state.spec.columns)).values at Connection) }) is
+    go : (room : Option (List (Key × Record))) → stored_in state.spec state.tickets state.records key found ≡ room → IsEntered state key found ticket new
+    go None none = absurd (none_some (ap (λ (o : Option Ticket × State). o.0) (sym (ap outcome none) ∙ enters)))
+    go (Some records) some =
+        let both : ◌≡◌ {A = Option Ticket × State} (Some made, record state { records = records; tickets = state.tickets ++ (made, key) ∷ [] }) (Some ticket, new) = sym (ap outcome some) ∙ enters in
+        let same : made ≡ ticket = same_some (ap (λ (o : Option Ticket × State). o.0) both) in
+        let after : record state { records = records; tickets = state.tickets ++ (made, key) ∷ [] } ≡ new = ap (λ (o : Option Ticket × State). o.1) both in
+        let stored = is-stored state.spec state.tickets state.records key found records some in
+        record {
+          spec = ap (λ (s : State). s.spec) (sym after);
+          clock = ap (λ (s : State). s.clock) (sym after);
+          out = ap (λ (s : State). key_of ticket s.tickets) (sym after) ∙ ap (λ (t : Ticket). key_of t (state.tickets ++ (made, key) ∷ [])) (sym same) ∙ found-last made key state.tickets free;
+          counted = ap (λ (s : State). refs key s.tickets) (sym after) ∙ refs_more key state.tickets made;
+          kept = ap (λ (s : State). record_at key s.records) (sym after) ∙ stored-found state.spec state.tickets state.records key found records stored key ∙ ap (λ b. cond b (Some found) (record_at key stored.roomy)) (same_key-refl key);
+        }
+
+-- its row is that of the key's record, with one reference more
+entered-row : (state : State) (key : Key) (found : Record) (ticket : Ticket) (new : State) → IsEntered state key found ticket new → row new key found ≡ row_of state.spec.columns state.clock (refs key state.tickets + 1) key found
+entered-row state key found ticket new is = λ i. row_of (is.spec i).columns (is.clock i) (is.counted i) key found
+
+-- a copy of the key was given, and another is shown
+module _ (old : State) (now : ℕ) (given shown key : Key) (ticket : Ticket) (new : State) (same : given ≡ key) (named : shown ≡ key) (free : is_free_slot old ticket.slot ≡ true)
+    (enters : entered (begun old now) given ticket.slot (connected (begun old now) given) ≡ (Some ticket, new)) where
+  pub entered-key : entered (begun old now) key ticket.slot (connected (begun old now) key) ≡ (Some ticket, new)
+  entered-key = ap {B = Option Ticket × State} (λ (k : Key). entered (begun old now) k ticket.slot (connected (begun old now) k)) (sym same) ∙ enters
+
+  after : IsEntered (begun old now) key (connected (begun old now) key) ticket new
+  after = is-entered (begun old now) key ticket.slot (connected (begun old now) key) ticket new (and_parts (nat_lt ticket.slot old.spec.max_refs) (is_free ticket.slot old.tickets) free).1 entered-key
+
+  pub given-out : key_of ticket new.tickets ≡ Some shown
+  given-out = after.out ∙ ap Some (sym named)
+
+  pub given-row : (told : Row) → ((found : Record) → record_at shown new.records ≡ Some found → told ≡ row new shown found)
+      → told ≡ row_of old.spec.columns (begun old now).clock (refs key old.tickets + 1) key (connected (begun old now) key)
+  given-row told shows =
+      shows (connected (begun old now) key) (ap (λ k. record_at k new.records) named ∙ after.kept)
+      ∙ ap (λ k. row new k (connected (begun old now) key)) named
+      ∙ entered-row (begun old now) key (connected (begun old now) key) ticket new after
+
+-- ---- the row of a reference that is out
+module _ (spec : Spec) (clock events : ℕ) (s : Stock) (book : Tickets) (table : IsTable spec clock events s book) (ticket : Ticket) (key : Key) (out : key_of ticket (tickets_of s book) ≡ Some key) where
+  pub out-found : entry_of ticket book ≡ None → ⊥
+  out-found none = none_some (sym (lookup-keys s (same_ticket ticket) book.tickets ∙ ap (option_map (λ slot. key_in (held_at s slot))) none) ∙ out)
+
+  module _ (slot : ℕ) (is : entry_of ticket book ≡ Some slot) where
+    own-key : (h : Held) → held_at s slot ≡ Some h → h.key ≡ key
+    own-key h there = ap key_in (sym there) ∙ same_some (sym (lookup-keys s (same_ticket ticket) book.tickets ∙ ap (option_map (λ slot. key_in (held_at s slot))) is) ∙ out)
+
+    pub out-key : option_map (λ (held : Held). held.key) (held_at s slot) ≡ Some key
+    out-key =
+        let h = held-of spec clock events s book table ticket slot is in
+        ap (option_map (λ (held : Held). held.key)) h.1 ∙ ap Some (own-key h.0 h.1)
+
+    pub out-row : (h : Held) (shown : Row) (found : Record) → held_at s slot ≡ Some h → shown ≡ row_of spec.columns clock h.entry.refs h.key (record_of spec.expire h) → record_at key (records_of spec.expire s) ≡ Some found
+        → shown ≡ row (state_of spec clock events s book) key found
+    out-row h shown found there is_shown is_found =
+        let same = own-key h there in
+        let kept : record_of spec.expire h ≡ found = same_some (sym (lookup-at spec.expire s table.stock slot h there) ∙ ap (λ k. record_at k (records_of spec.expire s)) same ∙ is_found) in
+        is_shown ∙ row-shown spec clock events s book table slot h there ∙ (λ i. row (state_of spec clock events s book) (same i) (kept i))

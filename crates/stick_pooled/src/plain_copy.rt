@@ -62,7 +62,7 @@ fn gather_records(
     requires moments { (slot : ℕ) → moment_at store.now slot < 2 ^ 62 }
     ensures { IfOk result (λ records. records.items ≡ filled (map (option_map (keyed expire)) store.now.slots)) }
 {
-    let mut records = Vec::new(alloc);
+    let mut records = Vec::with_capacity(alloc, store.len() as usize)?;
     for slot in 0..size {
         if let Some(found) = record_at(store, expire, slot)? {
             records.push(found)?;
@@ -97,8 +97,8 @@ fn copy_tickets(
     requires { AllByRecursion (λ (ticket : ATicket × ℕ). IsSome (held_at store.now ticket.1)) book.now.tickets }
     ensures { IfOk result (λ tickets. tickets.items ≡ tickets_of store.now book.now) }
 {
-    let mut tickets = Vec::new(alloc);
     let held = book.to_vec(alloc)?;
+    let mut tickets = Vec::with_capacity(alloc, held.len())?;
     for (ticket, slot) in &held {
         tickets.push((*ticket, store.key(*slot).copy()?))?;
     }

@@ -1,6 +1,7 @@
-//! The row of a slot's entry; `looks` and `listing` show it, and `tracked` takes the time left from it.
-ghost use Rattle.std.specs.Prelude.{◌≡◌, ◌+◌, ◌-◌, ◌≤◌, Some, IfOk, IsSome, unwrap_or};
+//! The row of a slot's entry; `looks` and `listing` show it, and `tracked` fills one in that has its memory.
+ghost use Rattle.std.specs.Prelude.{◌≡◌, ◌+◌, ◌-◌, ◌≤◌, [], length, Some, IfOk, IsSome, unwrap_or, vec_capacity};
 ghost use Rattle.std.specs.Option.{option_map};
+ghost use Rattle.stored_data.specs.Fields.{fields_of};
 ghost use Rattle.stick_pooled.specs.Stock.{Held, held_at};
 ghost use Rattle.stick_model.specs.State.{row_of};
 ghost use Rattle.stick_pooled.specs.Shown.{moment_at, record_of};
@@ -9,6 +10,7 @@ ghost use Rattle.stick_pooled.specs.Seen.{cells_of};
 use crate::entry_store::Store;
 use base_sequence::{NoMemory, Sequence};
 use std::alloc::Global;
+use stick_key::StickKey;
 use stick_model::{Cell, Cells, Row, Spec};
 use stored_data::StoredSet;
 
@@ -23,27 +25,63 @@ pub(crate) fn left_at(expire: Option<u32>, moment: u64, clock: u64) -> u64
     }
 }
 
-/// What a row shows of the data of a slot's entry, which has so many references.
-fn show_cells(
-    alloc: Global,
+/// The memory of a row's cells, with none in it.
+pub(crate) fn room_for_cells(alloc: Global, columns: &StoredSet) -> Result<Vec<Cell>, NoMemory>
+    ensures empty { IfOk result (λ cells. cells.items ≡ []) }
+    ensures room { IfOk result (λ cells. vec_capacity cells ≡ length (fields_of columns.now)) }
+{
+    Vec::with_capacity(alloc, columns.fields().len())
+}
+
+/// What a row shows of the data of a slot's entry, which has so many references, in memory that was taken before.
+fn fill_cells(
     columns: &StoredSet,
     store: &Store,
     clock: u64,
     slot: u32,
     refs: u32,
-) -> Result<Cells, NoMemory>
-    requires { IsSome (held_at store.now slot) }
-    ensures { IfOk result (λ cells. (held : Held) → held_at store.now slot ≡ Some held → cells ≡ cells_of columns.now clock refs held.values) }
+    mut cells: Vec<Cell>,
+) -> Cells
+    requires there { IsSome (held_at store.now slot) }
+    requires empty { cells.items ≡ [] }
+    requires room { length (fields_of columns.now) ≤ vec_capacity cells }
+    ensures { (held : Held) → held_at store.now slot ≡ Some held → result ≡ cells_of columns.now clock refs held.values }
 {
-    let mut cells = Vec::with_capacity(alloc, columns.fields().len())?;
     for field in columns.fields() {
         let value = store.get(slot, *field, clock).unwrap_or(u64::from(refs));
-        cells.push(Cell {
+        cells.push_reserved(Cell {
             field: *field,
             value,
-        })?;
+        });
     }
-    Ok(Sequence::from_vec(cells))
+    Sequence::from_vec(cells)
+}
+
+/// The row of a slot's entry, when the clock has come to this moment, in memory that was taken before.
+pub(crate) fn fill_row(
+    spec: &Spec,
+    store: &Store,
+    clock: u64,
+    slot: u32,
+    key: StickKey,
+    cells: Vec<Cell>,
+) -> Row
+    requires there { IsSome (held_at store.now slot) }
+    requires past { moment_at store.now slot ≤ clock }
+    requires own { option_map (λ (held : Held). held.key) (held_at store.now slot) ≡ Some key }
+    requires empty { cells.items ≡ [] }
+    requires room { length (fields_of spec.now.columns) ≤ vec_capacity cells }
+    ensures { (held : Held) → held_at store.now slot ≡ Some held → result
+        ≡ row_of spec.now.columns clock held.entry.refs held.key (record_of spec.now.expire held) }
+{
+    let entry = store.entry(slot);
+    let shown = fill_cells(&spec.columns, store, clock, slot, entry.refs, cells);
+    Row {
+        key,
+        refs: entry.refs,
+        left: left_at(spec.expire, entry.moment, clock),
+        cells: shown,
+    }
 }
 
 /// The row of a slot's entry, when the clock has come to this moment.
@@ -59,13 +97,7 @@ pub(crate) fn show_row(
     ensures { IfOk result (λ row. (held : Held) → held_at store.now slot ≡ Some held → row
         ≡ row_of spec.now.columns clock held.entry.refs held.key (record_of spec.now.expire held)) }
 {
-    let entry = store.entry(slot);
     let key = store.key(slot).copy()?;
-    let cells = show_cells(alloc, &spec.columns, store, clock, slot, entry.refs)?;
-    Ok(Row {
-        key,
-        refs: entry.refs,
-        left: left_at(spec.expire, entry.moment, clock),
-        cells,
-    })
+    let cells = room_for_cells(alloc, &spec.columns)?;
+    Ok(fill_row(spec, store, clock, slot, key, cells))
 }

@@ -93,7 +93,7 @@ impl TicketBook {
     pub fn to_vec(&self, alloc: Global) -> Result<Vec<(Ticket, u32)>, NoMemory>
         ensures { IfOk result (λ tickets. tickets.items ≡ self.now.tickets) }
     {
-        let mut tickets = Vec::new(alloc);
+        let mut tickets = Vec::with_capacity(alloc, self.len() as usize)?;
         for (number, (slot, entry)) in by_number(alloc, &self.places)? {
             tickets.push((Ticket { number, slot }, entry))?;
         }

@@ -1,14 +1,28 @@
-use Rattle.std.proofs.Common.{◌+◌, ◌-◌, ap, ◌∙◌, unwrap_or}
-use Rattle.std.specs.Prelude.{max}
-use Rattle.std.specs.Option.{option_map}
-use Rattle.stick_model.specs.State.{State}
-use Rattle.stick_pooled.specs.Seen.{cells_of}
-use Rattle.stick_pooled.proofs.TrackedLemmas.{connected-row}
+use Rattle.std.proofs.Common.{ap, ◌∙◌, sym}
+use Rattle.stick_model.specs.State.{State, key_of, record_at, row}
+use Rattle.stick_pooled.proofs.CountLemmas.{ticket-held, held-of}
+use Rattle.stick_pooled.proofs.TrackedLemmas.{out-found, out-key, out-row}
 use Rattle.stick_pooled.proofs.StickTable.tracked_row.Goals as goal
 
+pub unreachable-requires : goal.unreachable-requires
+unreachable-requires c =
+    let t = c.self.inside in
+    out-found t.spec t.clock t.events t.store t.book c.self.invariant c.args.ticket c.args.key (ap (λ (s : State). key_of c.args.ticket s.tickets) c.self.view_is ∙ c.requires.out) (sym c.find.ensures ∙ c.in_default.is)
+
+pub fill_row-requires-clause-there : goal.fill_row-requires-clause-there
+fill_row-requires-clause-there c =
+    let t = c.self.inside in
+    ticket-held t.spec t.clock t.events t.store t.book c.self.invariant c.args.ticket c.in-Some.slot (sym c.in-Some.ensures)
+
+pub fill_row-requires-clause-own : goal.fill_row-requires-clause-own
+fill_row-requires-clause-own c =
+    let t = c.self.inside in
+    out-key t.spec t.clock t.events t.store t.book c.self.invariant c.args.ticket c.args.key (ap (λ (s : State). key_of c.args.ticket s.tickets) c.self.view_is ∙ c.requires.out) c.in-Some.slot (sym c.in-Some.ensures)
+
 pub returns : goal.returns
-returns c =
-    connected-row c.args.self.now c.args.now c.max-clock.result c.args.key.now c.in_ok-copy.field-0 (c.refs_of-refs.result + 1) c.left_at.result c.in_ok-values.values c.act.new.self c.in_ok-cells.cells
-    (c.max-clock.ensures ∙ ap (λ (s : State). max s.clock c.args.now) c.self.view_is) c.in_ok-copy.ensures.equal (ap (λ n. n + 1) c.refs_of-refs.ensures) c.in_ok-values.ensures c.act.ensures.data
-    (c.in_ok-cells.ensures ∙ ap (λ (s : State). cells_of s.spec.columns c.max-clock.result (c.refs_of-refs.result + 1) c.act.new.self) c.self.view_is)
-    (c.left_at.ensures ∙ ap (λ (s : State). unwrap_or (option_map (λ life. c.max-clock.result + life) s.spec.expire) 0 - c.max-clock.result) c.self.view_is)
+returns c found is =
+    let t = c.self.inside in
+    let h = held-of t.spec t.clock t.events t.store t.book c.self.invariant c.args.ticket c.in-Some.slot (sym c.in-Some.ensures) in
+    out-row t.spec t.clock t.events t.store t.book c.self.invariant c.args.ticket c.args.key (ap (λ (s : State). key_of c.args.ticket s.tickets) c.self.view_is ∙ c.requires.out) c.in-Some.slot (sym c.in-Some.ensures)
+    h.0 c.fill_row.result found h.1 (c.fill_row.ensures h.0 h.1) (ap (λ (s : State). record_at c.args.key s.records) c.self.view_is ∙ is)
+    ∙ ap (λ (s : State). row s c.args.key found) c.self.view_is

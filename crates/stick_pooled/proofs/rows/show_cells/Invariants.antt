@@ -1,7 +1,0 @@
-use Rattle.std.proofs.Common.{◌≡◌, take, map, Some}
-use Rattle.stick_pooled.specs.Stock.{Held, held_at}
-use Rattle.stick_pooled.specs.Seen.{cell_of}
-use Rattle.stick_pooled.proofs.rows.show_cells.Given as goal
-
-abbrev pub invariant-loop-field : goal.invariant-loop-field
-invariant-loop-field l = (held : Held) → held_at l.store l.slot ≡ Some held → l.cells.items ≡ map (cell_of l.clock l.refs held.values) (take l.field-index l.field-items)
