@@ -33,8 +33,8 @@ use stick_table::Table;
 /// One worker's connections: until the last number is drawn and all its connections have ended, or it can't wait for
 /// them.
 fn serve_each<'a, T: Table, R: ServeRuntime, G: Gate, W: Width>(
-    shared: &Shared<'a, T, R, G, W>,
-    worker: &mut Worker<'a, W>,
+    shared: &Shared<'a, R, G, W>,
+    worker: &mut Worker<'a, T, R, W>,
 ) {
     let (Some(mut buffers), Some(watch)) = (worker.buffers.take(), worker.watch.take()) else {
         worker.tally.has_failed = true;
@@ -81,10 +81,10 @@ fn watch_one(
 
 /// Has each worker watch the listener, before the connections of one take the descriptors that another needs for that. One that
 /// can't has failed.
-fn watch_each<W: Width>(
+fn watch_each<T: Table, R, W: Width>(
     rt: &impl Net,
     listener: &TcpListener,
-    workers: &mut [Worker<'_, W>],
+    workers: &mut [Worker<'_, T, R, W>],
     parts: &mut TurnParts,
 ) {
     let mut number = 0u32;
@@ -98,10 +98,10 @@ fn watch_each<W: Width>(
 }
 
 /// The same. There are as many workers afterwards.
-fn watch_all<W: Width>(
+fn watch_all<T: Table, R, W: Width>(
     rt: &impl Net,
     listener: &TcpListener,
-    workers: &mut Vec<Worker<'_, W>>,
+    workers: &mut Vec<Worker<'_, T, R, W>>,
     parts: &mut TurnParts,
 )
     ensures workers { vec_len workers.new ≡ vec_len workers.old }
@@ -110,7 +110,7 @@ fn watch_all<W: Width>(
 }
 
 /// Whether a worker has failed.
-fn has_failed<W: Width>(workers: &[Worker<'_, W>]) -> bool {
+fn has_failed<T: Table, R, W: Width>(workers: &[Worker<'_, T, R, W>]) -> bool {
     for worker in workers {
         if worker.tally.has_failed {
             return true;
@@ -122,8 +122,8 @@ fn has_failed<W: Width>(workers: &[Worker<'_, W>]) -> bool {
 /// Starts a thread for each worker, and waits until all have ended. Answers whether all could be started; behind the first
 /// that can't, none is started. Nor is any where one can't watch the listener, which has failed then.
 fn run_each<'a, T: Table + Send, R: ServeRuntime, G: Gate + Sync, W: Width + Send + Sync>(
-    shared: &Shared<'a, T, R, G, W>,
-    workers: &mut [Worker<'a, W>],
+    shared: &Shared<'a, R, G, W>,
+    workers: &mut [Worker<'a, T, R, W>],
 ) -> bool {
     if has_failed(workers) {
         return true;
@@ -144,8 +144,8 @@ fn run_each<'a, T: Table + Send, R: ServeRuntime, G: Gate + Sync, W: Width + Sen
 
 /// The same. There are as many workers afterwards.
 fn run_all<'a, T: Table + Send, R: ServeRuntime, G: Gate + Sync, W: Width + Send + Sync>(
-    shared: &Shared<'a, T, R, G, W>,
-    workers: &mut Vec<Worker<'a, W>>,
+    shared: &Shared<'a, R, G, W>,
+    workers: &mut Vec<Worker<'a, T, R, W>>,
 ) -> bool
     ensures workers { vec_len workers.new ≡ vec_len workers.old }
 {
@@ -173,7 +173,7 @@ fn told(served: Served, all_started: bool, has_failed: bool) -> Result<Served, S
     Ok(served)
 }
 
-/// Serves by workers that are known to be of as many tables as there are.
+/// Serves by workers that are known to be of as many tables as there are, in as many shards each as they are.
 fn serve_wide<W: Width + Send + Sync, T: Table + Send, R: ServeRuntime, G: Gate + Sync>(
     alloc: Global,
     rt: &R,
@@ -187,7 +187,8 @@ fn serve_wide<W: Width + Send + Sync, T: Table + Send, R: ServeRuntime, G: Gate 
     stop_after: Option<u64>,
     start: Instant,
 ) -> Result<Served, ServeFault>
-    requires width { W.tables ≡ tables.now }
+    requires width { W.tables ≡ length tables.now }
+    requires shards { W.shards ≡ setup.now.shards }
     requires most { W.most ≡ most_of limits.connections threads }
     requires server { is_some setup.now.server ≡ true }
     requires tables { AreTablesOf setup.now tables.now }
@@ -201,27 +202,16 @@ fn serve_wide<W: Width + Send + Sync, T: Table + Send, R: ServeRuntime, G: Gate 
     };
     let connections = limits.connections as usize;
     let most = share_of(connections, threads as usize, 0);
-    let Ok(room) = reserve::<W>(alloc, threads as usize, tables.len(), most) else {
+    let Ok(room) = reserve::<T, R, W>(alloc, threads as usize, tables.len(), most) else {
         return Err(without_memory(alloc, seats));
     };
     let Reserved {
         workers: mut seated,
-        all_buffers,
         mut parts,
-        rows,
-        held,
-        free,
+        rooms,
         refs,
     } = room;
-    seat_workers(
-        &mut seats,
-        &mut seated,
-        rows,
-        held,
-        free,
-        all_buffers,
-        connections,
-    );
+    seat_workers(rt, tables, &mut seats, &mut seated, rooms, connections);
     watch_all(rt, listener, &mut seated, &mut parts);
     let listener_turn = ListenerTurn::new(listener, parts);
     let counter = ConnectionCounter::new(stop_after, listener_turn);
@@ -232,7 +222,6 @@ fn serve_wide<W: Width + Send + Sync, T: Table + Send, R: ServeRuntime, G: Gate 
         listener,
         counter: &counter,
         setup,
-        tables,
         server: socket_address(server),
         timeouts: limits.timeouts,
         keepalive: limits.keepalive,

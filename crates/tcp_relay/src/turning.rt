@@ -40,8 +40,8 @@ pub(crate) struct EventLoop<'r, R> {
 
 /// Takes a client in: it is judged, and carried to the server if it is admitted.
 fn take_in<'a, T: Table, R: ServeRuntime, G: Gate, W: Width>(
-    shared: &Shared<'a, T, R, G, W>,
-    worker: &mut Worker<'a, W>,
+    shared: &Shared<'a, R, G, W>,
+    worker: &mut Worker<'a, T, R, W>,
     event_loop: &mut EventLoop<'_, R>,
     buffer: &mut Buffer,
     number: u64,
@@ -51,8 +51,8 @@ fn take_in<'a, T: Table, R: ServeRuntime, G: Gate, W: Width>(
 )
     requires free { slice_get worker.old.places.held.items place ≡ Some None }
 {
-    let seats = worker.seats.as_mut_slice();
-    let (conn, is_admitted) = judge_one(shared, seats, &mut event_loop.clock, number, peer);
+    let seated = &mut worker.seated;
+    let (conn, is_admitted) = judge_one(shared, seated, &mut event_loop.clock, number, peer);
     if !is_admitted {
         // First its references: a client that hears of the reset may come again at once.
         end_at(shared, worker, &mut event_loop.clock, place, conn, false);
@@ -71,8 +71,8 @@ fn take_in<'a, T: Table, R: ServeRuntime, G: Gate, W: Width>(
 
 /// Connects an admitted client to its server, and moves what is there already. Where that is over at once, how many
 /// bytes came in and went out.
-fn begin<T: Table, R: ServeRuntime, G, W: Width>(
-    shared: &Shared<'_, T, R, G, W>,
+fn begin<R: ServeRuntime, G, W: Width>(
+    shared: &Shared<'_, R, G, W>,
     event_loop: &mut EventLoop<'_, R>,
     buffer: &mut Buffer,
     place: usize,
@@ -100,8 +100,8 @@ fn begin<T: Table, R: ServeRuntime, G, W: Width>(
 
 /// Ends the connection in a place, if it is open there.
 fn close<'a, T: Table, R: ServeRuntime, G, W: Width>(
-    shared: &Shared<'a, T, R, G, W>,
-    worker: &mut Worker<'a, W>,
+    shared: &Shared<'a, R, G, W>,
+    worker: &mut Worker<'a, T, R, W>,
     clock: &mut RunningClock<'_, R>,
     place: usize,
 ) {
@@ -116,7 +116,11 @@ fn close<'a, T: Table, R: ServeRuntime, G, W: Width>(
 }
 
 /// What becomes of a client that couldn't be accepted, as this error says.
-fn note_fault<W: Width>(worker: &mut Worker<'_, W>, acceptor: &mut Acceptor, error: &io::Error) {
+fn note_fault<T: Table, R, W: Width>(
+    worker: &mut Worker<'_, T, R, W>,
+    acceptor: &mut Acceptor,
+    error: &io::Error,
+) {
     let fault = fault_of(error.raw_os_error().map(i32::unsigned_abs));
     acceptor.hear_of_fault(fault);
     match fault {
@@ -128,8 +132,8 @@ fn note_fault<W: Width>(worker: &mut Worker<'_, W>, acceptor: &mut Acceptor, err
 
 /// Accepts a client, if there is one, for the number that is drawn and a place that is free.
 fn accept_one<'a, T: Table, R: ServeRuntime, G: Gate, W: Width>(
-    shared: &Shared<'a, T, R, G, W>,
-    worker: &mut Worker<'a, W>,
+    shared: &Shared<'a, R, G, W>,
+    worker: &mut Worker<'a, T, R, W>,
     event_loop: &mut EventLoop<'_, R>,
     buffer: &mut Buffer,
     number: u64,
@@ -156,8 +160,8 @@ fn accept_one<'a, T: Table, R: ServeRuntime, G: Gate, W: Width>(
 
 /// Tries to accept a client. First a socket for its server is had: one that is accepted can be carried.
 fn try_to_accept<'a, T: Table, R: ServeRuntime, G: Gate, W: Width>(
-    shared: &Shared<'a, T, R, G, W>,
-    worker: &mut Worker<'a, W>,
+    shared: &Shared<'a, R, G, W>,
+    worker: &mut Worker<'a, T, R, W>,
     event_loop: &mut EventLoop<'_, R>,
     buffer: &mut Buffer,
     number: u64,
@@ -178,8 +182,8 @@ fn try_to_accept<'a, T: Table, R: ServeRuntime, G: Gate, W: Width>(
 
 /// Accepts the clients that wait, as far as this worker can. Whether none waits now.
 fn accept_some<'a, T: Table, R: ServeRuntime, G: Gate, W: Width>(
-    shared: &Shared<'a, T, R, G, W>,
-    worker: &mut Worker<'a, W>,
+    shared: &Shared<'a, R, G, W>,
+    worker: &mut Worker<'a, T, R, W>,
     event_loop: &mut EventLoop<'_, R>,
     buffer: &mut Buffer,
 ) -> bool {
@@ -200,8 +204,8 @@ fn accept_some<'a, T: Table, R: ServeRuntime, G: Gate, W: Width>(
 
 /// Gives a connection its turn, of which a socket is ready.
 fn turn<'a, T: Table, R: ServeRuntime, G, W: Width>(
-    shared: &Shared<'a, T, R, G, W>,
-    worker: &mut Worker<'a, W>,
+    shared: &Shared<'a, R, G, W>,
+    worker: &mut Worker<'a, T, R, W>,
     event_loop: &mut EventLoop<'_, R>,
     buffer: &mut Buffer,
     ready: Ready,
@@ -218,8 +222,8 @@ fn turn<'a, T: Table, R: ServeRuntime, G, W: Width>(
 /// Closes the connections of which a peer had been silent for too long at a moment in ms. What the system was short of is tried
 /// again too.
 fn close_silent<'a, T: Table, R: ServeRuntime, G, W: Width>(
-    shared: &Shared<'a, T, R, G, W>,
-    worker: &mut Worker<'a, W>,
+    shared: &Shared<'a, R, G, W>,
+    worker: &mut Worker<'a, T, R, W>,
     event_loop: &mut EventLoop<'_, R>,
     as_of: u64,
 ) {
@@ -255,8 +259,8 @@ fn tells_of_connections(events: &Events) -> bool {
 
 /// Gives each that is ready its turn, the listener first. Whether that was the listener alone, where no client waits now.
 fn turn_each<'a, T: Table, R: ServeRuntime, G: Gate, W: Width>(
-    shared: &Shared<'a, T, R, G, W>,
-    worker: &mut Worker<'a, W>,
+    shared: &Shared<'a, R, G, W>,
+    worker: &mut Worker<'a, T, R, W>,
     event_loop: &mut EventLoop<'_, R>,
     events: &Events,
     buffer: &mut Buffer,
@@ -279,8 +283,8 @@ fn turn_each<'a, T: Table, R: ServeRuntime, G: Gate, W: Width>(
 
 /// Waits until something is ready, for no longer than it may. False where that failed.
 fn wait<'a, T: Table, R: ServeRuntime, G: Gate, W: Width>(
-    shared: &Shared<'a, T, R, G, W>,
-    worker: &Worker<'a, W>,
+    shared: &Shared<'a, R, G, W>,
+    worker: &Worker<'a, T, R, W>,
     event_loop: &mut EventLoop<'_, R>,
     events: &mut Events,
 ) -> bool {
@@ -302,8 +306,8 @@ fn wait<'a, T: Table, R: ServeRuntime, G: Gate, W: Width>(
 /// Waits until something is ready, and gives each its turn; then silent peers are looked for, where that is due. Where each client
 /// that came was rejected, and that was all, it rests a moment before the next. False where waiting failed.
 pub(crate) fn turn_all<'a, T: Table, R: ServeRuntime, G: Gate, W: Width>(
-    shared: &Shared<'a, T, R, G, W>,
-    worker: &mut Worker<'a, W>,
+    shared: &Shared<'a, R, G, W>,
+    worker: &mut Worker<'a, T, R, W>,
     event_loop: &mut EventLoop<'_, R>,
     buffers: &mut Buffers,
 ) -> bool {

@@ -14,7 +14,7 @@ loop-places-preserved g c =
       seated = search rules;
       room = search rules;
       tables = search rules;
-      seats = c.take_row-row.ensures.fewer (vec_len c.pop.new.self) (length c.args.rows.items) (subst (λ n. HaveEach n (length c.args.rows.items) loop.seats.items) (sym less) loop.invariant.seats);
-      empty_rows = (All-pop (Has 0 (length g.W.Width.tables)) loop.rows.items c.pop-in-Some.new.self.items c.pop-in-Some.result c.pop-in-Some.ensures.items loop.invariant.empty_rows).0;
+      seats = c.take_row-row.ensures.fewer (vec_len c.pop.new.self) (length c.args.rooms.rows.items) (subst (λ n. HaveEach n (length c.args.rooms.rows.items) loop.seats.items) (sym less) loop.invariant.seats);
+      empty_rows = (All-pop (Has 0 g.W.Width.tables) loop.rows.items c.pop-in-Some.new.self.items c.pop-in-Some.result c.pop-in-Some.ensures.items loop.invariant.empty_rows).0;
       empty_connections = (All-pop (Has 0 g.W.Width.most) loop.held.items c.pop.new.self.items c.pop.result c.pop.ensures.items loop.invariant.empty_connections).0;
     }
