@@ -1,7 +1,9 @@
 -- A connection that a worker holds can go on by the worker's ports.
-use Rattle.std.proofs.Common.{◌≡◌, ℕ, zero, suc, ◌<◌, ◌≤◌, refl, sym, ap, subst, ◌∙◌, arith, false, List, [], ◌∷◌, length, map, slice_get, Option, Some, None, is_some}
+use Rattle.std.proofs.Common.{◌≡◌, ℕ, zero, suc, ◌<◌, ◌≤◌, refl, sym, ap, subst, ◌∙◌, arith, false, List, [], ◌∷◌, ◌++◌, drop, length, map, slice_get, take, Option, Some, None, is_some, Global, Vec, vec_len}
+use Rattle.std.proofs.lemmas.List.{length-map, take-append-le}
 use Rattle.std.proofs.Math.Logic.{∥∥₁_elim, ∥∥₁_map}
 use Rattle.std.proofs.Math.Nat.{ℕ_set}
+use Rattle.std.proofs.Math.Seq.{take-length}
 use Rattle.std.specs.Prelude.{IfSome}
 use Rattle.std.proofs.lemmas.Option.{slice_get_within}
 use Rattle.rule_model.specs.declared.actions.Slot.{Slot}
@@ -63,61 +65,62 @@ can_go_on tables shards seated conn count each is = record {
   given = is.given;
 }
 
--- they are ports of its setup
-pub ready : (tables shards : ℕ) (seated : List SeatedState) (conn : Conn RefState) → length seated ≡ tables → AreIn shards_of shards seated → IsVisitor tables shards conn → CanGoOn seated_meaning (map (λ (one : SeatedState). one) seated) conn
-ready tables shards seated conn count each is = subst (λ ports. CanGoOn seated_meaning ports conn) (sym (same_ports seated)) (can_go_on tables shards seated conn count each is)
-
 -- each is in as many shards as before
-pub in_shards : (shards : ℕ) (old new : List SeatedState) → parts_of seated_meaning.parts (map (λ (one : SeatedState). one) new) ≡ parts_of seated_meaning.parts (map (λ (one : SeatedState). one) old) → AreIn shards_of shards old → AreIn shards_of shards new
-in_shards shards old new same each = by old new ((λ k. parts_of shards_of (sym (same_ports new) k)) ∙ same ∙ (λ k. parts_of shards_of (same_ports old k))) each
+in_shards : (shards : ℕ) (old new : List SeatedState) → map shards_of new ≡ map shards_of old → AreIn shards_of shards old → AreIn shards_of shards new
+in_shards shards old [] same each i one at = absurd (none_some one at)
+in_shards shards [] (new ∷ news) same each i one at = absurd (none_one (shards_of new) (map shards_of news) same)
   where
-    first : (m n : ℕ) (ms ns : List ℕ) → m ∷ ms ≡ n ∷ ns → m ≡ n
-    first m n ms ns e = cc
-
-    rest : (m n : ℕ) (ms ns : List ℕ) → m ∷ ms ≡ n ∷ ns → ms ≡ ns
-    rest m n ms ns e = cc
-
     none_one : (n : ℕ) (ns : List ℕ) → n ∷ ns ≡ [] → ⊥
     none_one n ns e = cc
-
-    by : (old new : List SeatedState) → map shards_of new ≡ map shards_of old → AreIn shards_of shards old → AreIn shards_of shards new
-    by old [] same each i one at = absurd (none_some one at)
-    by [] (new ∷ news) same each = absurd (none_one (shards_of new) (map shards_of news) same)
-    by (old ∷ olds) (new ∷ news) same each zero one at =
-        let is : new ≡ one = cc in
-        ap shards_of (sym is) ∙ first (shards_of new) (shards_of old) (map shards_of news) (map shards_of olds) same ∙ each 0 old refl
-    by (old ∷ olds) (new ∷ news) same each (suc i) one at = by olds news (rest (shards_of new) (shards_of old) (map shards_of news) (map shards_of olds) same) (λ j port is. each (suc j) port is) i one at
-
--- and as many as before
-pub as_many : (old new : List SeatedState) → parts_of seated_meaning.parts (map (λ (one : SeatedState). one) new) ≡ parts_of seated_meaning.parts (map (λ (one : SeatedState). one) old) → length new ≡ length old
-as_many old new same = sym (counts new) ∙ ap length same ∙ counts old
-  where
-    counts : (seated : List SeatedState) → length (parts_of seated_meaning.parts (map (λ (one : SeatedState). one) seated)) ≡ length seated
-    counts [] = refl
-    counts (one ∷ more) = ap suc (counts more)
+in_shards shards (old ∷ olds) (new ∷ news) same each zero one at =
+    let is : new ≡ one = cc in
+    let first : shards_of new ≡ shards_of old = cc in
+    ap shards_of (sym is) ∙ first ∙ each 0 old refl
+in_shards shards (old ∷ olds) (new ∷ news) same each (suc i) one at =
+    let rest : map shards_of news ≡ map shards_of olds = cc in
+    in_shards shards olds news rest (λ j port is. each (suc j) port is) i one at
 
 -- what has gone on by them is such a connection still
-pub visitor : (tables shards : ℕ) (seated : List SeatedState) (conn : Conn RefState) → length seated ≡ tables → AreIn shards_of shards seated → IsConnection conn → CanGoOn seated_meaning (map (λ (one : SeatedState). one) seated) conn → IsVisitor tables shards conn
-visitor tables shards seated conn count each living can = by seated count each (subst (λ ports. CanGoOn seated_meaning ports conn) (same_ports seated) can)
-  where
-    none_is_some : (n : ℕ) → 0 ≡ n → 1 ≤ n → ⊥
-    none_is_some n none some = omega (arith, none, some)
+visitor : (tables shards : ℕ) (seated : List SeatedState) (conn : Conn RefState) → length seated ≡ tables → AreIn shards_of shards seated → IsConnection conn → CanGoOn seated_meaning seated conn → IsVisitor tables shards conn
+visitor tables shards [] conn count each living can = record {
+  living = living;
+  count = sym count ∙ can.shared.count;
+  each = λ some. absurd (omega (arith, count, some));
+  held = subst (λ n. HoldsOf n (progress_of conn).held) count can.held;
+  given = can.given;
+}
+visitor tables shards (one ∷ more) conn count each living can = record {
+  living = living;
+  count = sym count ∙ can.shared.count;
+  each = λ some. sym (each 0 one refl) ∙ can.shared.shards 0 one refl;
+  held = subst (λ n. HoldsOf n (progress_of conn).held) count can.held;
+  given = can.given;
+}
 
-    by : (seated : List SeatedState) → length seated ≡ tables → AreIn shards_of shards seated → CanGoOn seated_meaning seated conn → IsVisitor tables shards conn
-    by [] count each can = record {
-      living = living;
-      count = sym count ∙ can.shared.count;
-      each = λ some. absurd (none_is_some tables count some);
-      held = subst (λ n. HoldsOf n (progress_of conn).held) count can.held;
-      given = can.given;
-    }
-    by (one ∷ more) count each can = record {
-      living = living;
-      count = sym count ∙ can.shared.count;
-      each = λ some. sym (each 0 one refl) ∙ can.shared.shards 0 one refl;
-      held = subst (λ n. HoldsOf n (progress_of conn).held) count can.held;
-      given = can.given;
-    }
+abbrev ports_of : List SeatedState → List SeatedState
+ports_of seated = map (λ (one : SeatedState). one) seated
+
+-- a worker's tables by their seats, lent as ports
+module _ (tables shards : ℕ) (seated : Vec SeatedState Global) (lent : List SeatedState) (value : lent ≡ seated.items) (len : length lent ≡ vec_len seated) (count : vec_len seated ≡ tables) (each : AreIn shards_of shards seated.items) where
+  -- a connection can go on by them
+  pub ready : (conn : Conn RefState) → IsVisitor tables shards conn → CanGoOn seated_meaning (ports_of lent) conn
+  ready conn is =
+      let can : CanGoOn seated_meaning seated.items conn = can_go_on tables shards seated.items conn (ap length (sym value) ∙ len ∙ count) each is in
+      subst (λ ports. CanGoOn seated_meaning ports conn) (sym (same_ports lent ∙ value)) can
+
+  -- and then they are as many, in as many shards
+  module _ (new : List SeatedState) (parts : parts_of seated_meaning.parts (ports_of new) ≡ parts_of seated_meaning.parts (ports_of lent)) where
+    same_parts : map shards_of new ≡ map shards_of seated.items
+    same_parts = ap (map shards_of) (sym (same_ports new)) ∙ parts ∙ ap (map shards_of) (same_ports lent ∙ value)
+
+    as_many : length new ≡ vec_len seated
+    as_many = sym (length-map new shards_of) ∙ ap length same_parts ∙ length-map seated.items shards_of ∙ ap length (sym value) ∙ len
+
+    pub each_still : AreIn shards_of shards (take (vec_len seated) (new ++ drop (length new) seated.items))
+    each_still = subst (AreIn shards_of shards) (sym (ap (λ n. take n (new ++ drop (length new) seated.items)) (sym as_many) ∙ take-append-le (length new) new (drop (length new) seated.items) (omega arith) ∙ take-length new)) (in_shards shards seated.items new same_parts each)
+
+    pub visitor_still : (conn : Conn RefState) → IsConnection conn → CanGoOn seated_meaning (ports_of new) conn → IsVisitor tables shards conn
+    visitor_still conn living can = visitor tables shards new conn (as_many ∙ count) (in_shards shards seated.items new same_parts each) living (subst (λ ports. CanGoOn seated_meaning ports conn) (same_ports new) can)
 
 -- ---- what it holds, and what becomes of it
 

@@ -36,9 +36,9 @@ pub(crate) fn seat_workers<'a, T: Table, R, W: Width>(
     requires free { length rooms.free.items ≡ length rooms.rows.items }
     requires all_buffers { length rooms.all_buffers.items ≡ length rooms.rows.items }
     requires workers { (vec_len workers.old ≡ 0) × (length rooms.rows.items ≤ vec_capacity workers.old) }
-    ensures workers { length workers.new.items ≡ length rooms.rows.items }
+    ensures workers { length workers.new.items ≡ length rooms.entry.rows.items }
     ensures tables { length seats.new.items ≡ W.tables }
-    ensures seats { HaveEach 0 (length rooms.rows.items) seats.new.items }
+    ensures seats { HaveEach 0 (length rooms.entry.rows.items) seats.new.items }
 {
     let Rooms {
         mut all_buffers,

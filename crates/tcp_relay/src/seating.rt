@@ -60,7 +60,7 @@ pub(crate) fn take_row<'a, T: Table, R>(
     ensures tables { length seats.new.items ≡ length seats.old.items }
     ensures fewer { (count places : ℕ) → HaveEach (count + 1) places seats.old.items → HaveEach count places seats.new.items }
 {
-    for place in 0..tables.len() {
+    for place in 0..seats.as_slice().len() {
         let list = &mut seats[place];
         let Some(seat) = list.pop() else {
             unreachable!();

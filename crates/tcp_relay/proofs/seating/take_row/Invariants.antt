@@ -6,7 +6,7 @@ use Rattle.tcp_relay.proofs.seating.take_row.Given as goal
 -- the first tables have one seat fewer, by which the row asks them
 abbrev pub invariant-loop-place : goal.invariant-loop-place
 invariant-loop-place g l = record {
-  row : map (λ one. one.table) l.row.items ≡ take l.place l.fn.tables.now;
+  row : map (λ one. one.table) l.row.items ≡ take l.place l.fn.tables;
   len : vec_len l.row ≡ l.place;
   room : length l.fn.seats.items ≤ vec_capacity l.row;
   tables : length l.seats.items ≡ length l.fn.seats.items;
