@@ -1,4 +1,4 @@
-//! A connection, from its first rule to its last reference; `admit_drive` and `admit_shared` ask it for wants, and tell it
+//! A connection, from its first rule to its last reference; `admit_port` asks it for wants, and tell it
 //! answers.
 ghost use Rattle.std.specs.Prelude.{◌≡◌, ◌≤◌, ◌+◌, Some, None, true, false, is_some, is_none, slice_get, IfOk, IsOk, OnErr};
 ghost use Rattle.std.specs.Option.{option_map};

@@ -1,7 +1,7 @@
 //! Connections: judged by rules, counted in tables, and gone with every reference given back; crates that lead connections drive
 //! `Conn`.
 //!
-//! These are `admit_drive`, `admit_shared`, `admit_world`, `stickd_script` and `tcp_relay`.
+//! These are `admit_port`, `admit_drive`, `admit_world`, `stickd_script` and `tcp_relay`.
 //!
 //! `specs/Connection.antt` says what a connection wants next, and what each answer, refusal and turn makes of it.
 #![tactic(auto)]

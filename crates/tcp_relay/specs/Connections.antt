@@ -1,21 +1,20 @@
 -- A connection that a worker holds.
-use Rattle.std.specs.Prelude.{◌≡◌, false, is_some, Option, Some, None, List, [], ◌∷◌, length}
+use Rattle.std.specs.Prelude.{◌≡◌, ◌≤◌, ℕ, false, is_some, Option, Some, None, List, [], ◌∷◌, length}
 use Rattle.shard_book.specs.SeatState.{RefState}
-use Rattle.shard_locks.specs.ShardsState.{ShardsState}
-use Rattle.admit_core.specs.Conn.{judged_by, progress_of, Stands}
+use Rattle.admit_core.specs.Conn.{judged_by, progress_of}
 use Rattle.admit_core.specs.Held.{held_at}
-use Rattle.admit_core.specs.Connection.{Connection}
 use Rattle.admit_core.specs.declared.conn.Conn.{Conn}
-use Rattle.admit_shared.specs.Tables.{HoldsOf}
+use Rattle.admit_port.specs.DriveCode.{IsConnection}
+use Rattle.admit_port.specs.Ports.{HoldsOf}
 use Rattle.tcp_relay.specs.Seating.{put_in_if}
-use Rattle.tcp_relay.specs.Serving.{AreTablesOf}
 use Rattle.rule_model.specs.declared.actions.Slot.TheVariants.{Sc0, Sc1, Sc2}
 
--- it is a connection, whatever came of it so far, over tables of its setup; each reference that it holds is of one of them, and none is handed out
-pub record IsConnection (tables : List ShardsState) (conn : Conn RefState) : Type 0 where
-  pub living : ∥ ((connection : Connection RefState) × Stands conn connection) ∥₁
-  pub shared : AreTablesOf (judged_by conn) tables
-  pub held : HoldsOf (length tables) (progress_of conn).held
+-- it is a connection, whatever came of it so far, and its setup has so many tables, each in so many shards; each reference that it holds is of one of them, and none is handed out
+pub record IsVisitor (tables shards : ℕ) (conn : Conn RefState) : Type 0 where
+  pub living : IsConnection conn
+  pub count : tables ≡ length (judged_by conn).tables
+  pub each : 1 ≤ tables → shards ≡ (judged_by conn).shards
+  pub held : HoldsOf tables (progress_of conn).held
   pub given : is_some (progress_of conn).given ≡ false
 
 -- the lists of tables, and behind them the references that it holds, of its slots in their order

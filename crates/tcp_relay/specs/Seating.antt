@@ -1,5 +1,5 @@
 -- Lists of seats and of references, one for each table.
-use Rattle.std.specs.Prelude.{◌≡◌, ℕ, zero, suc, ◌+◌, ◌≤◌, ◌++◌, ◌∷◌, [], List, Option, Some, None, All, map, vec_len, vec_capacity}
+use Rattle.std.specs.Prelude.{◌≡◌, ℕ, zero, suc, ◌+◌, ◌≤◌, ◌++◌, ◌∷◌, [], List, Option, Some, None, All, map, slice_get, vec_len, vec_capacity}
 use Rattle.std.specs.declared.vec.Vec.{Vec}
 
 -- a list has so many, and places for so many
@@ -17,6 +17,10 @@ HaveFew most places lists = All (λ list. (vec_len list ≤ most) × (places ≤
 -- each list has places for so many more
 abbrev pub HaveRoom : {X Z : Type 0} → ℕ → List (Vec X Z) → Type 0
 HaveRoom more lists = All (λ list. vec_len list + more ≤ vec_capacity list) lists
+
+-- each of these is in so many shards
+abbrev pub AreIn : {X : Type 0} → (X → ℕ) → ℕ → List X → Type 0
+AreIn {X = X} parts shards tables = (i : ℕ) (table : X) → slice_get tables i ≡ Some table → parts table ≡ shards
 
 -- what each list holds
 abbrev pub held_in : {X Z : Type 0} → List (Vec X Z) → List (List X)

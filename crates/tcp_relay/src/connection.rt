@@ -3,7 +3,7 @@
 ghost use Rattle.std.specs.Prelude.{◌≡◌, true, is_some, IfOk};
 ghost use Rattle.admit_core.specs.Conn.{needed};
 ghost use Rattle.admit_core.specs.declared.need.Need.TheVariants.{Rest};
-ghost use Rattle.tcp_relay.specs.Connections.{IsConnection};
+ghost use Rattle.tcp_relay.specs.Connections.{IsVisitor};
 
 use crate::width::Width;
 use admit_core::Conn;
@@ -18,14 +18,14 @@ pub(crate) struct Connection<'a, W: Width> {
     pub(crate) conn: Conn<'a, TrackRef>,
     pub(crate) link: Option<Link>,
     pub(crate) of: PhantomData<W>,
-    ghost is: { IsConnection W.tables conn },
+    ghost is: { IsVisitor W.tables W.shards conn },
     ghost rests: { is_some link ≡ true → needed conn ≡ Rest },
 }
 
 impl<'a, W: Width> Connection<'a, W> {
     /// A connection that is open.
     pub(crate) fn open(conn: Conn<'a, TrackRef>, link: Link) -> Connection<'a, W>
-        requires connection { IsConnection W.tables conn }
+        requires connection { IsVisitor W.tables W.shards conn }
         requires rests { needed conn ≡ Rest }
     {
         Connection {
@@ -37,7 +37,7 @@ impl<'a, W: Width> Connection<'a, W> {
 
     /// A connection that still holds references once it is closed.
     pub(crate) fn kept(conn: Conn<'a, TrackRef>) -> Connection<'a, W>
-        requires connection { IsConnection W.tables conn }
+        requires connection { IsVisitor W.tables W.shards conn }
     {
         Connection {
             conn,
@@ -48,7 +48,7 @@ impl<'a, W: Width> Connection<'a, W> {
 
     /// The connection and its sockets, where it is open; else itself.
     pub(crate) fn parts(self) -> Result<(Conn<'a, TrackRef>, Link), Connection<'a, W>>
-        ensures connection { IfOk result (λ parts. IsConnection W.tables parts.0) }
+        ensures connection { IfOk result (λ parts. IsVisitor W.tables W.shards parts.0) }
         ensures rests { IfOk result (λ parts. needed parts.0 ≡ Rest) }
     {
         let Connection { conn, link, of: _ } = self;

@@ -64,7 +64,7 @@ fn put_held(refs: &mut Vec<Vec<TrackRef>>, held: Option<Entry>)
 
 /// Puts the references that a connection still holds to the others of their tables, and closes its sockets.
 fn put_connection<W: Width>(refs: &mut Vec<Vec<TrackRef>>, connection: Connection<'_, W>)
-    requires tables { length refs.old.items ≡ length W.tables }
+    requires tables { length refs.old.items ≡ W.tables }
     requires room { HaveRoom 3 refs.old.items }
     ensures kept { held_in refs.new.items ≡ left_by connection.entry.conn (held_in refs.old.items) }
     ensures tables { length refs.new.items ≡ length refs.old.items }
@@ -84,7 +84,7 @@ fn put_connection<W: Width>(refs: &mut Vec<Vec<TrackRef>>, connection: Connectio
 
 /// The same of a place, in which there may be none.
 fn put_place<W: Width>(refs: &mut Vec<Vec<TrackRef>>, place: Option<Connection<'_, W>>)
-    requires tables { length refs.old.items ≡ length W.tables }
+    requires tables { length refs.old.items ≡ W.tables }
     requires room { HaveRoom 3 refs.old.items }
     ensures kept { held_in refs.new.items ≡ left_if (option_map (λ connection. connection.conn) place.entry) (held_in refs.old.items) }
     ensures tables { length refs.new.items ≡ length refs.old.items }
@@ -103,7 +103,7 @@ pub(crate) fn put_connections<W: Width>(
     mut held: Vec<Option<Connection<'_, W>>>,
 )
     requires few { vec_len held ≤ W.most }
-    requires tables { length refs.old.items ≡ length W.tables }
+    requires tables { length refs.old.items ≡ W.tables }
     requires room { HaveRoom (W.most * 3) refs.old.items }
     ensures kept { held_in refs.new.items ≡ left_by_all (map (option_map (λ connection. connection.conn)) held.entry.items) (held_in refs.old.items) }
     ensures tables { length refs.new.items ≡ length refs.old.items }

@@ -3,7 +3,7 @@
 ghost use Rattle.std.specs.Prelude.{◌≡◌, ◌≤◌, ◌==◌, ◌||◌, not, nat_lt, length, IfSome, None, Some, slice_get, vec_capacity, vec_len};
 ghost use Rattle.admit_core.specs.Conn.{needed};
 ghost use Rattle.admit_core.specs.declared.need.Need.TheVariants.{Rest};
-ghost use Rattle.tcp_relay.specs.Connections.{IsConnection};
+ghost use Rattle.tcp_relay.specs.Connections.{IsVisitor};
 
 use crate::connection::Connection;
 use crate::width::Width;
@@ -122,7 +122,7 @@ impl<'a, W: Width> Places<'a, W> {
     /// Puts a connection that is open in its place.
     pub(crate) fn put_open(&mut self, place: usize, conn: Conn<'a, TrackRef>, link: Link)
         requires free { slice_get self.old.held.items place ≡ Some None }
-        requires connection { IsConnection W.tables conn }
+        requires connection { IsVisitor W.tables W.shards conn }
         requires rests { needed conn ≡ Rest }
     {
         self.open = self.open.saturating_add(1);
@@ -132,7 +132,7 @@ impl<'a, W: Width> Places<'a, W> {
     /// Puts a connection that still holds references in its place.
     pub(crate) fn put_kept(&mut self, place: usize, conn: Conn<'a, TrackRef>)
         requires free { slice_get self.old.held.items place ≡ Some None }
-        requires connection { IsConnection W.tables conn }
+        requires connection { IsVisitor W.tables W.shards conn }
     {
         self.put(place, Connection::kept(conn));
     }
@@ -190,7 +190,7 @@ impl<'a, W: Width> Places<'a, W> {
     /// Takes the connection in a place, if it is open. The place stays claimed.
     pub(crate) fn take(&mut self, place: usize) -> Option<(Conn<'a, TrackRef>, Link)>
         ensures free { IfSome result (λ _. slice_get self.new.held.items place ≡ Some None) }
-        ensures connection { IfSome result (λ taken. IsConnection W.tables taken.0) }
+        ensures connection { IfSome result (λ taken. IsVisitor W.tables W.shards taken.0) }
         ensures rests { IfSome result (λ taken. needed taken.0 ≡ Rest) }
     {
         let slot = self.held.get_mut(place)?;

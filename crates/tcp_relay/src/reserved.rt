@@ -11,21 +11,28 @@ use crate::seating::{discard_lists, reserve_lists};
 use crate::width::Width;
 use crate::worker::Worker;
 use base_sequence::NoMemory;
-use shard_book::{Seat, TrackRef};
+use shard_book::TrackRef;
+use shard_locks::Seated;
 use std::alloc::Global;
+use stick_table::Table;
+
+/// For each worker, empty lists with places for what it keeps. It can't be dropped, as connections can't.
+pub(crate) struct Rooms<'a, T: Table, R, W: Width> {
+    pub(crate) all_buffers: Vec<Buffers>,
+    /// Places for each table with a seat.
+    pub(crate) rows: Vec<Vec<Seated<'a, T, R>>>,
+    /// Places for its connections.
+    pub(crate) held: Vec<Vec<Option<Connection<'a, W>>>>,
+    /// Places for the numbers of places that are free again.
+    pub(crate) free: Vec<Vec<usize>>,
+}
 
 /// Empty lists with places for all that serving keeps. It can't be dropped, as references can't.
-pub(crate) struct Reserved<'a, W: Width> {
-    pub(crate) workers: Vec<Worker<'a, W>>,
-    pub(crate) all_buffers: Vec<Buffers>,
+pub(crate) struct Reserved<'a, T: Table, R, W: Width> {
+    pub(crate) workers: Vec<Worker<'a, T, R, W>>,
     /// Room for what the workers share to be told of connections.
     pub(crate) parts: TurnParts,
-    /// For each worker, places for a seat of each table.
-    pub(crate) rows: Vec<Vec<Seat>>,
-    /// For each worker, places for its connections.
-    pub(crate) held: Vec<Vec<Option<Connection<'a, W>>>>,
-    /// For each worker, places for the numbers of places that are free again.
-    pub(crate) free: Vec<Vec<usize>>,
+    pub(crate) rooms: Rooms<'a, T, R, W>,
     /// For each table, places for all references that connections can hold.
     pub(crate) refs: Vec<Vec<TrackRef>>,
 }
@@ -46,19 +53,19 @@ fn reserve_plain(
 }
 
 /// Room for so many workers and tables, and so many connections of each worker.
-pub(crate) fn reserve<'a, W: Width>(
+pub(crate) fn reserve<'a, T: Table, R, W: Width>(
     alloc: Global,
     workers: usize,
     tables: usize,
     connections: usize,
-) -> Result<Reserved<'a, W>, NoMemory>
+) -> Result<Reserved<'a, T, R, W>, NoMemory>
     requires workers { workers ≤ 64 }
     requires connections { connections ≤ 2 ^ 32 }
     ensures workers { IfOk result (λ room. (vec_len room.workers ≡ 0) × (workers ≤ vec_capacity room.workers)) }
-    ensures rows { IfOk result (λ room. (length room.rows.items ≡ workers) × HaveEach 0 tables room.rows.items) }
-    ensures held { IfOk result (λ room. (length room.held.items ≡ workers) × HaveEach 0 connections room.held.items) }
-    ensures all_buffers { IfOk result (λ room. length room.all_buffers.items ≡ workers) }
-    ensures free { IfOk result (λ room. length room.free.items ≡ workers) }
+    ensures rows { IfOk result (λ room. (length room.rooms.rows.items ≡ workers) × HaveEach 0 tables room.rooms.rows.items) }
+    ensures held { IfOk result (λ room. (length room.rooms.held.items ≡ workers) × HaveEach 0 connections room.rooms.held.items) }
+    ensures all_buffers { IfOk result (λ room. length room.rooms.all_buffers.items ≡ workers) }
+    ensures free { IfOk result (λ room. length room.rooms.free.items ≡ workers) }
     ensures refs { IfOk result (λ room. (length room.refs.items ≡ tables) × HaveEach 0 (workers * (connections * 3)) room.refs.items) }
 {
     let (all_buffers, parts, free) = reserve_plain(alloc, workers, connections)?;
@@ -71,11 +78,13 @@ pub(crate) fn reserve<'a, W: Width>(
     match Vec::with_capacity(alloc, workers) {
         Ok(workers) => Ok(Reserved {
             workers,
-            all_buffers,
             parts,
-            rows,
-            held,
-            free,
+            rooms: Rooms {
+                all_buffers,
+                rows,
+                held,
+                free,
+            },
             refs,
         }),
         Err(_) => {

@@ -1,14 +1,16 @@
 //! Lists of each table's seats, and of the references that come back; `reserved` makes them, and `gathering` and `worker` move
 //! seats.
 //!
-//! Each worker takes one seat of each table.
+//! Each worker takes one seat of each table, and asks the table by it.
 
-ghost use Rattle.std.specs.Prelude.{◌≡◌, ◌+◌, ◌≤◌, ◌<◌, ℕ, All, IfOk, length, slice_index, vec_capacity, vec_len};
+ghost use Rattle.std.specs.Prelude.{◌≡◌, ◌+◌, ◌≤◌, ◌<◌, ℕ, All, IfOk, length, map, slice_index, vec_capacity, vec_len};
 ghost use Rattle.tcp_relay.specs.Seating.{HaveEach, HaveFew, HaveRoom, held_in, put_in};
 
 use base_sequence::NoMemory;
 use shard_book::{Seat, TrackRef};
+use shard_locks::{Seated, Shards};
 use std::alloc::Global;
+use stick_table::Table;
 
 /// So many empty lists, each with so many places.
 pub(crate) fn reserve_lists<T>(
@@ -42,12 +44,19 @@ pub(crate) fn discard_lists<T>(mut lists: Vec<Vec<T>>)
     lists.destroy_empty();
 }
 
-/// One seat of each table, in a row of their own.
-pub(crate) fn take_row(seats: &mut Vec<Vec<Seat>>, mut row: Vec<Seat>) -> Vec<Seat>
+/// Each table, asked by a seat of its own, in a row.
+pub(crate) fn take_row<'a, T: Table, R>(
+    rt: &'a R,
+    tables: &'a [Shards<T>],
+    seats: &mut Vec<Vec<Seat>>,
+    mut row: Vec<Seated<'a, T, R>>,
+) -> Vec<Seated<'a, T, R>>
     requires some { All (λ list. 1 ≤ vec_len list) seats.old.items }
+    requires tables { length tables.now ≡ length seats.old.items }
     requires empty { vec_len row ≡ 0 }
     requires room { length seats.old.items ≤ vec_capacity row }
-    ensures row { vec_len result ≡ length seats.old.items }
+    ensures row { map (λ one. one.table) result.items ≡ tables.now }
+    ensures len { vec_len result ≡ length seats.old.items }
     ensures tables { length seats.new.items ≡ length seats.old.items }
     ensures fewer { (count places : ℕ) → HaveEach (count + 1) places seats.old.items → HaveEach count places seats.new.items }
 {
@@ -56,21 +65,21 @@ pub(crate) fn take_row(seats: &mut Vec<Vec<Seat>>, mut row: Vec<Seat>) -> Vec<Se
         let Some(seat) = list.pop() else {
             unreachable!();
         };
-        row.push_reserved(seat);
+        row.push_reserved(Seated::new(&tables[place], rt, seat));
     }
     row
 }
 
 /// Puts the seats of a row back, each to its table.
-pub(crate) fn put_row(seats: &mut Vec<Vec<Seat>>, mut row: Vec<Seat>)
+pub(crate) fn put_row<T: Table, R>(seats: &mut Vec<Vec<Seat>>, mut row: Vec<Seated<'_, T, R>>)
     requires room { HaveRoom 1 seats.old.items }
     requires row { vec_len row ≡ length seats.old.items }
     ensures tables { length seats.new.items ≡ length seats.old.items }
     ensures more { (count places : ℕ) → HaveEach count places seats.old.items → HaveEach (count + 1) places seats.new.items }
 {
-    while let Some(seat) = row.pop() {
+    while let Some(seated) = row.pop() {
         let list = &mut seats[row.as_slice().len()];
-        list.push_reserved(seat);
+        list.push_reserved(seated.into_seat());
     }
 }
 

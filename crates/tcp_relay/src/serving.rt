@@ -34,8 +34,8 @@ use stick_table::Table;
 /// One worker's connections: until the last number is drawn and all its connections have ended, or it can't wait for
 /// them.
 fn serve_each<'a, T: Table, R: ServeRuntime, G: Gate, W: Width>(
-    shared: &Shared<'a, T, R, G, W>,
-    worker: &mut Worker<'a, W>,
+    shared: &Shared<'a, R, G, W>,
+    worker: &mut Worker<'a, T, R, W>,
 ) {
     let (Some(mut buffers), Some(watch)) = (worker.buffers.take(), worker.watch.take()) else {
         worker.tally.has_failed = true;
@@ -83,10 +83,10 @@ fn watch_one(
 
 /// Has each worker watch the listeners, before the connections of one take the descriptors that another needs for that. One that
 /// can't has failed.
-fn watch_each<W: Width>(
+fn watch_each<T: Table, R, W: Width>(
     rt: &impl Net,
     listeners: &Listeners<'_>,
-    workers: &mut [Worker<'_, W>],
+    workers: &mut [Worker<'_, T, R, W>],
     parts: &mut TurnParts,
 ) {
     let mut number = 0u32;
@@ -100,10 +100,10 @@ fn watch_each<W: Width>(
 }
 
 /// The same. There are as many workers afterwards.
-fn watch_all<W: Width>(
+fn watch_all<T: Table, R, W: Width>(
     rt: &impl Net,
     listeners: &Listeners<'_>,
-    workers: &mut Vec<Worker<'_, W>>,
+    workers: &mut Vec<Worker<'_, T, R, W>>,
     parts: &mut TurnParts,
 )
     ensures workers { vec_len workers.new ≡ vec_len workers.old }
@@ -112,7 +112,7 @@ fn watch_all<W: Width>(
 }
 
 /// Whether a worker has failed.
-fn has_failed<W: Width>(workers: &[Worker<'_, W>]) -> bool {
+fn has_failed<T: Table, R, W: Width>(workers: &[Worker<'_, T, R, W>]) -> bool {
     for worker in workers {
         if worker.tally.has_failed {
             return true;
@@ -124,8 +124,8 @@ fn has_failed<W: Width>(workers: &[Worker<'_, W>]) -> bool {
 /// Starts a thread for each worker, and waits until all have ended. Answers whether all could be started; behind the first
 /// that can't, none is started. Nor is any where one can't watch the listeners, which has failed then.
 fn run_each<'a, T: Table + Send, R: ServeRuntime, G: Gate + Sync, W: Width + Send + Sync>(
-    shared: &Shared<'a, T, R, G, W>,
-    workers: &mut [Worker<'a, W>],
+    shared: &Shared<'a, R, G, W>,
+    workers: &mut [Worker<'a, T, R, W>],
 ) -> bool {
     if has_failed(workers) {
         return true;
@@ -146,8 +146,8 @@ fn run_each<'a, T: Table + Send, R: ServeRuntime, G: Gate + Sync, W: Width + Sen
 
 /// The same. There are as many workers afterwards.
 fn run_all<'a, T: Table + Send, R: ServeRuntime, G: Gate + Sync, W: Width + Send + Sync>(
-    shared: &Shared<'a, T, R, G, W>,
-    workers: &mut Vec<Worker<'a, W>>,
+    shared: &Shared<'a, R, G, W>,
+    workers: &mut Vec<Worker<'a, T, R, W>>,
 ) -> bool
     ensures workers { vec_len workers.new ≡ vec_len workers.old }
 {
@@ -175,7 +175,7 @@ fn told(served: Served, all_started: bool, has_failed: bool) -> Result<Served, S
     Ok(served)
 }
 
-/// Serves by workers that are known to be of as many tables as there are.
+/// Serves by workers that are known to be of as many tables as there are, in as many shards each as they are.
 fn serve_wide<W: Width + Send + Sync, T: Table + Send, R: ServeRuntime, G: Gate + Sync>(
     alloc: Global,
     rt: &R,
@@ -189,7 +189,8 @@ fn serve_wide<W: Width + Send + Sync, T: Table + Send, R: ServeRuntime, G: Gate 
     stop_after: Option<u64>,
     start: Instant,
 ) -> Result<Served, ServeFault>
-    requires width { W.tables ≡ tables.now }
+    requires width { W.tables ≡ length tables.now }
+    requires shards { W.shards ≡ setup.now.shards }
     requires most { W.most ≡ most_of limits.connections threads }
     requires server { is_some setup.now.server ≡ true }
     requires tables { AreTablesOf setup.now tables.now }
@@ -203,27 +204,16 @@ fn serve_wide<W: Width + Send + Sync, T: Table + Send, R: ServeRuntime, G: Gate 
     };
     let connections = limits.connections as usize;
     let most = share_of(connections, threads as usize, 0);
-    let Ok(room) = reserve::<W>(alloc, threads as usize, tables.len(), most) else {
+    let Ok(room) = reserve::<T, R, W>(alloc, threads as usize, tables.len(), most) else {
         return Err(without_memory(alloc, seats));
     };
     let Reserved {
         workers: mut seated,
-        all_buffers,
         mut parts,
-        rows,
-        held,
-        free,
+        rooms,
         refs,
     } = room;
-    seat_workers(
-        &mut seats,
-        &mut seated,
-        rows,
-        held,
-        free,
-        all_buffers,
-        connections,
-    );
+    seat_workers(rt, tables, &mut seats, &mut seated, rooms, connections);
     let listeners = Listeners::new(rt, listeners);
     watch_all(rt, &listeners, &mut seated, &mut parts);
     let listener_turn = ListenerTurn::new(listeners.watched(), parts);
@@ -235,7 +225,6 @@ fn serve_wide<W: Width + Send + Sync, T: Table + Send, R: ServeRuntime, G: Gate 
         listeners: &listeners,
         counter: &counter,
         setup,
-        tables,
         server: socket_address(server),
         timeouts: limits.timeouts,
         retries: limits.retries,

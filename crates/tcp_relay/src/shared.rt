@@ -1,29 +1,25 @@
 //! What all workers share by reference; `serving` makes it, and `turning` and `visiting` read it.
 
-ghost use Rattle.std.specs.Prelude.{◌≡◌};
-ghost use Rattle.tcp_relay.specs.Serving.{AreTablesOf};
+ghost use Rattle.std.specs.Prelude.{◌≡◌, length};
 
 use crate::connection_counter::ConnectionCounter;
 use crate::listeners::Listeners;
 use crate::width::Width;
 use rule_model::Setup;
-use shard_locks::Shards;
 use std::alloc::Global;
 use std::marker::PhantomData;
 use std::net::SocketAddr;
 use std::time::Instant;
-use stick_table::Table;
 use tcp_link::{Keepalive, Timeouts};
 
 /// What all workers share, each by reference.
 #[derive(Drop)]
-pub(crate) struct Shared<'a, T: Table, R, G, W: Width> {
+pub(crate) struct Shared<'a, R, G, W: Width> {
     pub(crate) alloc: Global,
     pub(crate) rt: &'a R,
     pub(crate) listeners: &'a Listeners<'a>,
     pub(crate) counter: &'a ConnectionCounter,
     pub(crate) setup: &'a Setup,
-    pub(crate) tables: &'a [Shards<T>],
     /// Where the server is.
     pub(crate) server: SocketAddr,
     pub(crate) timeouts: Timeouts,
@@ -34,6 +30,6 @@ pub(crate) struct Shared<'a, T: Table, R, G, W: Width> {
     /// The moment 0.
     pub(crate) start: Instant,
     pub(crate) of: PhantomData<W>,
-    ghost are_tables: { AreTablesOf setup.now tables.now },
-    ghost width: { W.tables ≡ tables.now },
+    ghost tables: { length setup.now.tables ≡ W.tables },
+    ghost shards: { setup.now.shards ≡ W.shards },
 }

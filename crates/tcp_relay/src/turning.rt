@@ -44,8 +44,8 @@ pub(crate) struct EventLoop<'r, R> {
 
 /// Takes a client in: it is judged, and carried to the server if it is admitted.
 fn take_in<'a, T: Table, R: ServeRuntime, G: Gate, W: Width>(
-    shared: &Shared<'a, T, R, G, W>,
-    worker: &mut Worker<'a, W>,
+    shared: &Shared<'a, R, G, W>,
+    worker: &mut Worker<'a, T, R, W>,
     event_loop: &mut EventLoop<'_, R>,
     buffer: &mut Buffer,
     number: u64,
@@ -60,9 +60,9 @@ fn take_in<'a, T: Table, R: ServeRuntime, G: Gate, W: Width>(
         port,
         ..
     } = accepted;
-    let seats = worker.seats.as_mut_slice();
+    let seated = &mut worker.seated;
     let samples = samples(peer, port);
-    let (conn, is_admitted) = judge_one(shared, seats, &mut event_loop.clock, number, samples);
+    let (conn, is_admitted) = judge_one(shared, seated, &mut event_loop.clock, number, samples);
     if !is_admitted {
         // First its references: a client that hears of the reset may come again at once.
         end_at(shared, worker, &mut event_loop.clock, place, conn, false);
@@ -81,8 +81,8 @@ fn take_in<'a, T: Table, R: ServeRuntime, G: Gate, W: Width>(
 
 /// Connects an admitted client to its server, and moves what is there already. Where that is over at once, how many
 /// bytes came in and went out.
-fn begin<T: Table, R: ServeRuntime, G, W: Width>(
-    shared: &Shared<'_, T, R, G, W>,
+fn begin<R: ServeRuntime, G, W: Width>(
+    shared: &Shared<'_, R, G, W>,
     event_loop: &mut EventLoop<'_, R>,
     buffer: &mut Buffer,
     place: usize,
@@ -117,8 +117,8 @@ fn begin<T: Table, R: ServeRuntime, G, W: Width>(
 
 /// Ends the connection in a place, if it is open there.
 fn close<'a, T: Table, R: ServeRuntime, G, W: Width>(
-    shared: &Shared<'a, T, R, G, W>,
-    worker: &mut Worker<'a, W>,
+    shared: &Shared<'a, R, G, W>,
+    worker: &mut Worker<'a, T, R, W>,
     clock: &mut RunningClock<'_, R>,
     place: usize,
 ) {
@@ -133,7 +133,11 @@ fn close<'a, T: Table, R: ServeRuntime, G, W: Width>(
 }
 
 /// What becomes of a client that couldn't be accepted.
-fn note_fault<W: Width>(worker: &mut Worker<'_, W>, acceptor: &mut Acceptor, fault: AcceptFault) {
+fn note_fault<T: Table, R, W: Width>(
+    worker: &mut Worker<'_, T, R, W>,
+    acceptor: &mut Acceptor,
+    fault: AcceptFault,
+) {
     acceptor.hear_of_fault(fault);
     match fault {
         AcceptFault::NoneWaits | AcceptFault::Gone => {}
@@ -144,8 +148,8 @@ fn note_fault<W: Width>(worker: &mut Worker<'_, W>, acceptor: &mut Acceptor, fau
 
 /// Accepts a client, if there is one, for the number that is drawn and a place that is free.
 fn accept_one<'a, T: Table, R: ServeRuntime, G: Gate, W: Width>(
-    shared: &Shared<'a, T, R, G, W>,
-    worker: &mut Worker<'a, W>,
+    shared: &Shared<'a, R, G, W>,
+    worker: &mut Worker<'a, T, R, W>,
     event_loop: &mut EventLoop<'_, R>,
     buffer: &mut Buffer,
     number: u64,
@@ -171,8 +175,8 @@ fn accept_one<'a, T: Table, R: ServeRuntime, G: Gate, W: Width>(
 
 /// Tries to accept a client. First a socket for its server is had: one that is accepted can be carried.
 fn try_to_accept<'a, T: Table, R: ServeRuntime, G: Gate, W: Width>(
-    shared: &Shared<'a, T, R, G, W>,
-    worker: &mut Worker<'a, W>,
+    shared: &Shared<'a, R, G, W>,
+    worker: &mut Worker<'a, T, R, W>,
     event_loop: &mut EventLoop<'_, R>,
     buffer: &mut Buffer,
     number: u64,
@@ -193,8 +197,8 @@ fn try_to_accept<'a, T: Table, R: ServeRuntime, G: Gate, W: Width>(
 
 /// Accepts the clients that wait, as far as this worker can. Whether none waits now.
 fn accept_some<'a, T: Table, R: ServeRuntime, G: Gate, W: Width>(
-    shared: &Shared<'a, T, R, G, W>,
-    worker: &mut Worker<'a, W>,
+    shared: &Shared<'a, R, G, W>,
+    worker: &mut Worker<'a, T, R, W>,
     event_loop: &mut EventLoop<'_, R>,
     buffer: &mut Buffer,
 ) -> bool {
@@ -215,8 +219,8 @@ fn accept_some<'a, T: Table, R: ServeRuntime, G: Gate, W: Width>(
 
 /// Gives a connection its turn, of which a socket is ready.
 fn turn<'a, T: Table, R: ServeRuntime, G, W: Width>(
-    shared: &Shared<'a, T, R, G, W>,
-    worker: &mut Worker<'a, W>,
+    shared: &Shared<'a, R, G, W>,
+    worker: &mut Worker<'a, T, R, W>,
     event_loop: &mut EventLoop<'_, R>,
     buffer: &mut Buffer,
     ready: Ready,
@@ -233,8 +237,8 @@ fn turn<'a, T: Table, R: ServeRuntime, G, W: Width>(
 /// Closes the connections of which a peer had been silent for too long at a moment in ms. What the system was short of is tried
 /// again too.
 fn close_silent<'a, T: Table, R: ServeRuntime, G, W: Width>(
-    shared: &Shared<'a, T, R, G, W>,
-    worker: &mut Worker<'a, W>,
+    shared: &Shared<'a, R, G, W>,
+    worker: &mut Worker<'a, T, R, W>,
     event_loop: &mut EventLoop<'_, R>,
     as_of: u64,
 ) {
@@ -249,8 +253,8 @@ fn close_silent<'a, T: Table, R: ServeRuntime, G, W: Width>(
 
 /// Tries the servers again that refused a connection a second ago. A connection for which the system has no socket waits on.
 fn retry_due<'a, T: Table, R: ServeRuntime, G, W: Width>(
-    shared: &Shared<'a, T, R, G, W>,
-    worker: &mut Worker<'a, W>,
+    shared: &Shared<'a, R, G, W>,
+    worker: &mut Worker<'a, T, R, W>,
     event_loop: &mut EventLoop<'_, R>,
     buffer: &mut Buffer,
 ) {
@@ -264,8 +268,8 @@ fn retry_due<'a, T: Table, R: ServeRuntime, G, W: Width>(
 
 /// Tries the server of the connection in a place again.
 fn retry<'a, T: Table, R: ServeRuntime, G, W: Width>(
-    shared: &Shared<'a, T, R, G, W>,
-    worker: &mut Worker<'a, W>,
+    shared: &Shared<'a, R, G, W>,
+    worker: &mut Worker<'a, T, R, W>,
     event_loop: &mut EventLoop<'_, R>,
     buffer: &mut Buffer,
     place: usize,
@@ -303,8 +307,8 @@ fn tells_of_connections(events: &Events) -> bool {
 
 /// Gives each that is ready its turn, the listener first. Whether that was the listener alone, where no client waits now.
 fn turn_each<'a, T: Table, R: ServeRuntime, G: Gate, W: Width>(
-    shared: &Shared<'a, T, R, G, W>,
-    worker: &mut Worker<'a, W>,
+    shared: &Shared<'a, R, G, W>,
+    worker: &mut Worker<'a, T, R, W>,
     event_loop: &mut EventLoop<'_, R>,
     events: &Events,
     buffer: &mut Buffer,
@@ -327,8 +331,8 @@ fn turn_each<'a, T: Table, R: ServeRuntime, G: Gate, W: Width>(
 
 /// Waits until something is ready, for no longer than it may. False where that failed.
 fn wait<'a, T: Table, R: ServeRuntime, G: Gate, W: Width>(
-    shared: &Shared<'a, T, R, G, W>,
-    worker: &Worker<'a, W>,
+    shared: &Shared<'a, R, G, W>,
+    worker: &Worker<'a, T, R, W>,
     event_loop: &mut EventLoop<'_, R>,
     events: &mut Events,
 ) -> bool {
@@ -347,11 +351,12 @@ fn wait<'a, T: Table, R: ServeRuntime, G: Gate, W: Width>(
     is_well
 }
 
-/// Waits until something is ready, and gives each its turn; then silent peers are looked for, and refused connections tried again, where that is due. Where each client
-/// that came was rejected, and that was all, it rests a moment before the next. False where waiting failed.
+/// Waits until something is ready, and gives each its turn. Then, where that is due, silent peers are looked for, and servers
+/// that refused are tried again. Where each client that came was rejected, and that was all, it rests a moment before the next.
+/// False where waiting failed.
 pub(crate) fn turn_all<'a, T: Table, R: ServeRuntime, G: Gate, W: Width>(
-    shared: &Shared<'a, T, R, G, W>,
-    worker: &mut Worker<'a, W>,
+    shared: &Shared<'a, R, G, W>,
+    worker: &mut Worker<'a, T, R, W>,
     event_loop: &mut EventLoop<'_, R>,
     buffers: &mut Buffers,
 ) -> bool {

@@ -1,20 +1,23 @@
 //! What is known of all workers, as the trait `Width`; the types of workers, connections and lists are made by it.
 
-ghost use Rattle.std.specs.Prelude.{ℕ, List, []};
-ghost use Rattle.shard_locks.specs.ShardsState.{ShardsState};
+ghost use Rattle.std.specs.Prelude.{ℕ};
 
 use std::marker::Brand;
 
-/// Which tables there are, and how many connections a worker holds at most. A type names them, so that they are known also of
-/// what comes back from a thread.
+/// How many tables there are, in how many shards each is, and how many connections a worker holds at most. A type names them, so
+/// that they are known also of what comes back from a thread.
 pub trait Width {
-    ghost tables: { List ShardsState };
+    ghost tables: { ℕ };
+
+    ghost shards: { ℕ };
 
     ghost most: { ℕ };
 }
 
 impl Width for Brand {
-    ghost tables = { [] };
+    ghost tables = { 0 };
+
+    ghost shards = { 0 };
 
     ghost most = { 0 };
 }

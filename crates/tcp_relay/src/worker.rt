@@ -2,7 +2,7 @@
 
 ghost use Rattle.std.specs.Prelude.{◌≡◌, ◌+◌, ◌*◌, ◌==◌, ◌&&◌, ◌||◌, ℕ, not, if◌then◌else◌, length, map, option_map, vec_capacity, vec_len};
 ghost use Rattle.tcp_relay.specs.Counts.{more, sum};
-ghost use Rattle.tcp_relay.specs.Seating.{HaveEach, HaveFew, HaveRoom, held_in};
+ghost use Rattle.tcp_relay.specs.Seating.{AreIn, HaveEach, HaveFew, HaveRoom, held_in};
 ghost use Rattle.tcp_relay.specs.Connections.{left_by_all};
 
 use crate::buffers::Buffers;
@@ -12,7 +12,9 @@ use crate::seating::put_row;
 use crate::watch::Watch;
 use crate::width::Width;
 use shard_book::{Seat, TrackRef};
+use shard_locks::Seated;
 use std::marker::PhantomData;
+use stick_table::Table;
 
 /// What a worker has counted, each up to 2^64 - 1, and whether it couldn't wait for connections.
 #[derive(Clone, Copy, Drop)]
@@ -81,32 +83,38 @@ impl Tally {
     }
 }
 
-/// A worker: its seat of each table, what it has counted, and the connections that it holds. It is lent to a thread, and shows
-/// afterwards what that has done.
-pub(crate) struct Worker<'a, W: Width> {
+/// A worker: the tables, each asked by its seat, what it has counted, and the connections that it holds. It is lent to a thread,
+/// and shows afterwards what that has done.
+pub(crate) struct Worker<'a, T: Table, R, W: Width> {
     pub(crate) tally: Tally,
     /// Whether the references of a connection couldn't be given back.
     pub(crate) keeps: bool,
-    /// Its seat of each table.
-    pub(crate) seats: Vec<Seat>,
+    /// Each table, asked by its seat.
+    pub(crate) seated: Vec<Seated<'a, T, R>>,
     pub(crate) places: Places<'a, W>,
     /// What its thread waits and carries by, until that takes it.
     pub(crate) buffers: Option<Buffers>,
     /// What its thread waits for, from when it watches until that takes it.
     pub(crate) watch: Option<Watch>,
     of: PhantomData<W>,
-    ghost seated: { vec_len seats ≡ length W.tables },
+    ghost count: { vec_len seated ≡ W.tables },
+    ghost shards: { AreIn (λ one. one.table.shards) W.shards seated.items },
 }
 
-impl<'a, W: Width> Worker<'a, W> {
-    /// A worker that has done nothing, with a seat of each table and places for its connections.
-    pub(crate) fn new(seats: Vec<Seat>, places: Places<'a, W>, buffers: Buffers) -> Worker<'a, W>
-        requires seats { vec_len seats ≡ length W.tables }
+impl<'a, T: Table, R, W: Width> Worker<'a, T, R, W> {
+    /// A worker that has done nothing, with each table by its seat and places for its connections.
+    pub(crate) fn new(
+        seated: Vec<Seated<'a, T, R>>,
+        places: Places<'a, W>,
+        buffers: Buffers,
+    ) -> Worker<'a, T, R, W>
+        requires count { vec_len seated ≡ W.tables }
+        requires shards { AreIn (λ one. one.table.shards) W.shards seated.items }
     {
         Worker {
             tally: Tally::new(),
             keeps: false,
-            seats,
+            seated,
             places,
             buffers: Some(buffers),
             watch: None,
@@ -117,25 +125,25 @@ impl<'a, W: Width> Worker<'a, W> {
     /// Ends it: its seats go back to their tables, and the references that its connections still hold to those of their
     /// tables.
     pub(crate) fn end(self, seats: &mut Vec<Vec<Seat>>, refs: &mut Vec<Vec<TrackRef>>) -> Tally
-        requires tables { (length seats.old.items ≡ length W.tables) × (length refs.old.items ≡ length W.tables) }
+        requires tables { (length seats.old.items ≡ W.tables) × (length refs.old.items ≡ W.tables) }
         requires seats { HaveRoom 1 seats.old.items }
         requires refs { HaveRoom (W.most * 3) refs.old.items }
         ensures kept { held_in refs.new.items ≡ left_by_all (map (option_map (λ connection. connection.conn)) self.entry.places.held.items) (held_in refs.old.items) }
         ensures tally { result ≡ self.entry.tally }
-        ensures tables { (length seats.new.items ≡ length W.tables) × (length refs.new.items ≡ length W.tables) }
+        ensures tables { (length seats.new.items ≡ W.tables) × (length refs.new.items ≡ W.tables) }
         ensures seats { (count places : ℕ) → HaveEach count places seats.old.items → HaveEach (count + 1) places seats.new.items }
         ensures refs { (most places : ℕ) → HaveFew most places refs.old.items → HaveFew (most + W.most * 3) places refs.new.items }
     {
         let Worker {
             tally,
             keeps: _,
-            seats: row,
+            seated,
             places,
             buffers: _buffers,
             watch: _watch,
             of: _,
         } = self;
-        put_row(seats, row);
+        put_row(seats, seated);
         put_connections(refs, places.into_connections());
         tally
     }

@@ -2,105 +2,77 @@
 //! session is counted where it is accepted, bytes once it is closed, and `conn_cur` the connections that hold the entry
 //! now. A Track and a Release refresh the entry, so that what it has left tells at which moment they were made.
 
-ghost use Rattle.std.specs.Prelude.{◌≡◌, true, All, length};
+ghost use Rattle.std.specs.Prelude.{◌≡◌, true, length};
 ghost use Rattle.admit_core.specs.Conn.{needed};
 ghost use Rattle.admit_core.specs.declared.need.Need.TheVariants.{Rest};
-ghost use Rattle.admit_shared.specs.DriveCode.{IsReady};
+ghost use Rattle.test_settling.specs.Visits.{IsVisitor};
 
 use crate::addresses::{HOST, Wanted, calls, open, shows};
 use crate::counting_clock::CountingClock;
 use crate::setups::{accepting, limiting};
 use admit_core::{Conn, Phase};
-use admit_shared::{Rested, arrive, finish, judge};
+use admit_port::{Rested, finish, judge};
 use rule_addresses::Address;
 use rule_eval::Samples;
 use rule_model::{Setup, Slot};
 use shard_book::{Seat, TrackRef};
-use shard_locks::Shards;
+use shard_locks::{Seated, Shards};
 use std::alloc::Global;
+use std::slice;
 use std::sync::Wait;
 use stick_table::PlainTable;
 
 /// A connection from the address comes.
-fn come<'a>(setup: &'a Setup, tables: &[Shards<PlainTable>], seats: &[Seat]) -> Conn<'a, TrackRef>
+fn come(setup: &Setup) -> Conn<'_, TrackRef>
     requires setup { (length setup.now.tables ≡ 1) × (setup.now.shards ≡ 2) }
-    requires one { length tables.now ≡ 1 }
-    requires shards { All (λ table. table.shards ≡ 2) tables.now }
-    requires seat { length seats.now ≡ 1 }
-    ensures ready { IsReady tables.now seats.now result }
+    ensures visitor { IsVisitor result }
 {
     let samples = Samples {
         src: Address::V4(HOST),
         src_port: 5000,
         dst_port: 0,
     };
-    arrive(setup, samples, tables, seats)
+    Conn::new(setup, samples)
 }
 
-/// Has a connection go on until it was judged; answers whether it is admitted.
-fn is_judged_good(
+/// Has a connection go on by a table until it was judged; answers whether it is admitted, and the table's seat.
+fn judged_by<R: Wait>(
     alloc: Global,
-    rt: &impl Wait,
-    tables: &[Shards<PlainTable>],
-    seats: &mut [Seat],
+    mut port: Seated<'_, PlainTable, R>,
     conn: &mut Conn<'_, TrackRef>,
     clock: &mut CountingClock,
-) -> bool
-    requires ready { IsReady tables.now seats.old conn.old }
-    ensures ready { IsReady tables.now seats.new conn.new }
-    ensures rests { result ≡ true → needed conn.new ≡ Rest }
+) -> (bool, Seat)
+    requires port { port.table.shards ≡ 2 }
+    requires visitor { IsVisitor conn.old }
+    ensures visitor { IsVisitor conn.new }
+    ensures rests { result.0 ≡ true → needed conn.new ≡ Rest }
 {
-    judge(alloc, rt, tables, seats, conn, clock)
+    let is_admitted = judge(alloc, slice::from_mut(&mut port), conn, clock);
+    (is_admitted, port.into_seat())
 }
 
-/// Has a connection go on to where it rests or ends.
-fn go_on(
+/// Has a connection go on by a table to where it rests or ends; answers how it came to that, and the table's seat.
+fn goes_on_by<R: Wait>(
     alloc: Global,
-    rt: &impl Wait,
-    tables: &[Shards<PlainTable>],
-    seats: &mut [Seat],
+    mut port: Seated<'_, PlainTable, R>,
     conn: &mut Conn<'_, TrackRef>,
     clock: &mut CountingClock,
-) -> Rested
-    requires ready { IsReady tables.now seats.old conn.old }
-    ensures ready { IsReady tables.now seats.new conn.new }
+) -> (Rested, Seat)
+    requires port { port.table.shards ≡ 2 }
+    requires visitor { IsVisitor conn.old }
+    ensures visitor { IsVisitor conn.new }
 {
-    finish(alloc, rt, tables, seats, conn, clock)
+    let rested = finish(alloc, slice::from_mut(&mut port), conn, clock);
+    (rested, port.into_seat())
 }
 
-/// An admitted connection is closed, after 5 bytes came in and 7 went out, and goes on to its end.
-fn close(
-    alloc: Global,
-    rt: &impl Wait,
-    tables: &[Shards<PlainTable>],
-    seats: &mut [Seat],
-    conn: &mut Conn<'_, TrackRef>,
-    clock: &mut CountingClock,
-) -> Rested
-    requires ready { IsReady tables.now seats.old conn.old }
+/// An admitted connection is closed, after 5 bytes came in and 7 went out.
+fn close(conn: &mut Conn<'_, TrackRef>)
+    requires visitor { IsVisitor conn.old }
     requires rests { needed conn.old ≡ Rest }
+    ensures visitor { IsVisitor conn.new }
 {
     conn.close(5, 7);
-    go_on(alloc, rt, tables, seats, conn, clock)
-}
-
-/// A connection goes on by another table than its own.
-fn go_on_elsewhere(
-    alloc: Global,
-    rt: &impl Wait,
-    own: &[Shards<PlainTable>],
-    other: &[Shards<PlainTable>],
-    seats: &mut [Seat],
-    conn: &mut Conn<'_, TrackRef>,
-    clock: &mut CountingClock,
-) -> Rested
-    requires one { (length own.now ≡ 1) × (length other.now ≡ 1) }
-    requires own { All (λ table. table.shards ≡ 2) own.now }
-    requires other { All (λ table. table.shards ≡ 2) other.now }
-    requires ready { IsReady own.now seats.old conn.old }
-    ensures ready { IsReady own.now seats.new conn.new }
-{
-    go_on(alloc, rt, other, seats, conn, clock)
 }
 
 /// Whether a connection has come to a phase, and holds a reference.
@@ -132,23 +104,26 @@ fn leaves_nothing(conn: Conn<'_, TrackRef>) -> bool {
     !gives_up(conn) && phase == Phase::Ended
 }
 
-/// Whether a connection is admitted and tracked, and goes to its end once it was closed.
-fn goes_through(
+/// Whether a connection is admitted and tracked, and goes to its end once it was closed; and the table's seat.
+fn goes_through<R: Wait>(
     alloc: Global,
-    rt: &impl Wait,
-    tables: &[Shards<PlainTable>],
-    seats: &mut [Seat],
+    rt: &R,
+    table: &Shards<PlainTable>,
+    seat: Seat,
     conn: &mut Conn<'_, TrackRef>,
     clock: &mut CountingClock,
-) -> bool
-    requires ready { IsReady tables.now seats.old conn.old }
+) -> (bool, Seat)
+    requires table { table.now.shards ≡ 2 }
+    requires visitor { IsVisitor conn.old }
 {
-    if !is_judged_good(alloc, rt, tables, seats, conn, clock) {
-        return false;
+    let (is_good, seat) = judged_by(alloc, Seated::new(table, rt, seat), conn, clock);
+    if !is_good {
+        return (false, seat);
     }
     let is_admitted = holds_in(conn, Phase::Admitted);
-    let rested = close(alloc, rt, tables, seats, conn, clock);
-    is_admitted && rested == Rested::Still
+    close(conn);
+    let (rested, seat) = goes_on_by(alloc, Seated::new(table, rt, seat), conn, clock);
+    (is_admitted && rested == Rested::Still, seat)
 }
 
 /// Whether a connection that comes is served, and leaves nothing behind but what was counted: five calls of its seat,
@@ -157,17 +132,17 @@ fn serves(
     alloc: Global,
     rt: &impl Wait,
     setup: &Setup,
-    tables: &[Shards<PlainTable>; 1],
-    seats: &mut [Seat; 1],
+    table: &Shards<PlainTable>,
+    seat: Seat,
     viewer: &mut Seat,
 ) -> bool
     requires setup { (length setup.now.tables ≡ 1) × (setup.now.shards ≡ 2) }
-    requires shards { All (λ table. table.shards ≡ 2) tables.now }
+    requires table { table.now.shards ≡ 2 }
 {
     let mut clock = CountingClock::new();
-    let mut conn = come(setup, tables, seats);
-    let is_through = goes_through(alloc, rt, tables, seats, &mut conn, &mut clock);
-    let is_counted = calls(&seats[0]) == 5 && clock.next() == 107;
+    let mut conn = come(setup);
+    let (is_through, seat) = goes_through(alloc, rt, table, seat, &mut conn, &mut clock);
+    let is_counted = calls(&seat) == 5 && clock.next() == 107;
     let wanted = Wanted {
         current: 0,
         left: 605,
@@ -175,7 +150,7 @@ fn serves(
         bytes_in: 5,
         bytes_out: 7,
     };
-    let is_shown = shows(rt, alloc, &tables[0], viewer, wanted);
+    let is_shown = shows(rt, alloc, table, viewer, wanted);
     leaves_nothing(conn) && is_through && is_counted && is_shown
 }
 
@@ -184,7 +159,7 @@ fn is_served(rt: &impl Wait, alloc: Global) -> bool {
     let (Ok(setup), Ok((table, seat, mut viewer))) = (accepting(alloc), open(alloc)) else {
         return false;
     };
-    serves(alloc, rt, &setup, &[table], &mut [seat], &mut viewer)
+    serves(alloc, rt, &setup, &table, seat, &mut viewer)
 }
 
 #[test]
@@ -211,54 +186,40 @@ fn shows_one(
     shows(rt, alloc, table, viewer, wanted)
 }
 
-/// Whether a connection is rejected, and holds a reference.
-fn is_rejected(
+/// Whether a connection is rejected, and holds a reference; and the table's seat.
+fn rejected_by<R: Wait>(
     alloc: Global,
-    rt: &impl Wait,
-    tables: &[Shards<PlainTable>],
-    seats: &mut [Seat],
+    port: Seated<'_, PlainTable, R>,
     conn: &mut Conn<'_, TrackRef>,
     clock: &mut CountingClock,
-) -> bool
-    requires ready { IsReady tables.now seats.old conn.old }
-    ensures ready { IsReady tables.now seats.new conn.new }
+) -> (bool, Seat)
+    requires port { port.table.shards ≡ 2 }
+    requires visitor { IsVisitor conn.old }
+    ensures visitor { IsVisitor conn.new }
 {
-    let is_admitted = is_judged_good(alloc, rt, tables, seats, conn, clock);
-    !is_admitted && holds_in(conn, Phase::Rejected)
-}
-
-/// Whether a connection goes on to where it rests or ends, and no release is refused.
-fn is_still(
-    alloc: Global,
-    rt: &impl Wait,
-    tables: &[Shards<PlainTable>],
-    seats: &mut [Seat],
-    conn: &mut Conn<'_, TrackRef>,
-    clock: &mut CountingClock,
-) -> bool
-    requires ready { IsReady tables.now seats.old conn.old }
-{
-    go_on(alloc, rt, tables, seats, conn, clock) == Rested::Still
+    let (is_admitted, seat) = judged_by(alloc, port, conn, clock);
+    (!is_admitted && holds_in(conn, Phase::Rejected), seat)
 }
 
 /// Whether a connection beside another is tracked, at 104 ms, by the fifth move, and rejected; and is gone once it goes
 /// on, behind a look at the table at 500 ms.
-fn goes_away(
+fn goes_away<R: Wait>(
     alloc: Global,
-    rt: &impl Wait,
-    tables: &[Shards<PlainTable>; 1],
-    seats: &mut [Seat; 1],
+    rt: &R,
+    table: &Shards<PlainTable>,
+    seat: Seat,
     viewer: &mut Seat,
     conn: &mut Conn<'_, TrackRef>,
     clock: &mut CountingClock,
 ) -> bool
-    requires ready { IsReady tables.now seats.old conn.old }
+    requires table { table.now.shards ≡ 2 }
+    requires visitor { IsVisitor conn.old }
 {
-    let is_rejected = is_rejected(alloc, rt, tables, seats, conn, clock);
-    let are_both = shows_one(alloc, rt, &tables[0], viewer, 2, 604);
-    let is_still = is_still(alloc, rt, tables, seats, conn, clock);
-    let is_one = shows_one(alloc, rt, &tables[0], viewer, 1, 1_000);
-    is_rejected && are_both && is_still && is_one
+    let (is_rejected, seat) = rejected_by(alloc, Seated::new(table, rt, seat), conn, clock);
+    let are_both = shows_one(alloc, rt, table, viewer, 2, 604);
+    let (rested, _seat) = goes_on_by(alloc, Seated::new(table, rt, seat), conn, clock);
+    let is_one = shows_one(alloc, rt, table, viewer, 1, 1_000);
+    is_rejected && are_both && rested == Rested::Still && is_one
 }
 
 /// Whether a connection that comes beside another goes away with nothing.
@@ -266,35 +227,36 @@ fn is_sent_away(
     alloc: Global,
     rt: &impl Wait,
     setup: &Setup,
-    tables: &[Shards<PlainTable>; 1],
-    seats: &mut [Seat; 1],
+    table: &Shards<PlainTable>,
+    seat: Seat,
     viewer: &mut Seat,
     clock: &mut CountingClock,
 ) -> bool
     requires setup { (length setup.now.tables ≡ 1) × (setup.now.shards ≡ 2) }
-    requires shards { All (λ table. table.shards ≡ 2) tables.now }
+    requires table { table.now.shards ≡ 2 }
 {
-    let mut conn = come(setup, tables, seats);
-    let is_gone = goes_away(alloc, rt, tables, seats, viewer, &mut conn, clock);
+    let mut conn = come(setup);
+    let is_gone = goes_away(alloc, rt, table, seat, viewer, &mut conn, clock);
     leaves_nothing(conn) && is_gone
 }
 
 /// Whether of two connections, where one is the limit, the first is admitted, and the second rejected and gone.
-fn limits(
+fn limits<R: Wait>(
     alloc: Global,
-    rt: &impl Wait,
+    rt: &R,
     setup: &Setup,
-    tables: &[Shards<PlainTable>; 1],
-    seats: &mut [Seat; 1],
+    table: &Shards<PlainTable>,
+    seat: Seat,
     viewer: &mut Seat,
 ) -> bool
     requires setup { (length setup.now.tables ≡ 1) × (setup.now.shards ≡ 2) }
-    requires shards { All (λ table. table.shards ≡ 2) tables.now }
+    requires table { table.now.shards ≡ 2 }
 {
     let mut clock = CountingClock::new();
-    let mut first = come(setup, tables, seats);
-    let is_first = is_judged_good(alloc, rt, tables, seats, &mut first, &mut clock);
-    let is_second = is_sent_away(alloc, rt, setup, tables, seats, viewer, &mut clock);
+    let mut first = come(setup);
+    let (is_first, seat) =
+        judged_by(alloc, Seated::new(table, rt, seat), &mut first, &mut clock);
+    let is_second = is_sent_away(alloc, rt, setup, table, seat, viewer, &mut clock);
     let is_admitted = holds_in(&first, Phase::Admitted);
     gives_up(first) && is_first && is_second && is_admitted
 }
@@ -304,7 +266,7 @@ fn is_limited(rt: &impl Wait, alloc: Global) -> bool {
     let (Ok(setup), Ok((table, seat, mut viewer))) = (limiting(alloc, 1), open(alloc)) else {
         return false;
     };
-    limits(alloc, rt, &setup, &[table], &mut [seat], &mut viewer)
+    limits(alloc, rt, &setup, &table, seat, &mut viewer)
 }
 
 #[test]
@@ -314,26 +276,26 @@ fn a_second_connection_of_an_address_is_rejected(rt: HostRuntime) {
 
 /// Whether a connection that is rejected still holds its reference where another table, of which its seat has seen too
 /// much, refuses the release; and gives it back to its own.
-fn keeps_it(
+fn keeps_it<R: Wait>(
     alloc: Global,
-    rt: &impl Wait,
-    own: &[Shards<PlainTable>; 1],
-    other: &[Shards<PlainTable>; 1],
-    seats: &mut [Seat; 1],
+    rt: &R,
+    own: &Shards<PlainTable>,
+    other: &Shards<PlainTable>,
+    seat: Seat,
     conn: &mut Conn<'_, TrackRef>,
 ) -> bool
-    requires own { All (λ table. table.shards ≡ 2) own.now }
-    requires other { All (λ table. table.shards ≡ 2) other.now }
-    requires ready { IsReady own.now seats.old conn.old }
+    requires own { own.now.shards ≡ 2 }
+    requires other { other.now.shards ≡ 2 }
+    requires visitor { IsVisitor conn.old }
 {
     let mut clock = CountingClock::new();
-    let is_admitted = is_judged_good(alloc, rt, own, seats, conn, &mut clock);
-    let before = calls(&seats[0]);
-    let kept = go_on_elsewhere(alloc, rt, own, other, seats, conn, &mut clock);
+    let (is_admitted, seat) = judged_by(alloc, Seated::new(own, rt, seat), conn, &mut clock);
+    let before = calls(&seat);
+    let (kept, seat) = goes_on_by(alloc, Seated::new(other, rt, seat), conn, &mut clock);
     let is_held = holds_in(conn, Phase::Rejected);
-    let between = calls(&seats[0]);
-    let rested = go_on(alloc, rt, own, seats, conn, &mut clock);
-    let counts = [before, between, calls(&seats[0])];
+    let between = calls(&seat);
+    let (rested, seat) = goes_on_by(alloc, Seated::new(own, rt, seat), conn, &mut clock);
+    let counts = [before, between, calls(&seat)];
     !is_admitted
         && is_held
         && kept == Rested::Kept
@@ -346,16 +308,16 @@ fn keeps_until_released(
     alloc: Global,
     rt: &impl Wait,
     setup: &Setup,
-    own: &[Shards<PlainTable>; 1],
-    other: &[Shards<PlainTable>; 1],
-    seats: &mut [Seat; 1],
+    own: &Shards<PlainTable>,
+    other: &Shards<PlainTable>,
+    seat: Seat,
 ) -> bool
     requires setup { (length setup.now.tables ≡ 1) × (setup.now.shards ≡ 2) }
-    requires own { All (λ table. table.shards ≡ 2) own.now }
-    requires other { All (λ table. table.shards ≡ 2) other.now }
+    requires own { own.now.shards ≡ 2 }
+    requires other { other.now.shards ≡ 2 }
 {
-    let mut conn = come(setup, own, seats);
-    let is_kept = keeps_it(alloc, rt, own, other, seats, &mut conn);
+    let mut conn = come(setup);
+    let is_kept = keeps_it(alloc, rt, own, other, seat, &mut conn);
     leaves_nothing(conn) && is_kept
 }
 
@@ -368,7 +330,7 @@ fn is_kept(rt: &impl Wait, alloc: Global) -> bool {
     ) else {
         return false;
     };
-    keeps_until_released(alloc, rt, &setup, &[table], &[stranger], &mut [seat])
+    keeps_until_released(alloc, rt, &setup, &table, &stranger, seat)
 }
 
 #[test]

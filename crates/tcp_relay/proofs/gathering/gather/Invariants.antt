@@ -6,7 +6,7 @@ use Rattle.tcp_relay.proofs.gathering.gather.Given as goal
 abbrev pub invariant-loop-worker : goal.invariant-loop-worker
 invariant-loop-worker g l = record {
   left : vec_len l.workers ≤ length l.fn.workers.items;
-  tables : (length l.seats.items ≡ length g.W.Width.tables) × (length l.refs.items ≡ length g.W.Width.tables);
+  tables : (length l.seats.items ≡ g.W.Width.tables) × (length l.refs.items ≡ g.W.Width.tables);
   seats : HaveEach (length l.fn.workers.items - vec_len l.workers) (length l.fn.workers.items) l.seats.items;
   refs : HaveFew ((length l.fn.workers.items - vec_len l.workers) * (g.W.Width.most * 3)) (length l.fn.workers.items * (g.W.Width.most * 3)) l.refs.items;
 }

@@ -1,7 +1,11 @@
 use Rattle.std.proofs.Common.{◌≡◌, ◌+◌, sym, subst, rules, length, vec_len}
 use Rattle.std.proofs.lemmas.List.Elements.{All-pop}
 use Rattle.tcp_relay.specs.Seating.{Has, HaveEach}
+use Rattle.tcp_relay.proofs.SeatingLemmas.{row_in}
 use Rattle.tcp_relay.proofs.gathering.seat_workers.Goals as goal
+
+pub new-requires-clause-shards : goal.new-requires-clause-shards
+new-requires-clause-shards g c = row_in g.W.Width.shards c.args.tables.now c.take_row-row.result.items c.take_row-row.ensures.row c.requires.shards
 
 pub loop-places-preserved : goal.loop-places-preserved
 loop-places-preserved g c =
@@ -14,7 +18,7 @@ loop-places-preserved g c =
       seated = search rules;
       room = search rules;
       tables = search rules;
-      seats = c.take_row-row.ensures.fewer (vec_len c.pop.new.self) (length c.args.rows.items) (subst (λ n. HaveEach n (length c.args.rows.items) loop.seats.items) (sym less) loop.invariant.seats);
-      empty_rows = (All-pop (Has 0 (length g.W.Width.tables)) loop.rows.items c.pop-in-Some.new.self.items c.pop-in-Some.result c.pop-in-Some.ensures.items loop.invariant.empty_rows).0;
+      seats = c.take_row-row.ensures.fewer (vec_len c.pop.new.self) (length c.args.rooms.rows.items) (subst (λ n. HaveEach n (length c.args.rooms.rows.items) loop.seats.items) (sym less) loop.invariant.seats);
+      empty_rows = (All-pop (Has 0 g.W.Width.tables) loop.rows.items c.pop-in-Some.new.self.items c.pop-in-Some.result c.pop-in-Some.ensures.items loop.invariant.empty_rows).0;
       empty_connections = (All-pop (Has 0 g.W.Width.most) loop.held.items c.pop.new.self.items c.pop.result c.pop.ensures.items loop.invariant.empty_connections).0;
     }

@@ -8,11 +8,11 @@ invariant-loop-places g l = record {
   rows : vec_len l.rows ≡ vec_len l.held;
   free : vec_len l.free ≡ vec_len l.held;
   all_buffers : vec_len l.all_buffers ≡ vec_len l.held;
-  seated : vec_len l.workers + vec_len l.held ≡ length l.fn.rows.items;
-  room : length l.fn.rows.items ≤ vec_capacity l.workers;
-  tables : length l.seats.items ≡ length g.W.Width.tables;
-  seats : HaveEach (vec_len l.held) (length l.fn.rows.items) l.seats.items;
-  empty_rows : HaveEach 0 (length g.W.Width.tables) l.rows.items;
+  seated : vec_len l.workers + vec_len l.held ≡ length l.fn.rooms.rows.items;
+  room : length l.fn.rooms.rows.items ≤ vec_capacity l.workers;
+  tables : length l.seats.items ≡ g.W.Width.tables;
+  seats : HaveEach (vec_len l.held) (length l.fn.rooms.rows.items) l.seats.items;
+  empty_rows : HaveEach 0 g.W.Width.tables l.rows.items;
   empty_connections : HaveEach 0 g.W.Width.most l.held.items;
 }
 

@@ -11,12 +11,12 @@ use Rattle.tcp_relay.proofs.leaving.put_connection.Goals as goal
 pub put_held-requires-clause-table : goal.put_held-requires-clause-table
 put_held-requires-clause-table g c =
     subst (λ n. IfSome c.end-first.result.0 (λ (entry : ℕ × RefState). entry.0 < n)) (sym c.requires.tables)
-    (within (length g.W.Width.tables) (progress_of c.args.connection.conn).held Sc0 c.end-first.result.0 c.args.connection.is.held c.end-first.ensures.sc0)
+    (within g.W.Width.tables (progress_of c.args.connection.conn).held Sc0 c.end-first.result.0 c.args.connection.is.held c.end-first.ensures.sc0)
 
 pub put_held-requires-2-clause-table : goal.put_held-requires-2-clause-table
 put_held-requires-2-clause-table g c =
     subst (λ n. IfSome c.end-first.result.1 (λ (entry : ℕ × RefState). entry.0 < n)) (sym (c.put_held.ensures.tables ∙ c.requires.tables))
-    (within (length g.W.Width.tables) (progress_of c.args.connection.conn).held Sc1 c.end-first.result.1 c.args.connection.is.held c.end-first.ensures.sc1)
+    (within g.W.Width.tables (progress_of c.args.connection.conn).held Sc1 c.end-first.result.1 c.args.connection.is.held c.end-first.ensures.sc1)
 
 pub put_held-requires-2-clause-room : goal.put_held-requires-2-clause-room
 put_held-requires-2-clause-room g c = room_less 1 2 c.put_held.new.refs.items (omega (arith)) (c.put_held.ensures.room 2 c.requires.room)
@@ -24,7 +24,7 @@ put_held-requires-2-clause-room g c = room_less 1 2 c.put_held.new.refs.items (o
 pub put_held-requires-3-clause-table : goal.put_held-requires-3-clause-table
 put_held-requires-3-clause-table g c =
     subst (λ n. IfSome c.end-first.result.2 (λ (entry : ℕ × RefState). entry.0 < n)) (sym (c.put_held-2.ensures.tables ∙ c.put_held.ensures.tables ∙ c.requires.tables))
-    (within (length g.W.Width.tables) (progress_of c.args.connection.conn).held Sc2 c.end-first.result.2 c.args.connection.is.held c.end-first.ensures.sc2)
+    (within g.W.Width.tables (progress_of c.args.connection.conn).held Sc2 c.end-first.result.2 c.args.connection.is.held c.end-first.ensures.sc2)
 
 pub put_held-requires-3-clause-room : goal.put_held-requires-3-clause-room
 put_held-requires-3-clause-room g c = c.put_held-2.ensures.room 1 (c.put_held.ensures.room 2 c.requires.room)

@@ -1,14 +1,14 @@
-use Rattle.std.proofs.Common.{rules, ap, length}
+use Rattle.std.proofs.Common.{rules, length}
 use Rattle.tcp_relay.proofs.ServingLemmas.{all_served, told_err, told_ok}
 use Rattle.tcp_relay.specs.Accepting.{most_of}
 use Rattle.tcp_relay.proofs.serving.serve_wide.Goals as goal
 
 pub returns-clause-ok : goal.returns-clause-ok
 returns-clause-ok g c =
-    let is = all_served (length g.W.Width.tables) (length c.args.tables.now) _ c.args.threads g.W.Width.most (most_of c.args.limits.connections c.args.threads) c.gather-served.result.0 c.gather-served.ensures.seats c.gather-served.ensures.refs (ap length c.requires.width) (search rules) c.requires.most in
+    let is = all_served g.W.Width.tables (length c.args.tables.now) _ c.args.threads g.W.Width.most (most_of c.args.limits.connections c.args.threads) c.gather-served.result.0 c.gather-served.ensures.seats c.gather-served.ensures.refs c.requires.width (search rules) c.requires.most in
     told_ok (length c.args.tables.now) c.args.threads (most_of c.args.limits.connections c.args.threads) c.gather-served.result.0 is c.run_all-all_started.result c.gather-served.result.1 c.told.result c.told.ensures.ok
 
 pub returns-clause-err : goal.returns-clause-err
 returns-clause-err g c =
-    let is = all_served (length g.W.Width.tables) (length c.args.tables.now) _ c.args.threads g.W.Width.most (most_of c.args.limits.connections c.args.threads) c.gather-served.result.0 c.gather-served.ensures.seats c.gather-served.ensures.refs (ap length c.requires.width) (search rules) c.requires.most in
+    let is = all_served g.W.Width.tables (length c.args.tables.now) _ c.args.threads g.W.Width.most (most_of c.args.limits.connections c.args.threads) c.gather-served.result.0 c.gather-served.ensures.seats c.gather-served.ensures.refs c.requires.width (search rules) c.requires.most in
     told_err (length c.args.tables.now) c.args.threads (most_of c.args.limits.connections c.args.threads) c.gather-served.result.0 is c.run_all-all_started.result c.gather-served.result.1 c.args.seats c.told.result c.told.ensures.fault

@@ -1,18 +1,29 @@
-use Rattle.std.proofs.Common.{◌≡◌, sym, subst, List, Option, Some, None}
+use Rattle.std.proofs.Common.{◌≡◌, ℕ, sym, subst, Option, Some, None}
 use Rattle.std.specs.Prelude.{IfSome}
 use Rattle.shard_book.specs.SeatState.{RefState}
-use Rattle.shard_locks.specs.ShardsState.{ShardsState}
 use Rattle.admit_core.specs.declared.conn.Conn.{Conn}
-use Rattle.tcp_relay.specs.Connections.{IsConnection}
-use Rattle.tcp_relay.proofs.ConnectionLemmas.{connection_of}
+use Rattle.tcp_relay.specs.Connections.{IsVisitor}
+use Rattle.tcp_relay.proofs.ConnectionLemmas.{each_still, ready, visitor_still}
 use Rattle.tcp_relay.proofs.visiting.leave.Goals as goal
 
-kept_is : (tables : List ShardsState) (conn : Conn RefState) (left : Option (Conn RefState)) → IsConnection tables conn → IfSome left (λ kept. kept ≡ conn) → IfSome left (IsConnection tables)
-kept_is tables conn None is same = tt
-kept_is tables conn (Some kept) is same = subst (IsConnection tables) (sym same) is
+kept_is : (tables shards : ℕ) (conn : Conn RefState) (left : Option (Conn RefState)) → IsVisitor tables shards conn → IfSome left (λ kept. kept ≡ conn) → IfSome left (IsVisitor tables shards)
+kept_is tables shards conn None is same = tt
+kept_is tables shards conn (Some kept) is same = subst (IsVisitor tables shards) (sym same) is
 
-pub returns : goal.returns
-returns g c = record {
-  connection = kept_is g.W.Width.tables c.finish-rested.new.conn c.let_go.result
-      (subst (λ (tables : List ShardsState). IsConnection tables c.finish-rested.new.conn) (sym c.args.shared.now.width) (connection_of c.args.shared.now.tables.now c.finish-rested.new.seats c.finish-rested.new.conn c.finish-rested.ensures.ready)) c.let_go.ensures.kept;
-}
+pub finish-rested-requires-clause-ready : goal.finish-rested-requires-clause-ready
+finish-rested-requires-clause-ready g c =
+    let lent = c.as_mut_slice-ports in
+    ready g.W.Width.tables g.W.Width.shards c.args.seated.now lent.result.now lent.ensures.value lent.ensures.len c.requires.count c.requires.shards c.args.conn c.requires.connection
+
+pub returns-clause-shards : goal.returns-clause-shards
+returns-clause-shards g c =
+    let lent = c.as_mut_slice-ports in
+    let rested = c.finish-rested in
+    each_still g.W.Width.tables g.W.Width.shards c.args.seated.now lent.result.now lent.ensures.value lent.ensures.len c.requires.count c.requires.shards rested.new.ports rested.ensures.parts
+
+pub returns-clause-connection : goal.returns-clause-connection
+returns-clause-connection g c =
+    let lent = c.as_mut_slice-ports in
+    let rested = c.finish-rested in
+    kept_is g.W.Width.tables g.W.Width.shards rested.new.conn c.let_go.result
+    (visitor_still g.W.Width.tables g.W.Width.shards c.args.seated.now lent.result.now lent.ensures.value lent.ensures.len c.requires.count c.requires.shards rested.new.ports rested.ensures.parts rested.new.conn rested.ensures.living rested.ensures.ready) c.let_go.ensures.kept

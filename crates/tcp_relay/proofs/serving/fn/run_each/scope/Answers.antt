@@ -1,7 +1,7 @@
-use denote.Param.Send.{sendable}
+use denote.Param.Send.{param_send, sendable}
 use Rattle.tcp_relay.proofs.shared.Shared.TheSendSync as shared
 use Rattle.tcp_relay.proofs.worker.Worker.TheSendSync as worker
 use Rattle.tcp_relay.proofs.serving.fn.run_each.scope.Goals as goal
 
 pub spawn-started-requires-send-F : goal.spawn-started-requires-send-F
-spawn-started-requires-send-F g c κs within = search (sendable, shared.the_sync, worker.the_send) depth 20
+spawn-started-requires-send-F g c κs within = param_send _ _ ?send

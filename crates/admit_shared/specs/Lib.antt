@@ -1,6 +1,0 @@
-pub mod Tables
-pub mod Calls
-pub mod Moves
-pub mod DriveCode
-pub mod Seats
-pub mod Visit

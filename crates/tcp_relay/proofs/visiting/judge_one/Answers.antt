@@ -1,0 +1,20 @@
+use Rattle.tcp_relay.proofs.ConnectionLemmas.{each_still, fresh, ready, visitor_still}
+use Rattle.tcp_relay.proofs.visiting.judge_one.Goals as goal
+
+pub judge-is_admitted-requires-clause-ready : goal.judge-is_admitted-requires-clause-ready
+judge-is_admitted-requires-clause-ready g c =
+    let lent = c.as_mut_slice-ports in
+    ready g.W.Width.tables g.W.Width.shards c.args.seated.now lent.result.now lent.ensures.value lent.ensures.len c.requires.count c.requires.shards c.new-conn.result
+    (fresh g.W.Width.tables g.W.Width.shards c.args.shared.now.setup.now c.samples.result c.new-conn.result c.args.shared.now.tables c.args.shared.now.shards c.new-conn.ensures.stands c.new-conn.ensures.given)
+
+pub returns-clause-shards : goal.returns-clause-shards
+returns-clause-shards g c =
+    let lent = c.as_mut_slice-ports in
+    let judged = c.judge-is_admitted in
+    each_still g.W.Width.tables g.W.Width.shards c.args.seated.now lent.result.now lent.ensures.value lent.ensures.len c.requires.count c.requires.shards judged.new.ports judged.ensures.parts
+
+pub returns-clause-connection : goal.returns-clause-connection
+returns-clause-connection g c =
+    let lent = c.as_mut_slice-ports in
+    let judged = c.judge-is_admitted in
+    visitor_still g.W.Width.tables g.W.Width.shards c.args.seated.now lent.result.now lent.ensures.value lent.ensures.len c.requires.count c.requires.shards judged.new.ports judged.ensures.parts judged.new.conn judged.ensures.living judged.ensures.ready
