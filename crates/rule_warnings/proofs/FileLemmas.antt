@@ -1,5 +1,5 @@
 -- The lines that are left, and the warnings of the lines so far with those of the lines that are left.
-use Rattle.std.proofs.Common.{◌≡◌, ◌∙◌, append_assoc, ℕ, ◌+◌, Bool, false, ◌||◌, List, [], ◌∷◌, ◌++◌, drop, Option, Some, None, Bor, ap, sym, ◌×◌}
+use Rattle.std.proofs.Common.{◌≡◌, ◌∙◌, append_assoc, ℕ, ◌+◌, Bool, false, ◌||◌, List, [], ◌∷◌, ◌++◌, drop, Option, Some, None, Bor, ap, sym}
 use Rattle.std.proofs.lemmas.List.{drop-drop}
 use Rattle.std.specs.Prelude.{MatchOption}
 use Rattle.rule_warnings.specs.FileLines.{heading_behind, is_front, keyword, line_warning, line_warnings}

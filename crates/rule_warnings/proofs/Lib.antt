@@ -1,2 +1,3 @@
 mod AdviceLemmas
 mod FileLemmas
+mod KeyLemmas

@@ -173,9 +173,13 @@ abbrev pub unread_by_act : List NamedSpec → List Rule → Slot → Option Fetc
 unread_by_act tables before slot None = None
 unread_by_act tables before slot (Some fetch) = unread_by_slot tables before slot fetch
 
--- what is read of the source in a table that doesn't store it
-abbrev pub unread_of_source : List NamedSpec → List ℕ → Fetch → Option Unread
-unread_of_source tables table fetch = if has_in (table_named tables table) fetch then None else Some (unread.OfSource fetch)
+-- what is read of the source in a table that doesn't store it, or of which no address is a key
+abbrev pub unread_of_source : Option NamedSpec → Fetch → Option Unread
+unread_of_source None fetch = Some (unread.OfSource fetch)
+unread_of_source (Some named) fetch =
+    if not (has named fetch) then Some (unread.OfSource fetch)
+    else if takes_addresses named.spec.kind then None
+    else Some (unread.NoKey named.spec.kind)
 
 -- an integer that no connection has, by the rules in front
 abbrev pub unread_measure : List NamedSpec → List Rule → Measure → Option Unread
@@ -183,7 +187,7 @@ unread_measure tables before measures.SourcePort = None
 unread_measure tables before measures.DestinationPort = None
 unread_measure tables before (measures.Tracked slot fetch) = unread_by_slot tables before slot fetch
 unread_measure tables before (measures.Counted slot act) = unread_by_act tables before slot (counted_by act)
-unread_measure tables before (measures.Source table fetch) = unread_of_source tables table fetch
+unread_measure tables before (measures.Source table fetch) = unread_of_source (table_named tables table) fetch
 
 abbrev pub unread_of : List NamedSpec → List Rule → Criterion → Option Unread
 unread_of tables before (criteria.Always value) = None

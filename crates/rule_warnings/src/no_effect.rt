@@ -237,6 +237,22 @@ fn unread_by_slot(tables: &[NamedSpec], before: &[Rule], slot: Slot, fetch: Fetc
     Some(Unread::BySlot(slot, fetch))
 }
 
+/// What is read of the source in a table that doesn't store it, or of which no address is a key.
+fn unread_of_source(tables: &[NamedSpec], name: &[u8], fetch: Fetch) -> Option<Unread>
+    ensures { result ≡ spec.unread_of_source (spec.table_named tables.now name.now) fetch }
+{
+    let Some(named) = table_named(tables, name) else {
+        return Some(Unread::OfSource(fetch));
+    };
+    if !has(named, fetch) {
+        return Some(Unread::OfSource(fetch));
+    }
+    if can_be_key(named.spec.kind, &KeyExpression::Source) {
+        return None;
+    }
+    Some(Unread::NoKey(named.spec.kind))
+}
+
 /// An integer that no connection has, by the rules in front.
 fn unread_measure(tables: &[NamedSpec], before: &[Rule], measure: &Measure) -> Option<Unread>
     ensures { result ≡ spec.unread_measure tables.now before.now measure.now }
@@ -248,13 +264,7 @@ fn unread_measure(tables: &[NamedSpec], before: &[Rule], measure: &Measure) -> O
             None => None,
             Some(fetch) => unread_by_slot(tables, before, *slot, fetch),
         },
-        Measure::Source(table, fetch) => {
-            if table_has(tables, table.as_slice(), *fetch) {
-                None
-            } else {
-                Some(Unread::OfSource(*fetch))
-            }
-        }
+        Measure::Source(table, fetch) => unread_of_source(tables, table.as_slice(), *fetch),
     }
 }
 

@@ -17,13 +17,15 @@ pub enum Shortage {
     Unpurged,
 }
 
-/// What a criterion reads that no connection has, so that it is always false.
+/// What a criterion reads that no connection has: a criterion that isn't there is false, and a number of a key that isn't is 0.
 #[derive(Clone, Copy, Debug)]
 pub enum Unread {
     /// By a slot that no rule in front tracks in a table that stores it.
     BySlot(Slot, Fetch),
     /// Of the client's address, in a table that doesn't store it.
     OfSource(Fetch),
+    /// Of the client's address, in a table of this type, of which no address is a key.
+    NoKey(KeyType),
 }
 
 /// What is to be warned of as the proxy starts. It is printed in sentences on one line, the last of which says what to do.
@@ -249,6 +251,14 @@ fn write_unread<W: Write>(rule: u64, unread: Unread, f: &mut Formatter<W>) -> fm
                 " in a table that doesn't store it, so it is always false. "
             )?;
             write!(f, "Store it in that table.")
+        }
+        Unread::NoKey(kind) => {
+            let word = kind_word(kind);
+            write!(
+                f,
+                "Rule {rule}: a criterion reads, by the source, a table of type {word}, of which no address is a key, so it reads 0. "
+            )?;
+            write!(f, "Give the table a type that takes addresses.")
         }
     }
 }

@@ -10,10 +10,7 @@ pub(crate) struct FileRow {
 
 pub(crate) const FILES: [FileRow; 17] = [
     // nothing to warn of
-    FileRow {
-        text: "",
-        said: "",
-    },
+    FileRow { text: "", said: "" },
     FileRow {
         text: "listen t\nbind :80\ntcp-request connection accept\nacl a src 10.0.0.1\ntcp-request connection reject if a\n",
         said: "",
@@ -40,7 +37,7 @@ pub(crate) const FILES: [FileRow; 17] = [
         said: "",
     },
     FileRow {
-        text: "  listen one # bind :80\n\n# x\n	frontend two\n\n  bind :81 # y\r\nlisten three\nbind :82",
+        text: "  listen one # bind :80\n\n# x\n\tfrontend two\n\n  bind :81 # y\r\nlisten three\nbind :82",
         said: "Line 4: this section isn't served: nothing listens at its bind, and its rules judge nothing, since the first frontend or listen section alone is served. Run another stickd for it.\nLine 7: this section isn't served: nothing listens at its bind, and its rules judge nothing, since the first frontend or listen section alone is served. Run another stickd for it.\n",
     },
     FileRow {

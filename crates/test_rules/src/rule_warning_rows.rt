@@ -2,7 +2,7 @@
 
 use crate::warning_rows::Row;
 
-pub(crate) const ROWS: [Row; 38] = [
+pub(crate) const ROWS: [Row; 39] = [
     // keys that the table's type never takes
     Row {
         connections: 4,
@@ -211,6 +211,13 @@ pub(crate) const ROWS: [Row; 38] = [
         shards: 1,
         text: "stick-table type ip size 10\ntcp-request connection reject if { src_conn_rate gt 3 }\ntcp-request connection reject if { src_conn_cur(n) gt 3 }\ntcp-request connection reject if { src_conn_cnt(n) gt 3 }\nbackend n\nstick-table type ip size 10 store conn_cur\n",
         said: "Rule 1: a criterion reads, by the source, conn_rate in a table that doesn't store it, so it is always false. Store it in that table.\nRule 3: a criterion reads, by the source, conn_cnt in a table that doesn't store it, so it is always false. Store it in that table.\n",
+    },
+    // a table of which no address is a key
+    Row {
+        connections: 4,
+        shards: 1,
+        text: "stick-table type integer size 10 store conn_cur\ntcp-request connection reject if { src_conn_cur gt 3 }\ntcp-request connection reject if { src_conn_cnt gt 3 }\ntcp-request connection reject if { src_conn_cur(n) gt 3 }\nbackend n\nstick-table type string size 10 store conn_cur\n",
+        said: "Rule 1: a criterion reads, by the source, a table of type integer, of which no address is a key, so it reads 0. Give the table a type that takes addresses.\nRule 2: a criterion reads, by the source, conn_cnt in a table that doesn't store it, so it is always false. Store it in that table.\n",
     },
     // of several criteria of a rule the first alone
     Row {

@@ -72,4 +72,14 @@ def nothing_is_said_without_a_doubt():
     assert said == [], said
 
 
-TRIALS = [each_doubt_is_said_once, neither_timeout_is_set, all_doubts_at_once, nothing_is_said_without_a_doubt]
+def what_rules_say_to_no_end():
+    """A pattern that no client matches, and a datum that no table stores, are said once each, with the number of their rule."""
+    said = warned([TRACK, 'tcp-request connection reject if { src ::ffff:127.0.0.2 } or { sc0_conn_rate gt 3 }'],
+                  ['--connections', '1000', *TIMES])
+    assert len(said) == 2, said
+    assert all('Rule 2:' in line for line in said), said
+    assert '::ffff:0:0/96' in said[0] and 'conn_rate' in said[1], said
+
+
+TRIALS = [each_doubt_is_said_once, neither_timeout_is_set, all_doubts_at_once, nothing_is_said_without_a_doubt,
+          what_rules_say_to_no_end]
