@@ -1,7 +1,7 @@
 //! Calls of tables in shards for tests and benchmarks: events drawn at random, and asked by callers that hold references.
 //!
 //! The calls of a table in shards, one by one, and what becomes of the table where it is shown for settling: for the program
-//! `test_refusals`, whose allocations are refused in turn, and for `test_settling`. They stand apart so that they are proved once
+//! `test_refusals`, whose allocations are refused in turn, and for `test_shards`. They stand apart so that they are proved once
 //! for both.
 //!
 //! Worlds of connections from a few addresses under one limit, and what is counted of them: for the same program, whose

@@ -1,0 +1,13 @@
+//! Tests of tables in shards that threads share, what no contract can say of a value under a lock, and of their seats.
+
+mod beside_book;
+mod books;
+mod calls;
+mod commands;
+mod holding;
+mod joining;
+mod replay;
+mod rolls;
+mod seats;
+mod tables;
+mod threads;

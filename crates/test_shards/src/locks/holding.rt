@@ -1,0 +1,113 @@
+//! A shard that is held, and calls beside it.
+
+use crate::locks::tables::{Ask, Desk, Said, place, say};
+use shard_book::Seat;
+use shard_locks::Shards;
+use std::alloc::{AllocError, Global};
+use std::rt::Clock;
+use std::sync::Wait;
+use std::sync::atomic::{AtomicBool, Ordering};
+use std::test::Fail;
+use std::thread;
+use std::thread::Threads;
+use std::time::Duration;
+use stick_table::PlainTable;
+
+/// What one thread tells the other.
+#[derive(Drop)]
+struct Flags {
+    /// The shard is held.
+    held: AtomicBool,
+    /// The call was answered.
+    answered: AtomicBool,
+    /// The holder saw that, and held the shard still.
+    seen: AtomicBool,
+}
+
+/// Waits until a flag is set, so many ms at most; answers whether it is set.
+fn is_set<R: Clock>(rt: &R, flag: &AtomicBool, ms: u32) -> bool {
+    for _ in 0..ms {
+        if flag.load(Ordering::SeqCst) {
+            return true;
+        }
+        thread::sleep(rt, Duration::from_millis(1));
+    }
+    flag.load(Ordering::SeqCst)
+}
+
+/// Holds shard 0 until the call was answered, so many ms at most.
+fn hold<R: Wait + Clock>(rt: &R, table: &Shards<PlainTable>, flags: &Flags, ms: u32) {
+    table.hold(rt, place(table, 0), || {
+        flags.held.store(true, Ordering::SeqCst);
+        flags
+            .seen
+            .store(is_set(rt, &flags.answered, ms), Ordering::SeqCst);
+    });
+}
+
+/// Calls a shard once shard 0 is held.
+fn call<R: Wait + Clock>(
+    rt: &R,
+    alloc: Global,
+    table: &Shards<PlainTable>,
+    seat: &mut Seat,
+    shard: u32,
+    flags: &Flags,
+) {
+    if is_set(rt, &flags.held, 10_000)
+        && say(rt, alloc, table, seat, shard, Ask::Expire(0)) == Said::Expired(0)
+    {
+        flags.answered.store(true, Ordering::SeqCst);
+    }
+}
+
+/// Holds shard 0 in another thread, and calls a shard.
+fn hold_and_call<R: Threads + Wait + Clock + Sync>(
+    rt: &R,
+    desk: &mut Desk,
+    shard: u32,
+    ms: u32,
+    flags: &Flags,
+) -> Result<(), AllocError> {
+    let alloc = desk.alloc;
+    let table = &desk.table;
+    let seat = &mut desk.seat;
+    thread::scope(thread::scope_env(), rt, |scope| -> Result<(), AllocError> {
+        let holder = scope.spawn(|| hold(rt, table, flags, ms))?;
+        call(rt, alloc, table, seat, shard, flags);
+        holder.join(rt);
+        Ok(())
+    })
+}
+
+/// Whether shard 0 was held, a call of a shard was answered, and the holder saw that.
+fn call_beside<R: Threads + Wait + Clock + Sync>(
+    rt: &R,
+    alloc: Global,
+    shard: u32,
+    ms: u32,
+) -> Option<(bool, bool, bool)> {
+    let Ok(mut desk) = Desk::open(alloc, 2, false) else {
+        return None;
+    };
+    let flags = Flags {
+        held: AtomicBool::new(false),
+        answered: AtomicBool::new(false),
+        seen: AtomicBool::new(false),
+    };
+    match hold_and_call(rt, &mut desk, shard, ms, &flags) {
+        Ok(()) => Some((
+            flags.held.load(Ordering::SeqCst),
+            flags.answered.load(Ordering::SeqCst),
+            flags.seen.load(Ordering::SeqCst),
+        )),
+        Err(_) => None,
+    }
+}
+
+#[test]
+fn a_call_waits_for_the_lock_of_its_own_shard_alone(rt: HostRuntime) -> Result<(), Fail> {
+    assert!(rt; call_beside(&rt, rt.alloc(), 1, 10_000) == Some((true, true, true)));
+    assert!(rt; call_beside(&rt, rt.alloc(), 0, 300) == Some((true, true, false)));
+    Ok(())
+}
