@@ -34,6 +34,7 @@ pub(crate) fn room_for_cells(alloc: Global, columns: &StoredSet) -> Result<Vec<C
 }
 
 /// What a row shows of the data of a slot's entry, which has so many references, in memory that was taken before.
+#[inline(always)]
 fn fill_cells(
     columns: &StoredSet,
     store: &Store,
@@ -58,6 +59,9 @@ fn fill_cells(
 }
 
 /// The row of a slot's entry, when the clock has come to this moment, in memory that was taken before.
+///
+/// It is put into its callers, as a row that comes back from a call is copied from reply to reply: 60 instructions of each event.
+#[inline(always)]
 pub(crate) fn fill_row(
     spec: &Spec,
     store: &Store,

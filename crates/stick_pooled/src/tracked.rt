@@ -14,6 +14,7 @@ use stick_model::{Cell, Reply, Row, Ticket};
 
 impl StickTable {
     /// The row of a reference that is out, to this key, in memory that was taken before.
+    #[inline(always)]
     fn tracked_row(&self, ticket: Ticket, key: StickKey, cells: Vec<Cell>) -> Row
         requires out { key_of ticket self.now.tickets ≡ Some key }
         requires empty { cells.items ≡ [] }
