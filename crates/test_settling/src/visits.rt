@@ -254,8 +254,7 @@ fn limits<R: Wait>(
 {
     let mut clock = CountingClock::new();
     let mut first = come(setup);
-    let (is_first, seat) =
-        judged_by(alloc, Seated::new(table, rt, seat), &mut first, &mut clock);
+    let (is_first, seat) = judged_by(alloc, Seated::new(table, rt, seat), &mut first, &mut clock);
     let is_second = is_sent_away(alloc, rt, setup, table, seat, viewer, &mut clock);
     let is_admitted = holds_in(&first, Phase::Admitted);
     gives_up(first) && is_first && is_second && is_admitted
