@@ -1,7 +1,10 @@
-use Rattle.std.proofs.Common.{rules, length}
+use Rattle.std.proofs.Common.{◌∙◌, rules, sym, length}
 use Rattle.tcp_relay.proofs.ServingLemmas.{all_served, told_err, told_ok}
 use Rattle.tcp_relay.specs.Accepting.{most_of}
 use Rattle.tcp_relay.proofs.serving.serve_wide.Goals as goal
+
+pub seat_workers-requires-clause-shards : goal.seat_workers-requires-clause-shards
+seat_workers-requires-clause-shards g c = λ i table at. c.requires.tables.shards i table at ∙ sym c.requires.shards
 
 pub returns-clause-ok : goal.returns-clause-ok
 returns-clause-ok g c =
