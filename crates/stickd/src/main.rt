@@ -23,7 +23,7 @@ use std::time::Clock;
 use std::{env, io};
 use stickd_ctl::{Ctl, Top, ask_running, show_top};
 use stickd_input::{
-    Detail, Keeping, Telling, open_setup, read_command_line, read_file, read_keeping,
+    Detail, Keeping, Telling, open_served, open_setup, read_command_line, read_file, read_keeping,
 };
 use stickd_script::{BadLines, FaultKind, ReplayFault, replay_script};
 use tcp_proxy::{ProxyRuntime, run_pooled};
@@ -269,7 +269,7 @@ fn serve<R: ProxyRuntime + RandomSource + Files + Print + Eprint + AllocGlobal>(
         Err(bad) => return refuse(rt, bad),
     };
     let path = arguments.get_str("FILE");
-    let Some(setup) = open_setup(rt, path, read_keeping(arguments))? else {
+    let Some(setup) = open_served(rt, path, read_keeping(arguments))? else {
         return Ok(ExitCode::FAILURE);
     };
     let is_done = run_pooled(rt.alloc(), rt, &setup, plan)?;

@@ -1,7 +1,8 @@
 """Trials of what the program says as it starts: each doubt about how it was started in one line, once, and nothing without one."""
 import re
+import socket
 
-from lib.proxy import TRACK, Proxy, Server, echoes, reject_above
+from lib.proxy import TRACK, Proxy, Server, echoes, read_all, reject_above
 
 TABLE = 'stick-table type ip size {size} store conn_cur'
 SAFE = [TRACK, 'tcp-request connection reject unless { sc0_tracked }', reject_above(3)]
@@ -17,6 +18,10 @@ def warned(lines, words, descriptors=4000, size='1k'):
     """What the program says as it starts with these rules and words."""
     with Server(echoes) as server:
         with Proxy(server.port, [TABLE.format(size=size), *lines], *words, threads=1, descriptors=descriptors) as proxy:
+            # One is served only behind what is said at the start.
+            with proxy.connect() as client:
+                client.shutdown(socket.SHUT_WR)
+                read_all(client)
             return words_of(proxy.killed())
 
 
