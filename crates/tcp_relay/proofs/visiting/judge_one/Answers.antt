@@ -5,7 +5,7 @@ pub judge-is_admitted-requires-clause-ready : goal.judge-is_admitted-requires-cl
 judge-is_admitted-requires-clause-ready g c =
     let lent = c.as_mut_slice-ports in
     ready g.W.Width.tables g.W.Width.shards c.args.seated.now lent.result.now lent.ensures.value lent.ensures.len c.requires.count c.requires.shards c.new-conn.result
-    (fresh g.W.Width.tables g.W.Width.shards c.args.shared.now.setup.now c.samples.result c.new-conn.result c.args.shared.now.tables c.args.shared.now.shards c.new-conn.ensures.stands c.new-conn.ensures.given)
+    (fresh g.W.Width.tables g.W.Width.shards c.args.shared.now.setup.now c.args.samples c.new-conn.result c.args.shared.now.tables c.args.shared.now.shards c.new-conn.ensures.stands c.new-conn.ensures.given)
 
 pub returns-clause-shards : goal.returns-clause-shards
 returns-clause-shards g c =
