@@ -136,7 +136,7 @@ fn read_each<'a>(alloc: Global, words: &[&'a str]) -> Result<Vec<Endpoint>, BadW
 /// What `stickd run` is asked. That its numbers are in their ranges was seen as the command line was read. The connections are
 /// shared out among the threads, of which there are no more than connections.
 pub fn read_plan<'a>(
-    arguments: &ArgMatches<'a>,
+    arguments: &'a ArgMatches<'_>,
     more_binds: &'a [Endpoint],
 ) -> Result<Plan<'a>, BadWord<'a>>
     ensures threads { IfOk result (λ plan. (1 ≤ plan.threads) × (plan.threads ≤ 64)) }
