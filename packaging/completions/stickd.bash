@@ -11,7 +11,7 @@ _stickd() {
     fi
     # What the option before wants; else what the command has.
     case "$command $before" in
-        "adopt --frontend" | "ctl --watch" | "replay --shards" | "replay --purge" | "run --threads" | "run --shards" | "run --purge" | "run --connections" | "run --backlog" | "run --timeout-connect" | "run --timeout-client" | "run --timeout-server" | "run --timeout-fin" | "run --keepalive" | "run --socket-mode" | "run --socket-clients" | "run --timeout-socket" | "run --stop-after" | "run --roll-at" | "top --table" | "top --by" | "top --rows")
+        "adopt --frontend" | "ctl --watch" | "replay --shards" | "replay --purge" | "run --threads" | "run --bind" | "run --shards" | "run --purge" | "run --connections" | "run --backlog" | "run --timeout-connect" | "run --retries" | "run --timeout-client" | "run --timeout-server" | "run --timeout-fin" | "run --keepalive" | "run --socket-mode" | "run --socket-clients" | "run --timeout-socket" | "run --stop-after" | "run --roll-at" | "top --table" | "top --by" | "top --rows")
             return
             ;;
         "ctl --socket" | "run --socket" | "top --socket")
@@ -54,7 +54,7 @@ _stickd() {
             choices=(-f)
             ;;
         "run -")
-            choices=(-W "--socket --threads --shards --purge --connections --backlog --timeout-connect --timeout-client --timeout-server --timeout-fin --keepalive --socket-mode --socket-group --socket-clients --timeout-socket --stop-after --roll-at -h --help")
+            choices=(-W "--socket --threads --bind --shards --purge --connections --backlog --timeout-connect --retries --timeout-client --timeout-server --timeout-fin --keepalive --socket-mode --socket-group --socket-clients --timeout-socket --stop-after --roll-at -h --help")
             ;;
         "run "*)
             compopt -o filenames 2>/dev/null

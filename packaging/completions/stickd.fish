@@ -40,11 +40,13 @@ complete -c stickd -n '__stickd_at replay' -F
 
 complete -c stickd -n '__stickd_at run' -l socket -r -F -d 'The Unix socket on which commands are answered'
 complete -c stickd -n '__stickd_at run' -l threads -x -d 'How many threads serve connections, 1 to 64'
+complete -c stickd -n '__stickd_at run' -l bind -x -d 'Listen there too; may be given 16 times. dst_port is the port that a client came to'
 complete -c stickd -n '__stickd_at run' -l shards -x -d 'In how many parts each table is kept, 1 to 64 [default: 1]'
 complete -c stickd -n '__stickd_at run' -l purge -x -d 'How many of its oldest entries a full table removes for a new one, 1 to 1024 [default: 1]'
 complete -c stickd -n '__stickd_at run' -l connections -x -d 'How many connections are open at once at most, on all threads together [default: 10000]'
 complete -c stickd -n '__stickd_at run' -l backlog -x -d 'How many connections may wait to be accepted [default: as --connections]'
 complete -c stickd -n '__stickd_at run' -l timeout-connect -x -d 'How long a server may take to accept a connection, as 1500ms, 5s or 10m [default: 5s]'
+complete -c stickd -n '__stickd_at run' -l retries -x -d 'How often a server that refuses a connection is tried again, a second apart, 0 to 1000 [default: 0]'
 complete -c stickd -n '__stickd_at run' -l timeout-client -x -d 'How long a client may be silent [default: for ever]'
 complete -c stickd -n '__stickd_at run' -l timeout-server -x -d 'How long a server may be silent [default: for ever]'
 complete -c stickd -n '__stickd_at run' -l timeout-fin -x -d 'How long a connection may be silent once one side has ended [default: as the other timeouts]'
