@@ -314,13 +314,24 @@ fn push_fields(
     Ok(())
 }
 
+/// How many fields are kept, so that a copy takes memory for just those: what no contract sees.
+fn count_kept(columns: &[Column]) -> usize {
+    let mut count: usize = 0;
+    for column in columns {
+        if is_kept(*column) {
+            count = count.saturating_add(column.size() as usize);
+        }
+    }
+    count
+}
+
 /// A copy of the data, where there is memory.
 pub fn values(alloc: Global, columns: &[Column], words: &[u64]) -> Result<Values, NoMemory>
     requires periods { HavePeriods columns.now }
     requires sized { specified_width columns.now ≤ length words.now }
     ensures { IfOk result (λ values. values ≡ fields_in columns.now words.now) }
 {
-    let mut fields = Vec::new(alloc);
+    let mut fields = Vec::with_capacity(alloc, count_kept(columns))?;
     let mut at = 0;
     for column in columns {
         push_fields(&mut fields, *column, words, at)?;
