@@ -1,5 +1,6 @@
-//! Tests of what serves: connections between clients and servers of this machine, on threads that share a table, and
-//! commands of clients of a Unix socket. No contract can say what sockets and threads do.
+//! Tests of what serves: a direction of a connection and the sockets at its ends; connections between clients and servers of
+//! this machine, on threads that share a table; and commands of clients of a Unix socket. No contract can say what sockets and
+//! threads do.
 #![tactic(auto)]
 
 #[cfg(test)]
@@ -8,6 +9,8 @@ mod binding;
 mod commands;
 #[cfg(test)]
 mod connections;
+#[cfg(test)]
+mod flow;
 #[cfg(test)]
 mod gates;
 #[cfg(test)]

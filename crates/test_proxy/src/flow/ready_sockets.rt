@@ -1,7 +1,7 @@
 //! Turns over sockets of this machine that don't wait.
 
-use crate::peers::pair;
-use crate::turns::{Pace, reader, turn, writer};
+use crate::flow::peers::pair;
+use crate::flow::turns::{Pace, reader, turn, writer};
 use std::alloc::{AllocError, Global};
 use std::net::{Net, Shutdown, TcpListener, TcpStream};
 use std::test::Fail;

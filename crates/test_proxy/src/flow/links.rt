@@ -1,7 +1,7 @@
 //! Links between sockets of this machine: what they carry and count, how they end, and a reset.
 
-use crate::leads::{Lead, lead_between, lead_to};
-use crate::peers::{client, pair, server};
+use crate::flow::leads::{Lead, lead_between, lead_to};
+use crate::flow::peers::{client, pair, server};
 use std::alloc::Global;
 use std::io::{ErrorKind, Read, Write};
 use std::net::{Net, SocketAddr, TcpListener, TcpStream};

@@ -1,6 +1,6 @@
 //! How the end of one side of a link reaches the other: in order, by a reset, or only once the other is connected.
 
-use crate::leads::{Lead, lead_between, lead_to};
+use crate::flow::leads::{Lead, lead_between, lead_to};
 use std::alloc::Global;
 use std::io::{ErrorKind, Read, Write};
 use std::net::{Net, Shutdown, SocketAddr, TcpListener, TcpStream};

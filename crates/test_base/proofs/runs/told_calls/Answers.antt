@@ -1,5 +1,5 @@
-use Rattle.test_events.proofs.RunLemmas.{told_more}
-use Rattle.test_events.proofs.runs.told_calls.Goals as goal
+use Rattle.test_base.proofs.RunLemmas.{told_more}
+use Rattle.test_base.proofs.runs.told_calls.Goals as goal
 
 pub loop-row-preserved : goal.loop-row-preserved
 loop-row-preserved c =

@@ -1,6 +1,6 @@
 //! When a link is late, of whose moments the tests tell.
 
-use crate::leads::{Lead, lead_between, lead_to};
+use crate::flow::leads::{Lead, lead_between, lead_to};
 use std::alloc::Global;
 use std::io::Write;
 use std::net::{Net, Shutdown, SocketAddr, TcpListener, TcpStream};

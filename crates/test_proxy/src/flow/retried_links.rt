@@ -1,10 +1,10 @@
 //! Links whose server refuses at first: when it is tried again, how often, and what their clients do meanwhile.
 
-use crate::ending_links::{end, end_of};
-use crate::late_links::{CONNECTING, is_late_as_all_say};
-use crate::leads::{Lead, lead_with_retries};
-use crate::links::deserted;
-use crate::peers::{client, server};
+use crate::flow::ending_links::{end, end_of};
+use crate::flow::late_links::{CONNECTING, is_late_as_all_say};
+use crate::flow::leads::{Lead, lead_with_retries};
+use crate::flow::links::deserted;
+use crate::flow::peers::{client, server};
 use std::alloc::Global;
 use std::io::{Read, Write};
 use std::net::{IpAddr, Ipv4Addr, Net, SocketAddr, TcpListener, TcpStream};

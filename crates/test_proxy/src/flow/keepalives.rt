@@ -2,7 +2,7 @@
 
 ghost use Rattle.libc.specs.Net.{SockOption};
 
-use crate::peers::pair_at;
+use crate::flow::peers::pair_at;
 use libc::net as system;
 use std::net::{Net, TcpListener, TcpStream};
 use std::os::fd::{AsRawFd, RawFd};

@@ -2,7 +2,7 @@ use Rattle.std.proofs.Common.{All}
 use Rattle.stick_model.specs.Limits.{IsTableEvent}
 use Rattle.stick_model.specs.Run.{StoredRun}
 use Rattle.stick_model.specs.declared.events.Stored.{Stored}
-use Rattle.test_events.proofs.runs.told_calls.Given as goal
+use Rattle.test_base.proofs.runs.told_calls.Given as goal
 
 -- the calls so far are those of a run from the base to the table
 abbrev pub invariant-loop-row : goal.invariant-loop-row

@@ -1,7 +1,7 @@
 //! What turns of a direction carry, in every order in which its devices are ready, and where one fails.
 
-use crate::ready_ports::Answer::{Bytes, Fails, NotNow};
-use crate::ready_ports::{Answer, ListedReader, ListedWriter};
+use crate::flow::ready_ports::Answer::{Bytes, Fails, NotNow};
+use crate::flow::ready_ports::{Answer, ListedReader, ListedWriter};
 use std::alloc::{AllocError, Global};
 use std::test::Fail;
 use tcp_flow::{Cause, Direction, ReadySink, ReadySource, Step};

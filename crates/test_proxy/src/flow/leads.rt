@@ -1,6 +1,6 @@
 //! Links between sockets of this machine, each led by one thread.
 
-use crate::peers::pair;
+use crate::flow::peers::pair;
 use mio::event::Event;
 use mio::{Events, Poll, Registry};
 use std::alloc::Global;

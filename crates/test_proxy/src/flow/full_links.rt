@@ -1,6 +1,6 @@
 //! A link whose server doesn't read for a while.
 
-use crate::leads::{Lead, TURNS, lead_between};
+use crate::flow::leads::{Lead, TURNS, lead_between};
 use std::alloc::Global;
 use std::io::{Read, Write};
 use std::net::{Net, TcpListener, TcpStream};
