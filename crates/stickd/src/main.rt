@@ -11,7 +11,7 @@ use base_sequence::NoMemory;
 use byte_ports::{StreamSink, StreamSource};
 use clap::ArgMatches;
 use log::Log;
-use run_plan::{BadWord, read_binds, read_plan};
+use run_plan::{BadWord, read_binds, read_drain, read_plan};
 use std::alloc::Global;
 use std::net::{Net, TcpListener, TcpStream};
 use std::process::ExitCode;
@@ -21,9 +21,9 @@ use std::sync::Wait;
 use std::thread::Threads;
 use std::time::Clock;
 use std::{env, io};
-use stickd_ctl::{Ctl, Top, ask_running, show_top};
+use stickd_ctl::{Ctl, Stop, Top, ask_running, show_top, stop_running};
 use stickd_input::{
-    Detail, Keeping, Telling, open_served, open_setup, read_command_line, read_file, read_keeping,
+    Detail, Keeping, STATS, Telling, open_served, open_setup, read_command_line, read_file, read_keeping,
 };
 use stickd_script::{BadLines, FaultKind, ReplayFault, replay_script};
 use tcp_proxy::{ProxyRuntime, run_pooled};
@@ -109,6 +109,7 @@ fn run_command<R: ProxyRuntime + RandomSource + Files + Env + Input + Print + Ep
         Some(("check", arguments)) => check(rt, arguments)?,
         Some(("ctl", arguments)) => return ask_named(rt, arguments),
         Some(("run", arguments)) => return serve(rt, arguments),
+        Some(("stop", arguments)) => return stop_named(rt, arguments),
         Some(("top", arguments)) => return show_greatest(rt, arguments),
         Some((_, arguments)) => replay(rt, arguments.get_str("FILE"), read_keeping(arguments))?,
         None => false,
@@ -180,6 +181,19 @@ fn show_greatest<R: Net + Clock + Env + Print + Eprint + AllocGlobal>(
         rows: arguments.get_one::<u32>("rows").unwrap_or(20) as usize,
     };
     Ok(ExitCode::from(show_top(rt, &asked)?))
+}
+
+/// Stops a running stickd.
+fn stop_named<R: Net + Files + Clock + Eprint + AllocGlobal>(
+    rt: &R,
+    arguments: &ArgMatches<'_>,
+) -> io::Result<ExitCode> {
+    let drain = match read_drain(arguments) {
+        Ok(drain) => drain,
+        Err(bad) => return refuse(rt, bad),
+    };
+    let path = arguments.get_str(STATS).unwrap_or("");
+    Ok(ExitCode::from(stop_running(rt, &Stop { path, drain })?))
 }
 
 /// Which faults `stickd check` tells.

@@ -26,7 +26,9 @@ use base_sequence::{NoMemory, Sequence};
 pub use command_line::read_command_line;
 use explanation::{explain_fault, explain_warnings};
 pub use keeping::{Keeping, read_keeping};
-pub use options::{BIND, CLIENT, CONNECT, FIN, KEEPALIVE, SERVER, SOCKET};
+pub use options::{
+    BIND, CLIENT, CONNECT, DRAIN, FIN, KEEPALIVE, LOG_REJECTED, METRICS, REPORT, SERVER, SOCKET, STATS,
+};
 use rule_config::{ConfigFault, read_config};
 use rule_model::{Config, NamedSpec, ReadError, Setup};
 use rule_warnings::{Warning, file_warnings, table_warnings};
