@@ -12,6 +12,7 @@ use byte_ports::{StreamSink, StreamSource};
 use clap::ArgMatches;
 use log::Log;
 use run_plan::{BadWord, read_binds, read_drain, read_plan};
+use service_manager::read_surroundings;
 use std::alloc::Global;
 use std::net::{Net, TcpListener, TcpStream};
 use std::process::ExitCode;
@@ -20,7 +21,7 @@ use std::rt::{Env, Files};
 use std::sync::Wait;
 use std::thread::Threads;
 use std::time::Clock;
-use std::{env, io};
+use std::{env, io, str};
 use stickd_ctl::{Ctl, Stop, Top, ask_running, show_top, stop_running};
 use stickd_input::{
     Detail, Keeping, STATS, Telling, open_served, open_setup, read_command_line, read_file, read_keeping,
@@ -278,15 +279,17 @@ fn serve<R: ProxyRuntime + RandomSource + Files + Print + Eprint + AllocGlobal>(
         Ok(binds) => binds,
         Err(bad) => return refuse(rt, bad),
     };
-    let plan = match read_plan(arguments, binds.as_slice()) {
+    let mut plan = match read_plan(arguments, binds.as_slice(), read_surroundings(rt)) {
         Ok(plan) => plan,
         Err(bad) => return refuse(rt, bad),
     };
-    let path = arguments.get_str("FILE");
-    let Some(setup) = open_served(rt, path, read_keeping(arguments))? else {
+    let path = arguments.get_str("FILE").unwrap_or("");
+    let Some(served) = open_served(rt, path, read_keeping(arguments))? else {
         return Ok(ExitCode::FAILURE);
     };
-    let is_done = run_pooled(rt.alloc(), rt, &setup, plan)?;
+    // A name is made of ASCII letters, digits and a few signs.
+    plan.watch.about.frontend = str::from_utf8(served.frontend.as_slice()).unwrap_or("");
+    let is_done = run_pooled(rt.alloc(), rt, &served.setup, plan)?;
     Ok(status_of(is_done))
 }
 

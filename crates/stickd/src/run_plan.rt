@@ -6,14 +6,15 @@ ghost use Rattle.rule_addresses.specs.Addresses.{bind_of};
 use clap::ArgMatches;
 use rule_addresses::{Endpoint, read_bind};
 use rule_words::read_time;
+use service_manager::Surroundings;
 use std::alloc::Global;
 use stickd_input::{
     BIND, CLIENT, CONNECT, DRAIN, FIN, KEEPALIVE, LOG_REJECTED, METRICS, REPORT, SERVER, SOCKET,
-    STATS,
+    STATS, VERSION,
 };
 use table_socket::read_mode;
 use tcp_link::{Keepalive, Timeouts};
-use tcp_proxy::{Plan, SocketPlan, StatsPlan};
+use tcp_proxy::{About, Plan, SocketPlan, StatsPlan, WatchPlan};
 use tcp_relay::Limits;
 
 /// How long a server may take to accept a connection where that isn't said, in ms.
@@ -27,6 +28,9 @@ const SOCKET_MODE: u32 = 0o600;
 
 /// How many connections may wait to be accepted at most: what listen(2) can be asked.
 const MOST_BACKLOG: u32 = 0x7fff_ffff;
+
+/// The day of the program's release, as HAProxy's tools are told it.
+const RELEASE_DATE: &str = "2026/11/27";
 
 /// How long open connections may go on once the program is to stop, where that isn't said, in ms.
 const DRAIN_TIME: u64 = 30_000;
@@ -176,6 +180,9 @@ fn read_metrics<'a>(arguments: &ArgMatches<'a>) -> Result<Option<Endpoint>, BadW
     }
 }
 
+/// The day of the program's release, as HAProxy's tools are told it.
+const RELEASE_DATE: &str = "2026/11/27";
+
 /// How long open connections may go on once the program is to stop, in ms.
 pub fn read_drain<'a>(arguments: &ArgMatches<'a>) -> Result<u64, BadWord<'a>> {
     Ok(read_timeout(arguments, DRAIN)?.unwrap_or(DRAIN_TIME))
@@ -186,6 +193,7 @@ pub fn read_drain<'a>(arguments: &ArgMatches<'a>) -> Result<u64, BadWord<'a>> {
 pub fn read_plan<'a>(
     arguments: &'a ArgMatches<'_>,
     more_binds: &'a [Endpoint],
+    manager: Surroundings,
 ) -> Result<Plan<'a>, BadWord<'a>>
     ensures threads { IfOk result (λ plan. (1 ≤ plan.threads) × (plan.threads ≤ 64)) }
     ensures backlog { IfOk result (λ plan. (1 ≤ plan.backlog) × (plan.backlog ≤ 2147483647)) }
@@ -218,11 +226,19 @@ pub fn read_plan<'a>(
             keepalive: read_timeout(arguments, KEEPALIVE)?.map(Keepalive::of),
         },
         stop_after: arguments.get_one::<u64>("stop-after"),
-        report: read_timeout(arguments, REPORT)?,
-        stats: read_stats(arguments)?,
-        metrics: read_metrics(arguments)?,
+        watch: WatchPlan {
+            report: read_timeout(arguments, REPORT)?,
+            stats: read_stats(arguments)?,
+            metrics: read_metrics(arguments)?,
+            log_rejected: arguments.get_flag(LOG_REJECTED),
+            about: About {
+                version: VERSION,
+                release_date: RELEASE_DATE,
+                frontend: "",
+            },
+        },
         drain: read_drain(arguments)?,
-        log_rejected: arguments.get_flag(LOG_REJECTED),
+        manager,
         roll_at: u64::from(arguments.get_one::<u32>("roll-at").unwrap_or(65_536)),
     })
 }

@@ -14,6 +14,9 @@ use crate::options::{
 use clap::{Arg, ArgMatches, Command, Error};
 use std::alloc::{AllocError, Global};
 
+/// The program's version.
+pub const VERSION: &str = "0.1.0";
+
 /// The option that asks for an explanation of each fault.
 fn explain_option<'a>(alloc: Global) -> Arg<'a> {
     flag_option(
@@ -222,7 +225,7 @@ fn add_subcommand<'a>(
 fn bare_program<'a>(alloc: Global) -> Command<'a> {
     Command::new(alloc, "stickd")
         .about("Stick tables in HAProxy's language, with answers that are proved")
-        .version("0.1.0")
+        .version(VERSION)
         .subcommand_required(true)
         .arg_required_else_help(true)
 }

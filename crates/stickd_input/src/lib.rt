@@ -1,8 +1,10 @@
 //! The input of the program: its command line, its configuration and what is said of faults; `stickd` calls it.
 #![tactic(auto)]
 
-ghost use Rattle.std.specs.Prelude.{◌≡◌, ◌≤◌, IfOk, IfSome};
-ghost use Rattle.rule_model.specs.Served.{AreTables, AreTableSpecs, setup_of as served_by};
+ghost use Rattle.std.specs.Prelude.{◌≡◌, ◌≤◌, [], IfOk, IfSome};
+ghost use Rattle.std.specs.Option.{option_map_or};
+ghost use Rattle.rule_model.specs.declared.sections.Section.{Section};
+ghost use Rattle.rule_model.specs.Served.{AreTables, AreTableSpecs, proxy_of, setup_of as served_by};
 ghost use Rattle.rule_warnings.specs.Warnings.{table_warnings as warnings_for};
 ghost use Rattle.admit_drive.specs.Tables.{CanOpen};
 
@@ -23,14 +25,14 @@ mod suspects;
 
 use all_faults::find_faults;
 use base_sequence::{NoMemory, Sequence};
-pub use command_line::read_command_line;
+pub use command_line::{VERSION, read_command_line};
 use explanation::{explain_fault, explain_warnings};
 pub use keeping::{Keeping, read_keeping};
 pub use options::{
     BIND, CLIENT, CONNECT, DRAIN, FIN, KEEPALIVE, LOG_REJECTED, METRICS, REPORT, SERVER, SOCKET, STATS,
 };
 use rule_config::{ConfigFault, read_config};
-use rule_model::{Config, NamedSpec, ReadError, Setup};
+use rule_model::{Config, Name, NamedSpec, ReadError, Setup};
 use rule_warnings::{Warning, file_warnings, table_warnings};
 use std::alloc::Global;
 use std::rt::Files;
@@ -226,25 +228,19 @@ fn report_narrow<R: Eprint>(rt: &R, named: &NamedSpec) -> io::Result<()> {
     }
 }
 
-/// What is served by a configuration, or without one, each table kept in this way, and so much said of it. None where that can't
-/// be had, which is said on standard error.
-fn read_setup<R: Files + Eprint + AllocGlobal>(
+/// A setup, each table of which is kept in this way. None where there was no memory for it, or a table has fewer places than
+/// shards, which is said on standard error.
+fn kept_so<R: Eprint>(
     rt: &R,
-    path: Option<&str>,
+    made: Result<Setup, NoMemory>,
     keeping: Keeping,
-    detail: Detail,
 ) -> io::Result<Option<Setup>>
-    requires shards { (1 ≤ keeping.shards) × (keeping.shards ≤ 64) }
     requires purge { (1 ≤ keeping.purge) × (keeping.purge ≤ 1024) }
+    requires limits { IfOk made (λ setup. AreTableSpecs setup.tables) }
+    requires some { IfOk made (λ setup. 1 ≤ setup.shards) }
+    requires few { IfOk made (λ setup. setup.shards ≤ 64) }
     ensures { IfOk result (λ opened. IfSome opened CanOpen) }
 {
-    let made = match path {
-        Some(path) => match read_file(rt, path, Telling::First, detail)? {
-            Some(config) => setup_of(rt.alloc(), &config, keeping.shards),
-            None => return Ok(None),
-        },
-        None => built_in_setup(rt.alloc(), keeping.shards),
-    };
     let Ok(setup) = made else {
         eprintln!(rt; "stickd: out of memory")?;
         return Ok(None);
@@ -268,18 +264,57 @@ pub fn open_setup<R: Files + Eprint + AllocGlobal>(
     requires purge { (1 ≤ keeping.purge) × (keeping.purge ≤ 1024) }
     ensures { IfOk result (λ opened. IfSome opened CanOpen) }
 {
-    read_setup(rt, path, keeping, Detail::Short)
+    let made = match path {
+        Some(path) => match read_file(rt, path, Telling::First, Detail::Short)? {
+            Some(config) => setup_of(rt.alloc(), &config, keeping.shards),
+            None => return Ok(None),
+        },
+        None => built_in_setup(rt.alloc(), keeping.shards),
+    };
+    kept_so(rt, made, keeping)
 }
 
-/// What the proxy serves: the same; and what lines of the configuration say that comes to nothing is said too.
+/// What the proxy serves, and under which name.
+#[derive(Drop)]
+pub struct ServedSetup {
+    pub setup: Setup,
+    /// The name of the section that listens; empty where none does.
+    pub frontend: Name,
+}
+
+/// The name of the section that is served: empty where none listens.
+fn frontend_of(alloc: Global, config: &Config) -> Result<Name, NoMemory>
+    ensures { IfOk result (λ name. name ≡ option_map_or (λ (section : Section). section.name) (proxy_of config.now.sections) []) }
+{
+    for section in config.sections.as_slice() {
+        if section.kind.has_frontend() {
+            return section.name.copy();
+        }
+    }
+    Ok(Name::new(alloc))
+}
+
+/// What the proxy serves of a configuration, each table kept in this way. What lines of it say that comes to nothing is said too.
+/// None where that can't be had, which is said on standard error.
 pub fn open_served<R: Files + Eprint + AllocGlobal>(
     rt: &R,
-    path: Option<&str>,
+    path: &str,
     keeping: Keeping,
-) -> io::Result<Option<Setup>>
+) -> io::Result<Option<ServedSetup>>
     requires shards { (1 ≤ keeping.shards) × (keeping.shards ≤ 64) }
     requires purge { (1 ≤ keeping.purge) × (keeping.purge ≤ 1024) }
-    ensures { IfOk result (λ opened. IfSome opened CanOpen) }
+    ensures { IfOk result (λ opened. IfSome opened (λ served. CanOpen served.setup)) }
 {
-    read_setup(rt, path, keeping, Detail::Started)
+    let Some(config) = read_file(rt, path, Telling::First, Detail::Started)? else {
+        return Ok(None);
+    };
+    let Ok(frontend) = frontend_of(rt.alloc(), &config) else {
+        eprintln!(rt; "stickd: out of memory")?;
+        return Ok(None);
+    };
+    let made = setup_of(rt.alloc(), &config, keeping.shards);
+    match kept_so(rt, made, keeping)? {
+        Some(setup) => Ok(Some(ServedSetup { setup, frontend })),
+        None => Ok(None),
+    }
 }
