@@ -1,5 +1,5 @@
 use Rattle.std.proofs.Common.{◌≡◌, length}
-use Rattle.test_script.proofs.worlds.wanders.Given as goal
+use Rattle.test_rules.proofs.worlds.wanders.Given as goal
 
 -- four connections of the same setup, as far as they went
 abbrev pub invariant-loop-turn : goal.invariant-loop-turn

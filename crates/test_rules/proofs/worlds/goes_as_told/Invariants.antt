@@ -1,5 +1,5 @@
 use Rattle.std.proofs.Common.{◌≡◌, length}
-use Rattle.test_script.proofs.worlds.goes_as_told.Given as goal
+use Rattle.test_rules.proofs.worlds.goes_as_told.Given as goal
 
 -- three connections on one table in one shard, as far as the schedule went
 abbrev pub invariant-loop-number : goal.invariant-loop-number
