@@ -1,6 +1,6 @@
 -- The end of a running stickd, as its operator sees it.
 use Rattle.std.specs.Prelude.{ℕ, nat_lt, Bool, ◌||◌, not, Option, None, List, [], ◌∷◌, codes, if◌then◌else◌}
-use Rattle.std.specs.List.{list_any}
+use Rattle.std.specs.List.{list_all, list_any}
 use Rattle.base_lines.specs.Parts.{parts, is_line_end}
 use Rattle.stickd_ctl.specs.Lines.{begins, number_behind}
 use Rattle.stickd_ctl.specs.declared.stopping.AfterLook.{AfterLook}
@@ -29,4 +29,4 @@ is_running status = not (list_any tells_end (parts is_line_end status))
 
 -- nothing but line ends
 abbrev pub is_quiet : List ℕ → Bool
-is_quiet answer = not (list_any (λ byte. not (is_line_end byte)) answer)
+is_quiet answer = list_all is_line_end answer

@@ -91,7 +91,7 @@ pub fn is_running(status: &[u8]) -> bool
 pub fn is_quiet(answer: &[u8]) -> bool
     ensures { result ≡ spec.is_quiet answer.now }
 {
-    !answer.iter().any(|byte| *byte != b'\n')
+    answer.iter().all(|byte| *byte == b'\n')
 }
 
 /// What shows that a program is still there.
