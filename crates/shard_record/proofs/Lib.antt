@@ -1,0 +1,10 @@
+pub mod Prefixes
+pub mod Records
+pub mod OneKey
+pub mod Tickets
+pub mod Callers
+pub mod Moves
+pub mod Views
+pub mod ViewMoves
+pub mod LawLemmas
+pub mod TellingLemmas

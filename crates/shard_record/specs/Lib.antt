@@ -1,0 +1,5 @@
+pub mod Calls
+pub mod Parts
+pub mod Views
+pub mod Laws
+pub mod Telling

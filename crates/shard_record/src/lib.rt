@@ -1,0 +1,22 @@
+//! One record of the calls of each book, for all threads, which exists in proofs alone; and what each thread knows of it.
+//!
+//! No crate of the product calls it yet: locks, seats and references are to have tokens of it. Then each call of a shared table says
+//! what stands in its shard's record, and the laws hold of all threads at every moment.
+#![tactic(auto)]
+
+mod choosing;
+mod keeper;
+pub mod laws;
+mod naming;
+mod record;
+mod rules;
+mod telling;
+mod token;
+mod view;
+
+pub use keeper::Keeper;
+pub use naming::Naming;
+pub use record::{Opened, Record};
+pub use rules::{OneRecord, Sizes};
+pub use token::Token;
+pub use view::{Call, Caller, Part, View};
