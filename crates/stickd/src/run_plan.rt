@@ -180,9 +180,6 @@ fn read_metrics<'a>(arguments: &ArgMatches<'a>) -> Result<Option<Endpoint>, BadW
     }
 }
 
-/// The day of the program's release, as HAProxy's tools are told it.
-const RELEASE_DATE: &str = "2026/11/27";
-
 /// How long open connections may go on once the program is to stop, in ms.
 pub fn read_drain<'a>(arguments: &ArgMatches<'a>) -> Result<u64, BadWord<'a>> {
     Ok(read_timeout(arguments, DRAIN)?.unwrap_or(DRAIN_TIME))
