@@ -101,7 +101,7 @@ fn run<
 }
 
 /// Does what a command asks. The status is 1 where that fails, which is then said on standard error.
-fn run_command<R: ProxyRuntime + RandomSource + Files + Env + Input + Print + Eprint + AllocGlobal>(
+fn run_command<R: ProxyRuntime + RandomSource + Env + Input + Print>(
     rt: &R,
     matches: &ArgMatches<'_>,
 ) -> io::Result<ExitCode> {
@@ -271,7 +271,7 @@ fn report_bad_lines<R: Eprint>(rt: &R, bad: &BadLines) -> io::Result<()> {
 }
 
 /// Runs the proxy of a configuration, each of its tables kept as the command line says.
-fn serve<R: ProxyRuntime + RandomSource + Files + Print + Eprint + AllocGlobal>(
+fn serve<R: ProxyRuntime + RandomSource + Env + Print>(
     rt: &R,
     arguments: &ArgMatches<'_>,
 ) -> io::Result<ExitCode> {
