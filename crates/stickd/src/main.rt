@@ -24,7 +24,8 @@ use std::time::Clock;
 use std::{env, io, str};
 use stickd_ctl::{Ctl, Stop, Top, ask_running, show_top, stop_running};
 use stickd_input::{
-    Detail, Keeping, STATS, Telling, open_served, open_setup, read_command_line, read_file, read_keeping,
+    Detail, Keeping, STATS, Telling, open_served, open_setup, read_command_line, read_file,
+    read_keeping,
 };
 use stickd_script::{BadLines, FaultKind, ReplayFault, replay_script};
 use tcp_proxy::{ProxyRuntime, run_pooled};

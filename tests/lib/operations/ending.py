@@ -8,7 +8,7 @@ import time
 
 from lib.operations.watched import Watched, watched
 from lib.places import stickd
-from lib.proxy import PATIENCE, TABLE, TRACK, FarServer, is_closed, is_greeted, read_all, wait_for
+from lib.proxy import PATIENCE, TABLE, TRACK, FarServer, Server, greets, is_closed, is_greeted, read_all, wait_for
 
 SETTLED = r'settled www: (\d+) calls, 0 references\n'
 
@@ -101,14 +101,13 @@ class Interrupted(Blocking):
 def a_blocked_signal_drains():
     """SIGTERM, or SIGINT, that was blocked has it stop as `shutdown frontend` does; SIGTERM that wasn't ends it at once."""
     for made in (Blocking, Interrupted):
-        with FarServer() as server, made(server.port, [TABLE, TRACK], '--drain', '1m') as proxy:
-            client, far = server.joined(proxy)
-            proxy.program.send_signal(made.kind)
-            wait_for('newcomers are refused', lambda proxy=proxy: is_refused(proxy), within=2)
-            client.sendall(b'still')
-            assert far.recv(9) == b'still' and proxy.program.poll() is None
-            client.close()
-            far.close()
+        with Server(greets) as server, made(server.port, [TABLE, TRACK], '--drain', '1m') as proxy:
+            with proxy.connect() as client:
+                assert is_greeted(client)
+                proxy.program.send_signal(made.kind)
+                wait_for('newcomers are refused', lambda proxy=proxy: is_refused(proxy), within=2)
+                client.sendall(b'still')
+                assert proxy.program.poll() is None
             has_ended_well(proxy)
     with watched() as proxy:
         proxy.program.send_signal(signal.SIGTERM)

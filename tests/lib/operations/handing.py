@@ -4,12 +4,25 @@ import os
 import re
 import socket
 import subprocess
+import sys
 import tempfile
 import threading
 import time
 
 from lib.places import stickd
 from lib.proxy import PATIENCE, TABLE, TRACK, Server, free_port, greets, is_greeted, read_all, wait_for
+
+
+# A program that becomes another one, with descriptors from 3 on, and says by LISTEN_PID that they are its own.
+HANDS_OVER = '''
+import os, sys
+kept = [os.dup2(int(number), 200 + place) for place, number in enumerate(sys.argv[1].split(","))]
+for place, number in enumerate(kept):
+    os.dup2(number, 3 + place, inheritable=True)
+    os.close(number)
+os.environ["LISTEN_PID"] = str(os.getpid())
+os.execv(sys.argv[2], sys.argv[2:])
+'''
 
 
 class Manager:
@@ -34,16 +47,12 @@ class Manager:
 
     def start(self, *words, environment=None, threads=2):
         """A program with these sockets at descriptors 3 and up, as sd_listen_fds(3) has it."""
-        def hand_over():
-            kept = [os.dup2(stream.fileno(), 100 + number) for number, stream in enumerate(self.sockets)]
-            for number, descriptor in enumerate(kept):
-                os.dup2(descriptor, 3 + number, inheritable=True)
+        handed = [stream.fileno() for stream in self.sockets]
         words = [stickd(), 'run', self.conf, '--socket', self.path_of('commands'), '--threads', str(threads), '--stats-socket',
                  self.path_of('stats'), *words]
-        shell = ['sh', '-c', 'LISTEN_PID=$$; export LISTEN_PID; exec "$@"', 'sh', *words]
-        variables = {**os.environ, 'LISTEN_FDS': str(len(self.sockets)), 'LISTEN_FDNAMES': ':'.join(self.names), **(environment or {})}
-        return subprocess.Popen(shell, stdin=subprocess.DEVNULL, stdout=subprocess.PIPE, stderr=subprocess.PIPE, text=True, env=variables,
-                                preexec_fn=hand_over, pass_fds=[3 + number for number in range(len(self.sockets))])
+        variables = {**os.environ, 'LISTEN_FDS': str(len(handed)), 'LISTEN_FDNAMES': ':'.join(self.names), **(environment or {})}
+        return subprocess.Popen([sys.executable, '-c', HANDS_OVER, ','.join(map(str, handed)), *words], stdin=subprocess.DEVNULL,
+                                stdout=subprocess.PIPE, stderr=subprocess.PIPE, text=True, env=variables, pass_fds=handed)
 
     def asked(self, name, line):
         """What a line is answered on a socket."""

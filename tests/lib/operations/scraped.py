@@ -6,7 +6,7 @@ import threading
 import time
 
 from lib.operations.watched import watched
-from lib.proxy import PATIENCE, is_greeted, read_all, reset, wait_for
+from lib.proxy import PATIENCE, arrive, is_greeted, read_all, reset, wait_for
 
 ROUND = 25
 
@@ -57,8 +57,7 @@ def rounds_of(proxy, number, mine):
     for _ in range(ROUND):
         with proxy.connect(source) as first, proxy.connect(source) as second:
             mine['admitted'] += is_greeted(first) + is_greeted(second)
-            with proxy.connect(source) as third:
-                mine['rejected'] += not is_greeted(third)
+            mine['rejected'] += not is_greeted(arrive(proxy, source))
             reset(first)
         wait_for('they have gone', lambda: proxy.rows()[source]['use'] == 0, pause=0.005)
 

@@ -19,8 +19,8 @@ def a_line_is_answered_and_closed():
         assert proxy.told('show table') == table
         assert proxy.told('show table;show table') == 2 * table
         assert proxy.told('set table www key 10.0.0.1 data.conn_cnt 7;show table www').count('conn_cnt=7') == 1
-        assert proxy.told('show errors').startswith('Total events captured on ')
-        assert proxy.told('').strip() == ''
+        assert proxy.told('show errors') == '\n'
+        assert proxy.told('').startswith('Unknown command.')
         with proxy.stats_client() as stream:
             stream.sendall(b'show table\nshow table\n')
             assert read_all(stream).decode().count('# table: www') == 1, 'the second line is of no more interest'
@@ -74,7 +74,8 @@ def info_and_stat_count():
             assert info['Stopping'] == '0', info
             front, back = stat['FRONTEND'], stat['BACKEND']
             assert (front['pxname'], front['scur'], front['dcon'], front['status']) == ('www', '2', '3', 'OPEN'), front
-            assert front['stot'] == '5' and back['stot'] == '2' and stat['one']['stot'] == '2', stat
+            server = next(row for row in stat.values() if row['type'] == '2')
+            assert front['stot'] == '5' and back['stot'] == '2' and server['stot'] == '2', stat
         wait_for('none is open', lambda: proxy.info()['CurrConns'] == '0')
         assert int(proxy.stat()['FRONTEND']['bout']) == 2, proxy.stat()['FRONTEND']
 
