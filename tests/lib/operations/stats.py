@@ -75,7 +75,7 @@ def info_and_stat_count():
             front, back = stat['FRONTEND'], stat['BACKEND']
             assert (front['pxname'], front['scur'], front['dcon'], front['status']) == ('www', '2', '3', 'OPEN'), front
             server = next(row for row in stat.values() if row['type'] == '2')
-            assert front['stot'] == '5' and back['stot'] == '2' and server['stot'] == '2', stat
+            assert (front['stot'], front['conn_tot'], back['stot'], server['stot']) == ('2', '5', '2', '2'), stat
         wait_for('none is open', lambda: proxy.info()['CurrConns'] == '0')
         assert int(proxy.stat()['FRONTEND']['bout']) == 2, proxy.stat()['FRONTEND']
 
