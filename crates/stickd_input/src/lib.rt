@@ -2,8 +2,8 @@
 #![tactic(auto)]
 
 ghost use Rattle.std.specs.Prelude.{◌≡◌, ◌≤◌, [], IfOk, IfSome};
-ghost use Rattle.std.specs.Option.{option_map_or};
-ghost use Rattle.rule_model.specs.declared.sections.Section.{Section};
+ghost use Rattle.std.specs.Option.{option_map, option_map_or};
+ghost use Rattle.rule_model.specs.declared.sections.Section.{Section as SectionSpec};
 ghost use Rattle.rule_model.specs.Served.{AreTables, AreTableSpecs, proxy_of, setup_of as served_by};
 ghost use Rattle.rule_warnings.specs.Warnings.{table_warnings as warnings_for};
 ghost use Rattle.admit_drive.specs.Tables.{CanOpen};
@@ -33,7 +33,7 @@ pub use options::{
     STATS,
 };
 use rule_config::{ConfigFault, read_config};
-use rule_model::{Config, Name, NamedSpec, ReadError, Setup};
+use rule_model::{Config, Name, NamedSpec, ReadError, Section, Setup};
 use rule_warnings::{Warning, file_warnings, table_warnings};
 use std::alloc::Global;
 use std::rt::Files;
@@ -283,16 +283,26 @@ pub struct ServedSetup {
     pub frontend: Name,
 }
 
-/// The name of the section that is served: empty where none listens.
-fn frontend_of(alloc: Global, config: &Config) -> Result<Name, NoMemory>
-    ensures { IfOk result (λ name. name ≡ option_map_or (λ (section : Section). section.name) (proxy_of config.now.sections) []) }
+/// The first section that listens.
+fn first_frontend(sections: &[Section]) -> Option<&Section>
+    ensures { option_map (λ section. section.now) result ≡ proxy_of sections.now }
 {
-    for section in config.sections.as_slice() {
+    for section in sections {
         if section.kind.has_frontend() {
-            return section.name.copy();
+            return Some(section);
         }
     }
-    Ok(Name::new(alloc))
+    None
+}
+
+/// The name of a section that is served: empty where none is.
+fn name_of_frontend(alloc: Global, frontend: Option<&Section>) -> Result<Name, NoMemory>
+    ensures { IfOk result (λ name. name ≡ option_map_or (λ (section : SectionSpec). section.name) (option_map (λ section. section.now) frontend) []) }
+{
+    match frontend {
+        Some(section) => section.name.copy(),
+        None => Ok(Name::new(alloc)),
+    }
 }
 
 /// What the proxy serves of a configuration, each table kept in this way. What lines of it say that comes to nothing is said too.
@@ -309,7 +319,8 @@ pub fn open_served<R: Files + Eprint + AllocGlobal>(
     let Some(config) = read_file(rt, path, Telling::First, Detail::Started)? else {
         return Ok(None);
     };
-    let Ok(frontend) = frontend_of(rt.alloc(), &config) else {
+    let served = first_frontend(config.sections.as_slice());
+    let Ok(frontend) = name_of_frontend(rt.alloc(), served) else {
         eprintln!(rt; "stickd: out of memory")?;
         return Ok(None);
     };
