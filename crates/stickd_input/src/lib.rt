@@ -297,7 +297,7 @@ fn first_frontend(sections: &[Section]) -> Option<&Section>
 
 /// The name of a section that is served: empty where none is.
 fn name_of_frontend(alloc: Global, frontend: Option<&Section>) -> Result<Name, NoMemory>
-    ensures { IfOk result (λ name. name ≡ option_map_or (λ (section : SectionSpec). section.name) (option_map (λ section. section.now) frontend) []) }
+    ensures { IfOk result (λ name. name ≡ option_map_or (λ (section : SectionSpec). section.name) (option_map (λ section. section.now) frontend.entry) []) }
 {
     match frontend {
         Some(section) => section.name.copy(),
