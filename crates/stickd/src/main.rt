@@ -3,6 +3,7 @@
 #![tactic(auto)]
 
 ghost use Rattle.std.specs.Prelude.{◌≤◌};
+ghost use Rattle.rule_model.specs.Served.{AreTables};
 
 mod run_plan;
 
@@ -11,6 +12,7 @@ use base_sequence::NoMemory;
 use byte_ports::{StreamSink, StreamSource};
 use clap::ArgMatches;
 use log::Log;
+use rule_model::Config;
 use run_plan::{BadWord, read_binds, read_drain, read_plan};
 use service_manager::read_surroundings;
 use std::alloc::Global;
@@ -24,11 +26,11 @@ use std::time::Clock;
 use std::{env, io, str};
 use stickd_ctl::{Ctl, Stop, Top, ask_running, show_top, stop_running};
 use stickd_input::{
-    Detail, Keeping, STATS, Telling, open_served, open_setup, read_command_line, read_file,
-    read_keeping,
+    Detail, Keeping, STATS, Telling, frontend_name, open_served, open_setup, read_command_line,
+    read_file, read_keeping, read_served,
 };
 use stickd_script::{BadLines, FaultKind, ReplayFault, replay_script};
-use tcp_proxy::{ProxyRuntime, run_pooled};
+use tcp_proxy::{Plan, ProxyRuntime, run_pooled};
 
 /// The status of a bad command line.
 const BAD_COMMAND_LINE: u8 = 2;
@@ -280,17 +282,36 @@ fn serve<R: ProxyRuntime + RandomSource + Env + Print>(
         Ok(binds) => binds,
         Err(bad) => return refuse(rt, bad),
     };
-    let mut plan = match read_plan(arguments, binds.as_slice(), read_surroundings(rt)) {
+    let plan = match read_plan(arguments, binds.as_slice(), read_surroundings(rt)) {
         Ok(plan) => plan,
         Err(bad) => return refuse(rt, bad),
     };
     let path = arguments.get_str("FILE").unwrap_or("");
-    let Some(served) = open_served(rt, path, read_keeping(arguments))? else {
+    match read_served(rt, path)? {
+        Some(config) => serve_config(rt, &config, read_keeping(arguments), plan),
+        None => Ok(ExitCode::FAILURE),
+    }
+}
+
+/// Runs the proxy of a configuration that was read.
+fn serve_config<'a, R: ProxyRuntime + RandomSource + Print>(
+    rt: &R,
+    config: &'a Config,
+    keeping: Keeping,
+    mut plan: Plan<'a>,
+) -> io::Result<ExitCode>
+    requires tables { AreTables config.now.sections }
+    requires shards { (1 ≤ keeping.shards) × (keeping.shards ≤ 64) }
+    requires purge { (1 ≤ keeping.purge) × (keeping.purge ≤ 1024) }
+    requires threads { (1 ≤ plan.threads) × (plan.threads ≤ 64) }
+    requires clients { (1 ≤ plan.socket.clients) × (plan.socket.clients ≤ 64) }
+{
+    let Some(setup) = open_served(rt, config, keeping)? else {
         return Ok(ExitCode::FAILURE);
     };
     // A name is made of ASCII letters, digits and a few signs.
-    plan.watch.about.frontend = str::from_utf8(served.frontend.as_slice()).unwrap_or("");
-    let is_done = run_pooled(rt.alloc(), rt, &served.setup, plan)?;
+    plan.watch.about.frontend = str::from_utf8(frontend_name(config)).unwrap_or("");
+    let is_done = run_pooled(rt.alloc(), rt, &setup, plan)?;
     Ok(status_of(is_done))
 }
 

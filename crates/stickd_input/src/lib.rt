@@ -275,14 +275,6 @@ pub fn open_setup<R: Files + Eprint + AllocGlobal>(
     kept_so(rt, made, keeping)
 }
 
-/// What the proxy serves, and under which name.
-#[derive(Drop)]
-pub struct ServedSetup {
-    pub setup: Setup,
-    /// The name of the section that listens; empty where none does.
-    pub frontend: Name,
-}
-
 /// The first section that listens.
 fn first_frontend(sections: &[Section]) -> Option<&Section>
     ensures { option_map (λ section. section.now) result ≡ proxy_of sections.now }
@@ -295,38 +287,37 @@ fn first_frontend(sections: &[Section]) -> Option<&Section>
     None
 }
 
-/// The name of a section that is served: empty where none is.
-fn name_of_frontend(alloc: Global, frontend: Option<&Section>) -> Result<Name, NoMemory>
-    ensures { IfOk result (λ name. name ≡ option_map_or (λ (section : SectionSpec). section.name) (option_map (λ section. section.now) frontend.entry) []) }
+/// The name of the section that is served: empty where none listens.
+pub fn frontend_name(config: &Config) -> &[u8]
+    ensures { result.now ≡ option_map_or (λ (section : SectionSpec). section.name) (proxy_of config.now.sections) [] }
 {
-    match frontend {
-        Some(section) => section.name.copy(),
-        None => Ok(Name::new(alloc)),
+    match first_frontend(config.sections.as_slice()) {
+        Some(section) => section.name.as_slice(),
+        None => b"",
     }
 }
 
-/// What the proxy serves of a configuration, each table kept in this way. What lines of it say that comes to nothing is said too.
-/// None where that can't be had, which is said on standard error.
-pub fn open_served<R: Files + Eprint + AllocGlobal>(
+/// Reads a configuration for the proxy: as `read_file`, and what lines of it say that comes to nothing is said too.
+pub fn read_served<R: Files + Eprint + AllocGlobal>(
     rt: &R,
     path: &str,
+) -> io::Result<Option<Config>>
+    ensures { IfOk result (λ read. IfSome read (λ config. AreTables config.sections)) }
+{
+    read_file(rt, path, Telling::First, Detail::Started)
+}
+
+/// What the proxy serves of a configuration, each table kept in this way. None where that can't be had, which is said on standard
+/// error.
+pub fn open_served<R: Eprint + AllocGlobal>(
+    rt: &R,
+    config: &Config,
     keeping: Keeping,
-) -> io::Result<Option<ServedSetup>>
+) -> io::Result<Option<Setup>>
+    requires tables { AreTables config.now.sections }
     requires shards { (1 ≤ keeping.shards) × (keeping.shards ≤ 64) }
     requires purge { (1 ≤ keeping.purge) × (keeping.purge ≤ 1024) }
-    ensures { IfOk result (λ opened. IfSome opened (λ served. CanOpen served.setup)) }
+    ensures { IfOk result (λ opened. IfSome opened CanOpen) }
 {
-    let Some(config) = read_file(rt, path, Telling::First, Detail::Started)? else {
-        return Ok(None);
-    };
-    let served = first_frontend(config.sections.as_slice());
-    let Ok(frontend) = name_of_frontend(rt.alloc(), served) else {
-        eprintln!(rt; "stickd: out of memory")?;
-        return Ok(None);
-    };
-    let made = setup_of(rt.alloc(), &config, keeping.shards);
-    match kept_so(rt, made, keeping)? {
-        Some(setup) => Ok(Some(ServedSetup { setup, frontend })),
-        None => Ok(None),
-    }
+    kept_so(rt, setup_of(rt.alloc(), config, keeping.shards), keeping)
 }
