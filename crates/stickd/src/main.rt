@@ -14,7 +14,6 @@ use clap::ArgMatches;
 use log::Log;
 use rule_model::Config;
 use run_plan::{BadWord, read_binds, read_drain, read_plan};
-use service_manager::read_surroundings;
 use std::alloc::Global;
 use std::net::{Net, TcpListener, TcpStream};
 use std::process::ExitCode;
@@ -31,6 +30,7 @@ use stickd_input::{
 };
 use stickd_script::{BadLines, FaultKind, ReplayFault, replay_script};
 use tcp_proxy::{Plan, ProxyRuntime, run_pooled};
+use tcp_watch::read_surroundings;
 
 /// The status of a bad command line.
 const BAD_COMMAND_LINE: u8 = 2;

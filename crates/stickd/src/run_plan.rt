@@ -6,7 +6,6 @@ ghost use Rattle.rule_addresses.specs.Addresses.{bind_of};
 use clap::ArgMatches;
 use rule_addresses::{Endpoint, read_bind};
 use rule_words::read_time;
-use service_manager::Surroundings;
 use std::alloc::Global;
 use stickd_input::{
     BIND, CLIENT, CONNECT, DRAIN, FIN, KEEPALIVE, LOG_REJECTED, METRICS, REPORT, SERVER, SOCKET,
@@ -16,6 +15,7 @@ use table_socket::read_mode;
 use tcp_link::{Keepalive, Timeouts};
 use tcp_proxy::{About, Plan, SocketPlan, StatsPlan, WatchPlan};
 use tcp_relay::Limits;
+use tcp_watch::Surroundings;
 
 /// How long a server may take to accept a connection where that isn't said, in ms.
 const CONNECT_TIME: u64 = 5_000;

@@ -14,3 +14,4 @@ mod tables;
 pub use fault::{CliFault, CliFaultKind};
 pub use serve::answer;
 pub use service::CommandService;
+pub use tables::count_entries;

@@ -1,4 +1,5 @@
-//! The headers of all tables, for `show table` alone; `answer` calls it.
+//! The headers of all tables, for `show table` alone, and how many entries a table has; `answer` calls it, and the stats of
+//! `tcp_watch`.
 
 ghost use Rattle.std.specs.Prelude.{◌≡◌, ◌<◌, ◌^◌, ◌++◌, List, Option, Some, None, MatchResult};
 ghost use Rattle.std.specs.List.{range_with_len};
@@ -29,6 +30,21 @@ fn used_of(reply: &Reply) -> u64
     }
 }
 
+/// How many entries a table has: each of its shards is asked in turn.
+pub fn count_entries<K: Keeper>(keeper: &mut K, moment: u64) -> Result<u64, Message>
+    requires { moment < 2 ^ 62 }
+    ensures table { K.table keeper.new ≡ K.table keeper.old }
+    ensures parts { K.parts keeper.new ≡ K.parts keeper.old }
+    ensures asks { (replies : List ItsReply) × (end : Option ItsMessage)
+        × AsksInTurn K.answers K.refuses (ListRows moment filters.Nothing) (range_with_len 0 (K.parts keeper.old)) (K.state keeper.old) replies end (K.state keeper.new)
+        × MatchResult result (λ used. (end ≡ None) × (used ≡ specified_used (total replies))) (λ message. end ≡ Some message) }
+{
+    match ask(keeper, Event::List(moment, Filter::Nothing)) {
+        Ok(reply) => Ok(used_of(&reply)),
+        Err(message) => Err(message),
+    }
+}
+
 /// Asks all shards of a table how many entries they have, and appends its header.
 fn push_head<K: Keeper>(
     named: &mut Named<K>,
@@ -44,8 +60,8 @@ fn push_head<K: Keeper>(
         × MatchResult result (λ _. (end ≡ None) × (text.new.items ≡ text.old.items ++ header_text named.old.name (K.table named.old.keeper).kind (K.table named.old.keeper).size (specified_used (total replies))))
         (λ message. end ≡ Some message) }
 {
-    let used = match ask(&mut named.keeper, Event::List(moment, Filter::Nothing)) {
-        Ok(reply) => used_of(&reply),
+    let used = match count_entries(&mut named.keeper, moment) {
+        Ok(used) => used,
         Err(message) => return Err(message),
     };
     let spec = named.keeper.spec();

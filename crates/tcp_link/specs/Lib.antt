@@ -1,7 +1,9 @@
 pub mod Addresses
 pub mod Aheads
 pub mod Closing
+pub mod ConnectFaults
 pub mod Keepalives
+pub mod Lateness
 pub mod Links
 pub mod Retries
 pub mod Silence

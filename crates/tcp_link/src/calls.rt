@@ -1,4 +1,4 @@
-//! The error of a system call that has failed; `Keepalive` and `ServerSocket` check their calls by it.
+//! The error of a system call that has failed, and its number; `Keepalive`, `ServerSocket` and `End` go by it.
 
 ghost use Rattle.std.specs.Prelude.{◌↔◌, pos, ◌≤ℤ◌, IsOk};
 
@@ -12,5 +12,13 @@ pub(crate) fn checked(answer: i32) -> io::Result<()>
         Err(io::Error::from_raw_os_error(os::errno()))
     } else {
         Ok(())
+    }
+}
+
+/// The number of an error of the system, or 0 where it isn't the system's.
+pub(crate) fn number_of(error: &io::Error) -> u32 {
+    match error.raw_os_error() {
+        Some(number) => number.unsigned_abs(),
+        None => 0,
     }
 }

@@ -4,10 +4,12 @@ ghost use Rattle.std.specs.Prelude.{◌≡◌, false, max, true};
 ghost use Rattle.tcp_link.specs.Silence.{heard_last, is_silent};
 ghost use Rattle.tcp_link.specs.Tokens.{Tells, number_of, side_of, token};
 
+use crate::calls::number_of;
 use crate::reset;
 use mio::net::TcpStream;
 use mio::{Interest, Registry, Token};
-use std::io;
+use std::cell::Cell;
+use std::io::{self, ErrorKind};
 use std::net::{Net, Shutdown};
 
 /// That bytes are reported, and urgent ones among them: a read stops short of those, and what lies behind them would wait.
@@ -60,6 +62,8 @@ pub(crate) struct End {
     pub(crate) is_told: bool,
     /// When something passed last, in ms.
     pub(crate) heard: u64,
+    /// The number of the first error that a read, a write or a connect gave, if one has failed.
+    error: Cell<Option<u32>>,
 }
 
 impl End {
@@ -76,6 +80,27 @@ impl End {
             watches_room: false,
             is_told: false,
             heard: moment,
+            error: Cell::new(None),
+        }
+    }
+
+    /// The number of its first error, if it has one (errno(3)).
+    pub(crate) fn error(&self) -> Option<u32> {
+        self.error.get()
+    }
+
+    /// Keeps the number of an error, if it is the first. The system tells it once.
+    pub(crate) fn note(&self, number: u32) {
+        if self.error.get().is_none() {
+            self.error.set(Some(number));
+        }
+    }
+
+    /// The same of an error of a read or a write. That nothing is there yet, or no room, isn't kept.
+    pub(crate) fn note_error(&self, error: &io::Error) {
+        match error.kind() {
+            ErrorKind::WouldBlock | ErrorKind::Interrupted => {}
+            _ => self.note(number_of(error)),
         }
     }
 

@@ -5,27 +5,27 @@ ghost use Rattle.std.specs.Io.{ReadsAtMost};
 ghost use Rattle.tcp_link.specs.Aheads.{is_last};
 
 use crate::Ahead;
-use mio::net::TcpStream;
+use crate::end::End;
 use std::io;
 use std::io::Read;
 
 /// What a peer sends. Where all of it is there already, the read behind the last needs no call of the system to find the end.
 #[derive(Drop)]
 pub(crate) struct Incoming<'a> {
-    socket: &'a TcpStream,
+    end: &'a End,
     ahead: Ahead,
     /// Whether the last read was made.
     is_empty: bool,
 }
 
 impl<'a> Incoming<'a> {
-    /// What comes through a socket, of which so much is known.
-    pub(crate) fn new(socket: &'a TcpStream, ahead: Ahead) -> Incoming<'a>
+    /// What comes through an end's socket, of which so much is known.
+    pub(crate) fn new(end: &'a End, ahead: Ahead) -> Incoming<'a>
         ensures ahead { result.ahead ≡ ahead }
         ensures empty { result.is_empty ≡ false }
     {
         Incoming {
-            socket,
+            end,
             ahead,
             is_empty: false,
         }
@@ -42,10 +42,17 @@ impl<'a> Incoming<'a> {
         if self.is_empty {
             return Ok(0);
         }
-        let mut socket = self.socket;
-        let count = socket.read(buffer)?;
-        self.is_empty = self.ahead.is_last() && count < buffer.len();
-        Ok(count)
+        let mut socket = &self.end.socket;
+        match socket.read(buffer) {
+            Ok(count) => {
+                self.is_empty = self.ahead.is_last() && count < buffer.len();
+                Ok(count)
+            }
+            Err(error) => {
+                self.end.note_error(&error);
+                Err(error)
+            }
+        }
     }
 }
 

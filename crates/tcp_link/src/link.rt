@@ -1,18 +1,19 @@
 //! A connection between two sockets: it begins, has turns, and closes; `tcp_relay` calls it for each admitted client.
 
-ghost use Rattle.std.specs.Prelude.{◌≡◌, ◌≢◌, ◌<◌, ◌||◌, not, true, false, IfNone, IfSome, IsTrue, OnOk};
+ghost use Rattle.std.specs.Prelude.{◌≡◌, ◌≢◌, ◌<◌, ◌||◌, not, true, false, IfErr, IfOk, IsTrue, OnOk};
 ghost use Rattle.tcp_link.specs.Closing.{closing};
 ghost use Rattle.tcp_link.specs.Links.{AdvancesIfItWaited, HandsOn, IsHeard, IsWatched, KeepsWhatIsKnown, bytes, has_ended, has_passed, is_held_up, is_late, is_over, must_be_accepted, opened, owes_client, owes_server, waits, way_from, way_to};
 ghost use Rattle.tcp_link.specs.Retries.{IfTried, IsRefused, fails_unread, may_retry, noted, refused_at, tells_refusal};
 ghost use Rattle.tcp_link.specs.Silence.{heard_last};
 ghost use Rattle.tcp_link.specs.Ways.{Advances, IsWay, told_also};
 
+mod ending;
 mod retrying;
 
 use crate::closing::Closing;
 use crate::end::{End, Side};
 use crate::way::Way;
-use crate::{Buffer, Ready, ServerSocket, Timeouts};
+use crate::{Buffer, ConnectFault, Ready, ServerSocket, Timeouts};
 use mio::Registry;
 use mio::net::TcpStream;
 use std::alloc::Global;
@@ -51,7 +52,7 @@ impl Model for Link {
 
 impl Link {
     /// Begins to connect a client to its server, at a moment in ms. A server that refuses may be tried again so many times.
-    /// Where the system says at once that it can't connect, it waits for the first of these, or there is None if there are none.
+    /// Where the system says at once that it can't connect, it waits for the first of these, or that is an error if there are none.
     pub fn open(
         _rt: &impl Net,
         alloc: Global,
@@ -59,18 +60,19 @@ impl Link {
         server: ServerSocket,
         moment: u64,
         retries: u32,
-    ) -> Option<Link>
-        ensures open { IfSome result (λ link. waits link ≡ false → link ≡ opened moment retries) }
-        ensures refused { IfSome result (λ link. waits link ≡ true → (0 < retries) × (link ≡ refused_at moment (opened moment retries))) }
-        ensures none { IfNone result (retries ≡ 0) }
+    ) -> Result<Link, ConnectFault>
+        ensures open { IfOk result (λ link. waits link ≡ false → link ≡ opened moment retries) }
+        ensures refused { IfOk result (λ link. waits link ≡ true → (0 < retries) × (link ≡ refused_at moment (opened moment retries))) }
+        ensures last { IfErr result (λ _. retries ≡ 0) }
     {
         match server.connect() {
-            Ok(socket) => Some(Link::new(alloc, client, socket, moment, retries)),
-            Err(_) if retries == 0 => None,
-            Err(socket) => {
-                let mut link = Link::new(alloc, client, socket, moment, retries);
+            Ok(socket) => Ok(Link::new(alloc, client, socket, moment, retries)),
+            Err(refusal) if retries == 0 => Err(refusal.fault()),
+            Err(refusal) => {
+                let mut link = Link::new(alloc, client, refusal.socket, moment, retries);
+                link.server.note(refusal.number);
                 link.refuse(moment);
-                Some(link)
+                Ok(link)
             }
         }
     }

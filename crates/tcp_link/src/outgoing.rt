@@ -2,31 +2,31 @@
 
 ghost use Rattle.std.specs.Prelude.{◌≡◌, true, false};
 
-use mio::net::TcpStream;
+use crate::end::End;
 use std::io::{self, ErrorKind, Write};
 
 /// A receiver of bytes. A server that may still refuse them takes none before it has accepted the connection: a write to one that
 /// has refused fails, and what it should have written would be lost.
 #[derive(Drop)]
 pub(crate) struct Outgoing<'a> {
-    socket: &'a TcpStream,
+    end: &'a End,
     /// Whether the system is asked before a write whether it is connected.
     is_asked: bool,
 }
 
 impl<'a> Outgoing<'a> {
-    /// The receiver behind a socket, which may not be connected where it is asked first.
-    pub(crate) fn new(socket: &'a TcpStream, is_asked: bool) -> Outgoing<'a>
+    /// The receiver behind an end's socket, which may not be connected where it is asked first.
+    pub(crate) fn new(end: &'a End, is_asked: bool) -> Outgoing<'a>
         ensures { result.is_asked ≡ is_asked }
     {
-        Outgoing { socket, is_asked }
+        Outgoing { end, is_asked }
     }
 
     /// Whether it may be written to.
     fn is_open(&self) -> bool
         ensures { self.now.is_asked ≡ false → result ≡ true }
     {
-        !self.is_asked || self.socket.peer_addr().is_ok()
+        !self.is_asked || self.end.socket.peer_addr().is_ok()
     }
 }
 
@@ -36,8 +36,14 @@ impl Write for Outgoing<'_> {
         if !self.is_open() {
             return Err(io::Error::from(ErrorKind::WouldBlock));
         }
-        let mut socket = self.socket;
-        socket.write(bytes)
+        let mut socket = &self.end.socket;
+        match socket.write(bytes) {
+            Ok(count) => Ok(count),
+            Err(error) => {
+                self.end.note_error(&error);
+                Err(error)
+            }
+        }
     }
 
     fn flush(&mut self) -> io::Result<()> {

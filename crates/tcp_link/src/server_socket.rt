@@ -1,10 +1,11 @@
 //! A socket that isn't connected to its server yet; `tcp_relay` opens one before it accepts a client.
 
 ghost use Rattle.std.specs.Prelude.{◌≡◌, IfOk};
+ghost use Rattle.tcp_link.specs.ConnectFaults.{refused_for};
 
-use crate::Keepalive;
 use crate::address::{encode, family};
-use crate::calls::checked;
+use crate::calls::{checked, number_of};
+use crate::{ConnectFault, Keepalive, connect_fault_of};
 use libc::EINPROGRESS;
 use libc::net::{SOCK_CLOEXEC, SOCK_NONBLOCK, SOCK_STREAM, connect, socket};
 use mio::net::TcpStream;
@@ -38,14 +39,33 @@ impl ServerSocket {
         Ok(ServerSocket { socket, server })
     }
 
-    /// Begins to connect it. Where the system says at once that it can't, the socket is given back as an error.
-    pub(crate) fn connect(self) -> Result<TcpStream, TcpStream> {
+    /// Begins to connect it. Where the system says at once that it can't, the socket is given back with the error.
+    pub(crate) fn connect(self) -> Result<TcpStream, Refusal> {
         let ServerSocket { socket, server } = self;
         let (address, size) = encode(server);
         match checked(unsafe { connect(socket.as_raw_fd(), &address, size) }) {
-            Err(error) if error.raw_os_error() != Some(EINPROGRESS) => Err(socket),
+            Err(error) if error.raw_os_error() != Some(EINPROGRESS) => Err(Refusal {
+                socket,
+                number: number_of(&error),
+            }),
             _ => Ok(socket),
         }
+    }
+}
+
+/// A socket that the system refused to connect at once, and the number of its error.
+#[derive(Drop)]
+pub(crate) struct Refusal {
+    pub(crate) socket: TcpStream,
+    pub(crate) number: u32,
+}
+
+impl Refusal {
+    /// Why it couldn't be connected.
+    pub(crate) fn fault(&self) -> ConnectFault
+        ensures { result ≡ refused_for self.now.number }
+    {
+        connect_fault_of(self.number).unwrap_or(ConnectFault::Other)
     }
 }
 

@@ -80,8 +80,8 @@ impl Way {
         if self.direction.is_over() {
             return;
         }
-        let mut reader = ReadyStream::new(Incoming::new(&from.socket, self.ahead));
-        let mut writer = ReadyStream::new(Outgoing::new(&to.socket, is_asked));
+        let mut reader = ReadyStream::new(Incoming::new(from, self.ahead));
+        let mut writer = ReadyStream::new(Outgoing::new(to, is_asked));
         let bytes = buffer.bytes.as_mut_slice();
         let until_end = self.ahead != Ahead::More;
         self.step = self

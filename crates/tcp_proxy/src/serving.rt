@@ -95,5 +95,6 @@ fn serve_where<T: Table + Send, R: ProxyRuntime>(
         shared.limits,
         shared.stop_after,
         shared.start,
+        shared.running.control,
     )
 }

@@ -4,3 +4,4 @@ pub mod SeatingLemmas
 pub mod ServingLemmas
 mod LookLemmas
 mod ShareLemmas
+mod DrainLemmas

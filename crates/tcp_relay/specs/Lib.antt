@@ -1,10 +1,13 @@
 pub mod Accepting
 pub mod Addresses
+pub mod Connections
+pub mod Counting
 pub mod Counts
+pub mod Draining
+pub mod Fates
 pub mod ListenerTurns
 pub mod Listening
 pub mod Numbers
 pub mod Seating
 pub mod Serving
 pub mod Sweeps
-pub mod Connections

@@ -1,7 +1,7 @@
 //! What an error of accepting a client means; `turning` asks it, and `Acceptor` goes by it.
 
 ghost use Rattle.std.specs.Prelude.{◌≡◌};
-ghost use Rattle.tcp_relay.specs.Accepting.{fault_of, is_of_one_client};
+ghost use Rattle.tcp_relay.specs.Accepting.{fault_of, heard_as, is_of_one_client, shortage_of};
 
 /// What an error of accepting a client means (accept(2)).
 #[derive(Clone, Copy, Debug, PartialEq, Eq)]
@@ -13,7 +13,43 @@ pub(crate) enum AcceptFault {
     /// A client came whose address can't be read, and was closed.
     Unreadable,
     /// The system is short of descriptors or memory, or can't go on for another reason. It is tried again after a while.
-    Short,
+    Short(Shortage),
+}
+
+impl AcceptFault {
+    /// What it means where a drain has begun, or hasn't: a listener that was shut fails as if the system were short.
+    pub(crate) fn heard(self, is_draining: bool) -> AcceptFault
+        ensures { result ≡ heard_as is_draining self }
+    {
+        match self {
+            AcceptFault::Short(_) if is_draining => AcceptFault::NoneWaits,
+            fault => fault,
+        }
+    }
+}
+
+/// What the system is short of.
+#[derive(Clone, Copy, Debug, PartialEq, Eq)]
+pub(crate) enum Shortage {
+    Descriptors,
+    Memory,
+    /// It can't go on for another reason.
+    Other,
+}
+
+/// What the system is short of, by an error's number (accept(2), socket(2)).
+pub(crate) fn shortage_of(code: u32) -> Shortage
+    ensures { result ≡ shortage_of code }
+{
+    // ENFILE, EMFILE
+    if code == 23 || code == 24 {
+        return Shortage::Descriptors;
+    }
+    // ENOMEM, ENOBUFS
+    if code == 12 || code == 105 {
+        return Shortage::Memory;
+    }
+    Shortage::Other
 }
 
 /// Whether an error, by its number, is of one client that is gone.
@@ -48,5 +84,5 @@ pub(crate) fn fault_of(code: Option<u32>) -> AcceptFault
     if is_of_one_client(code) {
         return AcceptFault::Gone;
     }
-    AcceptFault::Short
+    AcceptFault::Short(shortage_of(code))
 }

@@ -1,10 +1,11 @@
 //! When a worker accepts clients, and how long it may wait; `turning` asks it in each turn.
 
-ghost use Rattle.std.specs.Prelude.{◌≡◌, ◌≢◌, ◌&&◌, true, false, is_some};
-ghost use Rattle.tcp_relay.specs.Accepting.{can_accept, pause_of};
+ghost use Rattle.std.specs.Prelude.{◌≡◌, ◌≢◌, ◌&&◌, true, false, is_some, IsOk};
+ghost use Rattle.tcp_relay.specs.Accepting.{can_accept, is_shortage, pause_of};
 
-use crate::accept_errors::AcceptFault;
+use crate::accept_errors::{AcceptFault, Shortage, shortage_of};
 use crate::connection_counter::ConnectionCounter;
+use std::io;
 use std::net::{Net, SocketAddr};
 use std::sync::Wait;
 use tcp_link::{Keepalive, ServerSocket};
@@ -15,6 +16,7 @@ pub(crate) enum Pause {
     NotAtAll,
     /// A tick at most.
     Tick,
+    /// Until something is ready, or a drain begins.
     UntilReady,
 }
 
@@ -56,6 +58,21 @@ impl Acceptor {
             self.number = counter.draw(rt);
         }
         self.is_closed = self.number.is_none();
+    }
+
+    /// A drain has begun: no number more is drawn, the one that is drawn is given up, and so is the socket for a server.
+    pub(crate) fn stop(&mut self)
+        ensures stopped { (is_some self.new.number ≡ false) × (self.new.is_closed ≡ true) }
+        ensures given_back { is_some self.new.server ≡ false }
+        ensures told { (self.new.may_have ≡ self.old.may_have) × (self.new.is_short ≡ self.old.is_short) }
+    {
+        *self = Acceptor {
+            number: None,
+            is_closed: true,
+            may_have: self.may_have,
+            is_short: self.is_short,
+            server: None,
+        };
     }
 
     /// The number of the next connection, if it is drawn.
@@ -102,9 +119,9 @@ impl Acceptor {
     pub(crate) fn hear_of_fault(&mut self, fault: AcceptFault)
         ensures none { fault ≡ AcceptFault.NoneWaits → self.new.may_have ≡ false }
         ensures some { fault ≢ AcceptFault.NoneWaits → self.new.may_have ≡ self.old.may_have }
-        ensures short { fault ≡ AcceptFault.Short → self.new.is_short ≡ true }
-        ensures given_back { fault ≡ AcceptFault.Short → is_some self.new.server ≡ false }
-        ensures going { fault ≢ AcceptFault.Short → self.new.is_short ≡ self.old.is_short }
+        ensures short { is_shortage fault ≡ true → self.new.is_short ≡ true }
+        ensures given_back { is_shortage fault ≡ true → is_some self.new.server ≡ false }
+        ensures going { is_shortage fault ≡ false → self.new.is_short ≡ self.old.is_short }
         ensures unreadable { fault ≡ AcceptFault.Unreadable → is_some self.new.number ≡ false }
         ensures number { fault ≢ AcceptFault.Unreadable → self.new.number ≡ self.old.number }
     {
@@ -112,7 +129,7 @@ impl Acceptor {
             AcceptFault::NoneWaits => self.may_have = false,
             AcceptFault::Gone => {}
             AcceptFault::Unreadable => self.number = None,
-            AcceptFault::Short => {
+            AcceptFault::Short(_) => {
                 self.is_short = true;
                 // Another worker may have what is missing here, and miss this one.
                 self.server = None;
@@ -156,27 +173,40 @@ impl Acceptor {
         )
     }
 
-    /// Has a socket at hand for the server there. False where the system is short of what that takes.
+    /// Has a socket at hand for the server there. An error says what the system is short of for that.
     pub(crate) fn ready_server(
         &mut self,
         rt: &impl Net,
         server: SocketAddr,
         keepalive: Option<Keepalive>,
-    ) -> bool
-        ensures ready { result ≡ true → is_some self.new.server ≡ true }
+    ) -> Result<(), Shortage>
+        ensures ready { IsOk result → is_some self.new.server ≡ true }
         ensures same { (self.new.number ≡ self.old.number) × (self.new.may_have ≡ self.old.may_have) }
-        ensures short { result ≡ true → self.new.is_short ≡ self.old.is_short }
+        ensures short { IsOk result → self.new.is_short ≡ self.old.is_short }
     {
         if self.server.is_some() {
-            return true;
+            return Ok(());
         }
-        self.server = ServerSocket::open(rt, server, keepalive).ok();
-        self.server.is_some()
+        match ServerSocket::open(rt, server, keepalive) {
+            Ok(socket) => {
+                self.server = Some(socket);
+                Ok(())
+            }
+            Err(error) => Err(shortage_in(&error)),
+        }
     }
 
     /// The socket for a client's server, which is its own now.
     pub(crate) fn take_server(&mut self) -> Option<ServerSocket> {
         self.server.take()
+    }
+}
+
+/// What the system is short of, as an error says it.
+fn shortage_in(error: &io::Error) -> Shortage {
+    match error.raw_os_error() {
+        Some(code) => shortage_of(code.unsigned_abs()),
+        None => Shortage::Other,
     }
 }
 

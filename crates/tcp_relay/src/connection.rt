@@ -10,7 +10,7 @@ use admit_core::Conn;
 use mio::Registry;
 use shard_book::TrackRef;
 use std::marker::PhantomData;
-use tcp_link::{Buffer, Link, Ready, ServerSocket, Timeouts};
+use tcp_link::{Buffer, Lateness, Link, Ready, ServerSocket, Timeouts};
 
 /// A connection that a worker holds: its sockets as long as it is open; without them, it holds references of which a release
 /// was refused.
@@ -95,12 +95,17 @@ impl<'a, W: Width> Connection<'a, W> {
         }
     }
 
-    /// Whether it is open, and a peer of it has been silent for longer than it may, at a moment in ms. Silence counts from `since` on
-    /// at the earliest.
-    pub(crate) fn is_late(&mut self, moment: u64, since: u64, timeouts: &Timeouts) -> bool {
+    /// Which timeout is over, where it is open and a peer of it has been silent for longer than it may, at a moment in ms. Silence
+    /// counts from `since` on at the earliest.
+    pub(crate) fn lateness(
+        &mut self,
+        moment: u64,
+        since: u64,
+        timeouts: &Timeouts,
+    ) -> Option<Lateness> {
         match &mut self.link {
-            Some(link) => link.is_late(moment, since, timeouts),
-            None => false,
+            Some(link) => link.lateness(moment, since, timeouts),
+            None => None,
         }
     }
 }

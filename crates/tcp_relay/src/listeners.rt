@@ -4,6 +4,7 @@ ghost use Rattle.std.specs.Prelude.{◌≡◌};
 ghost use Rattle.tcp_relay.specs.Listening.{behind};
 
 use crate::accept_errors::{AcceptFault, fault_of};
+use libc::net::{SHUT_RDWR, shutdown};
 use mio::unix::SourceFd;
 use mio::{Interest, Poll, Token};
 use std::io;
@@ -15,6 +16,15 @@ use std::os::fd::{AsRawFd, RawFd};
 pub struct Listener {
     pub socket: TcpListener,
     pub port: u16,
+}
+
+impl Listener {
+    /// Refuses all clients from now on, those too that wait: it listens no more (shutdown(2)), also for other programs that have
+    /// it open. Whoever waits for clients there is woken.
+    pub fn refuse(&self, _rt: &impl Net) {
+        // One that doesn't listen any more refuses already.
+        let _ = shutdown(self.socket.as_raw_fd(), SHUT_RDWR);
+    }
 }
 
 /// A client that was accepted.

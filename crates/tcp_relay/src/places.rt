@@ -11,7 +11,7 @@ use admit_core::Conn;
 use mio::Registry;
 use shard_book::TrackRef;
 use std::mem;
-use tcp_link::{Buffer, Link, Ready, ServerSocket, Timeouts};
+use tcp_link::{Buffer, Lateness, Link, Ready, ServerSocket, Timeouts};
 
 /// The connections that a worker holds, by the numbers of their places: what is reported of a socket names its place. A
 /// connection whose references can't be given back keeps its place, so that no memory is needed for them.
@@ -148,16 +148,16 @@ impl<'a, W: Width> Places<'a, W> {
         turn_at(self.held.as_mut_slice(), registry, ready, moment, buffer)
     }
 
-    /// Whether the connection in a place is open, and a peer of it has been silent for longer than it may, at a moment in ms.
-    /// Silence counts from `since` on at the earliest.
-    pub(crate) fn is_late(
+    /// Which timeout is over, where the connection in a place is open and a peer of it has been silent for longer than it may, at
+    /// a moment in ms. Silence counts from `since` on at the earliest.
+    pub(crate) fn lateness(
         &mut self,
         place: usize,
         moment: u64,
         since: u64,
         timeouts: &Timeouts,
-    ) -> bool {
-        is_late_at(self.held.as_mut_slice(), place, moment, since, timeouts)
+    ) -> Option<Lateness> {
+        lateness_at(self.held.as_mut_slice(), place, moment, since, timeouts)
     }
 
     /// Whether the server of the connection in a place refused it, and is to be tried again at a moment in ms.
@@ -251,16 +251,16 @@ fn retry_at<W: Width>(
     }
 }
 
-/// Whether the connection in a place is late.
-fn is_late_at<W: Width>(
+/// Which timeout of the connection in a place is over, if one is.
+fn lateness_at<W: Width>(
     held: &mut [Option<Connection<'_, W>>],
     place: usize,
     moment: u64,
     since: u64,
     timeouts: &Timeouts,
-) -> bool {
+) -> Option<Lateness> {
     match held.get_mut(place) {
-        Some(Some(connection)) => connection.is_late(moment, since, timeouts),
-        _ => false,
+        Some(Some(connection)) => connection.lateness(moment, since, timeouts),
+        _ => None,
     }
 }

@@ -19,7 +19,7 @@ use crate::turning::{EventLoop, turn_all};
 use crate::watch::Watch;
 use crate::width::Width;
 use crate::worker::Worker;
-use crate::{FaultKind, Gate, Limits, ServeFault, ServeRuntime, Served};
+use crate::{Control, FaultKind, Gate, Limits, ServeFault, ServeRuntime, Served};
 use base_clock::{Clock, RunningClock};
 use rule_model::Setup;
 use shard_book::Seat;
@@ -31,8 +31,8 @@ use std::thread;
 use std::time::Instant;
 use stick_table::Table;
 
-/// One worker's connections: until the last number is drawn and all its connections have ended, or it can't wait for
-/// them.
+/// One worker's connections: until the last number is drawn, or a drain has begun, and all its connections have ended; or it
+/// can't wait for them.
 fn serve_each<'a, T: Table, R: ServeRuntime, G: Gate, W: Width>(
     shared: &Shared<'a, R, G, W>,
     worker: &mut Worker<'a, T, R, W>,
@@ -188,6 +188,7 @@ fn serve_wide<W: Width + Send + Sync, T: Table + Send, R: ServeRuntime, G: Gate 
     limits: Limits,
     stop_after: Option<u64>,
     start: Instant,
+    control: Control<'_>,
 ) -> Result<Served, ServeFault>
     requires width { W.tables ≡ length tables.now }
     requires shards { W.shards ≡ setup.now.shards }
@@ -230,6 +231,7 @@ fn serve_wide<W: Width + Send + Sync, T: Table + Send, R: ServeRuntime, G: Gate 
         retries: limits.retries,
         keepalive: limits.keepalive,
         gate,
+        control,
         start,
         of: PhantomData,
     };
@@ -260,7 +262,11 @@ fn without_memory(alloc: Global, seats: Vec<Vec<Seat>>) -> ServeFault
 /// rules, and then passes the gate; if it is admitted, its bytes go to the server and back until both directions have ended or
 /// a peer has been silent for too long; it is counted, and gives its references back. Moments are ms from the start on. Before a
 /// connection is accepted its number is drawn, from 1 on; where serving stops after so many none above it is drawn, and each
-/// thread ends with the last of its connections. Without, it goes on for ever.
+/// thread ends with the last of its connections. Without, it goes on until a drain begins.
+///
+/// Meanwhile others see by `control` what was counted so far, and how many connections are open. Once they begin a drain there,
+/// no client is accepted any more; an idle thread ends within 100 ms. At the moment that the drain says, what is still open is
+/// closed. `Listener::refuse` has clients refused at once in place of waiting in vain.
 ///
 /// Where the system hasn't what a further connection takes, such as descriptors, that is counted, and tried again after a
 /// while. A reference whose release is refused stays held, and is handed back; its thread accepts no connection more. All memory
@@ -278,6 +284,7 @@ pub fn serve<T: Table + Send, R: ServeRuntime, G: Gate + Sync>(
     limits: Limits,
     stop_after: Option<u64>,
     start: Instant,
+    control: Control<'_>,
 ) -> Result<Served, ServeFault>
     requires server { is_some setup.now.server ≡ true }
     requires tables { AreTablesOf setup.now tables.now }
@@ -289,5 +296,6 @@ pub fn serve<T: Table + Send, R: ServeRuntime, G: Gate + Sync>(
 {
     serve_wide::<Brand, T, R, G>(
         alloc, rt, listeners, tables, seats, setup, gate, threads, limits, stop_after, start,
+        control,
     )
 }

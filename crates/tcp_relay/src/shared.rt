@@ -3,6 +3,7 @@
 ghost use Rattle.std.specs.Prelude.{◌≡◌, length};
 
 use crate::connection_counter::ConnectionCounter;
+use crate::control::Control;
 use crate::listeners::Listeners;
 use crate::width::Width;
 use rule_model::Setup;
@@ -27,6 +28,7 @@ pub(crate) struct Shared<'a, R, G, W: Width> {
     pub(crate) retries: u32,
     pub(crate) keepalive: Option<Keepalive>,
     pub(crate) gate: &'a G,
+    pub(crate) control: Control<'a>,
     /// The moment 0.
     pub(crate) start: Instant,
     pub(crate) of: PhantomData<W>,

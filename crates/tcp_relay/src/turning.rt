@@ -6,11 +6,14 @@ use crate::accept_errors::AcceptFault;
 use crate::acceptor::Acceptor;
 use crate::addresses::samples;
 use crate::buffers::Buffers;
+use crate::closing::{close, close_all, close_silent, ended_of, retry_due};
+use crate::drain::Phase;
+use crate::fates::{Ended, Ending};
 use crate::listener_turn::WorkerTurn;
 use crate::listeners::Accepted;
 use crate::shared::Shared;
 use crate::sweep::Sweep;
-use crate::visiting::{closed, end_at, judge_one};
+use crate::visiting::{end_admitted, end_at, judge_one};
 use crate::watch::{LISTENER, Watch};
 use crate::width::Width;
 use crate::worker::Worker;
@@ -21,7 +24,7 @@ use std::net::TcpStream;
 use std::thread;
 use std::time::Duration;
 use stick_table::Table;
-use tcp_link::{Buffer, Link, Ready, ServerSocket, reset};
+use tcp_link::{Buffer, Link, Ready, reset};
 
 /// How many connections are accepted before others get their turn.
 const ACCEPTS: u32 = 16;
@@ -63,24 +66,24 @@ fn take_in<'a, T: Table, R: ServeRuntime, G: Gate, W: Width>(
     let seated = &mut worker.seated;
     let samples = samples(peer, port);
     let (conn, is_admitted) = judge_one(shared, seated, &mut event_loop.clock, number, samples);
+    worker.counted.count_verdict(is_admitted);
     if !is_admitted {
         // First its references: a client that hears of the reset may come again at once.
         end_at(shared, worker, &mut event_loop.clock, place, conn, false);
         reset(shared.rt, net::TcpStream::from_std(client));
         return;
     }
+    shared.control.gauge.enter();
     let moment = event_loop.clock.now();
     match begin(shared, event_loop, buffer, place, client, moment) {
         Ok(link) => worker.places.put_open(place, conn, link),
-        Err((bytes_in, bytes_out)) => {
-            let conn = closed::<W>(conn, bytes_in, bytes_out);
-            end_at(shared, worker, &mut event_loop.clock, place, conn, true);
+        Err(ended) => {
+            end_admitted(shared, worker, &mut event_loop.clock, place, conn, ended);
         }
     }
 }
 
-/// Connects an admitted client to its server, and moves what is there already. Where that is over at once, how many
-/// bytes came in and went out.
+/// Connects an admitted client to its server, and moves what is there already. Where that is over at once, how it ended.
 fn begin<R: ServeRuntime, G, W: Width>(
     shared: &Shared<'_, R, G, W>,
     event_loop: &mut EventLoop<'_, R>,
@@ -88,48 +91,37 @@ fn begin<R: ServeRuntime, G, W: Width>(
     place: usize,
     client: TcpStream,
     moment: u64,
-) -> Result<Link, (u64, u64)> {
+) -> Result<Link, Ended> {
     // Only now: a rejected client needs it not.
     if client.set_nonblocking(true).is_err() {
-        return Err((0, 0));
+        return Err(Ended::unbegun(Ending::Over));
     }
     let client = net::TcpStream::from_std(client);
     let Some(server) = event_loop.acceptor.take_server() else {
-        return Err((0, 0));
+        return Err(Ended::unbegun(Ending::Over));
     };
-    let Some(mut link) = Link::open(
-        shared.rt,
-        shared.alloc,
-        client,
-        server,
-        moment,
-        shared.retries,
-    ) else {
-        return Err((0, 0));
-    };
+    let retries = shared.retries;
+    match Link::open(shared.rt, shared.alloc, client, server, moment, retries) {
+        Ok(link) => start(shared, event_loop, buffer, place, link, moment),
+        Err(fault) => Err(Ended::unbegun(Ending::Unreached(fault))),
+    }
+}
+
+/// Moves what the client has sent already. Where the connection is over at once, how it ended.
+fn start<R: ServeRuntime, G, W: Width>(
+    shared: &Shared<'_, R, G, W>,
+    event_loop: &mut EventLoop<'_, R>,
+    buffer: &mut Buffer,
+    place: usize,
+    mut link: Link,
+    moment: u64,
+) -> Result<Link, Ended> {
     if link.start(event_loop.watch.registry(), place, moment, buffer) {
         return Ok(link);
     }
-    let bytes = link.bytes();
+    let ended = ended_of(&link, None);
     link.close(shared.rt);
-    Err(bytes)
-}
-
-/// Ends the connection in a place, if it is open there.
-fn close<'a, T: Table, R: ServeRuntime, G, W: Width>(
-    shared: &Shared<'a, R, G, W>,
-    worker: &mut Worker<'a, T, R, W>,
-    clock: &mut RunningClock<'_, R>,
-    place: usize,
-) {
-    let Some((conn, link)) = worker.places.take(place) else {
-        return;
-    };
-    let (bytes_in, bytes_out) = link.bytes();
-    let conn = closed::<W>(conn, bytes_in, bytes_out);
-    // First its references: a client that hears of the end may come again at once.
-    end_at(shared, worker, clock, place, conn, true);
-    link.close(shared.rt);
+    Err(ended)
 }
 
 /// What becomes of a client that couldn't be accepted.
@@ -139,10 +131,11 @@ fn note_fault<T: Table, R, W: Width>(
     fault: AcceptFault,
 ) {
     acceptor.hear_of_fault(fault);
+    worker.counted.count_fault(fault);
     match fault {
         AcceptFault::NoneWaits | AcceptFault::Gone => {}
         AcceptFault::Unreadable => worker.tally.count(false),
-        AcceptFault::Short => worker.tally.count_unaccepted(),
+        AcceptFault::Short(_) => worker.tally.count_unaccepted(),
     }
 }
 
@@ -164,10 +157,12 @@ fn accept_one<'a, T: Table, R: ServeRuntime, G: Gate, W: Width>(
         Ok(accepted) => {
             event_loop.next = accepted.next;
             event_loop.acceptor.pass();
+            worker.counted.count_accepted();
             take_in(shared, worker, event_loop, buffer, number, place, accepted);
         }
         Err(fault) => {
             worker.places.free(place);
+            let fault = fault.heard(shared.control.drain.has_begun());
             note_fault(worker, &mut event_loop.acceptor, fault);
         }
     }
@@ -181,11 +176,12 @@ fn try_to_accept<'a, T: Table, R: ServeRuntime, G: Gate, W: Width>(
     buffer: &mut Buffer,
     number: u64,
 ) {
-    if !event_loop
+    let ready = event_loop
         .acceptor
-        .ready_server(shared.rt, shared.server, shared.keepalive)
-    {
+        .ready_server(shared.rt, shared.server, shared.keepalive);
+    if let Err(shortage) = ready {
         worker.tally.count_unaccepted();
+        worker.counted.count_shortage(shortage);
         event_loop.acceptor.run_short();
         return;
     }
@@ -228,59 +224,9 @@ fn turn<'a, T: Table, R: ServeRuntime, G, W: Width>(
 ) {
     let registry = event_loop.watch.registry();
     if worker.places.turn(registry, ready, moment, buffer) {
-        close(shared, worker, &mut event_loop.clock, ready.number);
+        close(shared, worker, &mut event_loop.clock, ready.number, None);
         // It has left its place and its descriptors.
         event_loop.acceptor.try_again();
-    }
-}
-
-/// Closes the connections of which a peer had been silent for too long at a moment in ms. What the system was short of is tried
-/// again too.
-fn close_silent<'a, T: Table, R: ServeRuntime, G, W: Width>(
-    shared: &Shared<'a, R, G, W>,
-    worker: &mut Worker<'a, T, R, W>,
-    event_loop: &mut EventLoop<'_, R>,
-    as_of: u64,
-) {
-    let since = event_loop.sweep.since();
-    for place in 0..worker.places.count() {
-        if worker.places.is_late(place, as_of, since, &shared.timeouts) {
-            close(shared, worker, &mut event_loop.clock, place);
-        }
-    }
-    event_loop.acceptor.try_again();
-}
-
-/// Tries the servers again that refused a connection a second ago. A connection for which the system has no socket waits on.
-fn retry_due<'a, T: Table, R: ServeRuntime, G, W: Width>(
-    shared: &Shared<'a, R, G, W>,
-    worker: &mut Worker<'a, T, R, W>,
-    event_loop: &mut EventLoop<'_, R>,
-    buffer: &mut Buffer,
-) {
-    let moment = event_loop.clock.now();
-    for place in 0..worker.places.count() {
-        if worker.places.is_due(place, moment) {
-            retry(shared, worker, event_loop, buffer, place, moment);
-        }
-    }
-}
-
-/// Tries the server of the connection in a place again.
-fn retry<'a, T: Table, R: ServeRuntime, G, W: Width>(
-    shared: &Shared<'a, R, G, W>,
-    worker: &mut Worker<'a, T, R, W>,
-    event_loop: &mut EventLoop<'_, R>,
-    buffer: &mut Buffer,
-    place: usize,
-    moment: u64,
-) {
-    let Ok(server) = ServerSocket::open(shared.rt, shared.server, shared.keepalive) else {
-        return;
-    };
-    let registry = event_loop.watch.registry();
-    if worker.places.retry(place, server, registry, moment, buffer) {
-        close(shared, worker, &mut event_loop.clock, place);
     }
 }
 
@@ -344,7 +290,11 @@ fn wait<'a, T: Table, R: ServeRuntime, G: Gate, W: Width>(
     event_loop
         .turn
         .begin(shared.rt, event_loop.acceptor.can_accept(has_room));
-    let is_well = event_loop.watch.wait(events, pause).is_ok();
+    let drain = shared.control.drain;
+    let is_well = event_loop
+        .watch
+        .wait(shared.rt, drain, events, pause)
+        .is_ok();
     if !is_well {
         event_loop.turn.end(shared.rt);
     }
@@ -352,8 +302,8 @@ fn wait<'a, T: Table, R: ServeRuntime, G: Gate, W: Width>(
 }
 
 /// Waits until something is ready, and gives each its turn. Then, where that is due, silent peers are looked for, and servers
-/// that refused are tried again. Where each client that came was rejected, and that was all, it rests a moment before the next.
-/// False where waiting failed.
+/// that refused are tried again; at the end of a drain all are closed. What was counted is published. Where each client that came
+/// was rejected, and that was all, it rests a moment before the next. False where waiting failed.
 pub(crate) fn turn_all<'a, T: Table, R: ServeRuntime, G: Gate, W: Width>(
     shared: &Shared<'a, R, G, W>,
     worker: &mut Worker<'a, T, R, W>,
@@ -365,6 +315,10 @@ pub(crate) fn turn_all<'a, T: Table, R: ServeRuntime, G: Gate, W: Width>(
         return false;
     }
     let moment = event_loop.clock.now();
+    let phase = shared.control.drain.phase(moment);
+    if phase != Phase::Serving {
+        event_loop.acceptor.stop();
+    }
     let polls = polls_for(worker.places.count(), events.capacity());
     let as_of = event_loop.sweep.after_poll(moment, is_full(events), polls);
     let (open, tally) = (worker.places.open(), worker.tally);
@@ -375,6 +329,11 @@ pub(crate) fn turn_all<'a, T: Table, R: ServeRuntime, G: Gate, W: Width>(
             retry_due(shared, worker, event_loop, buffer);
         }
     }
+    if phase == Phase::Closing {
+        close_all(shared, worker, event_loop);
+    }
+    let cells = shared.control.cells_of(event_loop.watch.worker());
+    worker.counted.publish(cells);
     if only_accepts && worker.places.open() == open && worker.tally.has_only_rejected(tally) {
         thread::sleep(shared.rt, Duration::from_micros(REST));
     }

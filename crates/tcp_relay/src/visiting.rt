@@ -7,6 +7,7 @@ ghost use Rattle.admit_core.specs.declared.need.Need.TheVariants.{Rest};
 ghost use Rattle.tcp_relay.specs.Connections.{IsVisitor};
 ghost use Rattle.tcp_relay.specs.Seating.{AreIn};
 
+use crate::fates::Ended;
 use crate::leaving::let_go;
 use crate::shared::Shared;
 use crate::width::Width;
@@ -45,7 +46,7 @@ pub(crate) fn judge_one<'a, T: Table, R: ServeRuntime, G: Gate, W: Width>(
 }
 
 /// Closes an admitted connection, after so many bytes came in and went out.
-pub(crate) fn closed<'a, W: Width>(
+fn closed<'a, W: Width>(
     mut conn: Conn<'a, TrackRef>,
     bytes_in: u64,
     bytes_out: u64,
@@ -101,4 +102,23 @@ pub(crate) fn end_at<'a, T: Table, R: ServeRuntime, G, W: Width>(
             worker.places.put_kept(place, kept);
         }
     }
+}
+
+/// Ends an admitted connection of a place that is claimed, and counts how.
+pub(crate) fn end_admitted<'a, T: Table, R: ServeRuntime, G, W: Width>(
+    shared: &Shared<'a, R, G, W>,
+    worker: &mut Worker<'a, T, R, W>,
+    clock: &mut RunningClock<'_, R>,
+    place: usize,
+    conn: Conn<'a, TrackRef>,
+    ended: Ended,
+)
+    requires connection { IsVisitor W.tables W.shards conn }
+    requires rests { needed conn ≡ Rest }
+    requires free { slice_get worker.old.places.held.items place ≡ Some None }
+{
+    worker.counted.count_end(ended);
+    let conn = closed::<W>(conn, ended.bytes_in, ended.bytes_out);
+    end_at(shared, worker, clock, place, conn, true);
+    shared.control.gauge.leave();
 }

@@ -1,11 +1,13 @@
 //! What a worker waits for; `turning` waits by it, and `listener_turn` registers the listener with its tokens.
 
 use crate::acceptor::Pause;
+use crate::drain::Drain;
 use crate::sweep::TICK;
 use mio::unix::SourceFd;
 use mio::{Events, Interest, Poll, Registry, Token};
 use std::net::Net;
 use std::os::fd::RawFd;
+use std::sync::Wait;
 use std::time::Duration;
 use std::{io, thread};
 
@@ -47,9 +49,15 @@ impl Watch {
 
     /// Waits until something is ready, for no longer than the pause. Before it waits for a tick it lets other threads run, which may
     /// be those that its connections wait for: so it is seldom asleep when they send.
-    pub(crate) fn wait(&mut self, events: &mut Events, pause: Pause) -> io::Result<()> {
+    pub(crate) fn wait(
+        &mut self,
+        rt: &impl Wait,
+        drain: &Drain,
+        events: &mut Events,
+        pause: Pause,
+    ) -> io::Result<()> {
         if pause == Pause::UntilReady {
-            return self.poll.poll(events, None);
+            return self.wait_idle(rt, drain, events);
         }
         self.poll.poll(events, Some(Duration::ZERO))?;
         if pause == Pause::NotAtAll || !events.is_empty() {
@@ -57,5 +65,16 @@ impl Watch {
         }
         thread::yield_now();
         self.poll.poll(events, Some(Duration::from_millis(TICK)))
+    }
+
+    /// Waits until something is ready, or a drain begins. It looks for that each tick, as nobody wakes it.
+    fn wait_idle(&mut self, rt: &impl Wait, drain: &Drain, events: &mut Events) -> io::Result<()> {
+        for _look in rt.forever() {
+            self.poll.poll(events, Some(Duration::from_millis(TICK)))?;
+            if !events.is_empty() || drain.has_begun() {
+                break;
+            }
+        }
+        Ok(())
     }
 }

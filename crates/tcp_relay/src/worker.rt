@@ -6,6 +6,7 @@ ghost use Rattle.tcp_relay.specs.Seating.{AreIn, HaveEach, HaveFew, HaveRoom, he
 ghost use Rattle.tcp_relay.specs.Connections.{left_by_all};
 
 use crate::buffers::Buffers;
+use crate::counted::Counted;
 use crate::leaving::put_connections;
 use crate::places::Places;
 use crate::seating::put_row;
@@ -87,6 +88,7 @@ impl Tally {
 /// and shows afterwards what that has done.
 pub(crate) struct Worker<'a, T: Table, R, W: Width> {
     pub(crate) tally: Tally,
+    pub(crate) counted: Counted,
     /// Whether the references of a connection couldn't be given back.
     pub(crate) keeps: bool,
     /// Each table, asked by its seat.
@@ -113,6 +115,7 @@ impl<'a, T: Table, R, W: Width> Worker<'a, T, R, W> {
     {
         Worker {
             tally: Tally::new(),
+            counted: Counted::new(),
             keeps: false,
             seated,
             places,
@@ -136,6 +139,7 @@ impl<'a, T: Table, R, W: Width> Worker<'a, T, R, W> {
     {
         let Worker {
             tally,
+            counted: _counted,
             keeps: _,
             seated,
             places,

@@ -1,6 +1,6 @@
 //! Tests of what serves: a direction of a connection and the sockets at its ends; connections between clients and servers of
-//! this machine, on threads that share a table; and commands of clients of a Unix socket. No contract can say what sockets and
-//! threads do.
+//! this machine, on threads that share a table; drains; commands of clients of a Unix socket; and what is counted and told. No contract
+//! can say what sockets and threads do.
 #![tactic(auto)]
 
 #[cfg(test)]
@@ -10,11 +10,15 @@ mod commands;
 #[cfg(test)]
 mod connections;
 #[cfg(test)]
+mod drains;
+#[cfg(test)]
 mod flow;
 #[cfg(test)]
 mod gates;
 #[cfg(test)]
 mod gathered;
+#[cfg(test)]
+mod manager;
 #[cfg(test)]
 mod peers;
 #[cfg(test)]
@@ -25,5 +29,7 @@ mod silence;
 mod sites;
 #[cfg(test)]
 mod tables;
+#[cfg(test)]
+mod told;
 #[cfg(test)]
 mod visitors;

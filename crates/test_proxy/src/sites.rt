@@ -17,7 +17,8 @@ use std::thread::Threads;
 use std::time::{Clock, Instant};
 use stick_table::PlainTable;
 use tcp_link::Timeouts;
-use tcp_relay::{FaultKind, Gate, Limits, Listener, ServeFault, Served, serve};
+use tcp_relay::{Control, Drain, FaultKind, Gate, Limits, Listener, ServeFault, Served, serve};
+use tcp_stats::{Cells, Counts, Gauge};
 
 /// Each of two threads holds two connections, and a server has five seconds to accept one.
 const LIMITS: Limits = Limits {
@@ -58,6 +59,45 @@ fn endpoint(server: Option<&TcpListener>, listener: &TcpListener) -> Option<Endp
     match server {
         Some(server) => at([127, 0, 0, 1], server),
         None => at([127, 0, 0, 77], listener),
+    }
+}
+
+/// Has the site's listener refuse clients.
+pub fn refuse_clients<R: Net>(site: &Site<'_, R>) {
+    let [listener] = &site.listeners;
+    listener.refuse(site.rt);
+}
+
+/// What two threads that serve share with whoever looks on.
+#[derive(Drop)]
+pub struct Watched {
+    cells: [Cells; 2],
+    pub gauge: Gauge,
+    pub drain: Drain,
+}
+
+impl Watched {
+    /// Nothing is counted, and no drain has begun.
+    pub fn new() -> Watched {
+        Watched {
+            cells: [Cells::new(), Cells::new()],
+            gauge: Gauge::new(),
+            drain: Drain::new(),
+        }
+    }
+
+    fn control(&self) -> Control<'_> {
+        Control {
+            cells: &self.cells,
+            gauge: &self.gauge,
+            drain: &self.drain,
+        }
+    }
+
+    /// What both threads have published.
+    pub fn counts(&self) -> Counts {
+        let [first, second] = &self.cells;
+        first.read().with(&second.read())
     }
 }
 
@@ -171,6 +211,7 @@ fn serve_among<
     seats: Vec<Vec<Seat>>,
     gate: &G,
     last: u64,
+    control: Control<'_>,
 ) -> Option<Ended>
     requires one { length tables.now ≡ 1 }
     requires shards { All (λ table. table.shards ≡ 1) tables.now }
@@ -192,6 +233,7 @@ fn serve_among<
         LIMITS,
         Some(last),
         site.start,
+        control,
     ) {
         Ok(served) => end_of(None, served),
         Err(ServeFault { kind, served }) => end_of(Some(kind), served),
@@ -209,9 +251,32 @@ pub fn serve_on<
     gate: &G,
     last: u64,
 ) -> Option<Ended> {
+    let watched = Watched::new();
+    serve_watched(site, table, seats, gate, last, &watched)
+}
+
+/// The same, watched and ended by others.
+pub fn serve_watched<
+    R: Net<Listener = TcpListener, Stream = TcpStream> + Threads + Wait + Clock + Sync,
+    G: Gate + Sync,
+>(
+    site: &Site<'_, R>,
+    table: &Shards<PlainTable>,
+    seats: Vec<Seat>,
+    gate: &G,
+    last: u64,
+    watched: &Watched,
+) -> Option<Ended> {
     if seats.as_slice().len() != 2 || table.shards() != 1 {
         return None;
     }
     let seats = of_one(site.alloc, seats)?;
-    serve_among(site, slice::from_ref(table), seats, gate, last)
+    serve_among(
+        site,
+        slice::from_ref(table),
+        seats,
+        gate,
+        last,
+        watched.control(),
+    )
 }

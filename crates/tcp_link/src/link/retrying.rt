@@ -53,7 +53,7 @@ impl Link {
         }
         match server.connect() {
             Ok(socket) => self.connect_anew(socket, moment),
-            Err(_) => return self.refuse_again(moment),
+            Err(refusal) => return self.refuse_again(refusal.number, moment),
         }
         self.carry_there(moment, buffer);
         self.hand_on();
@@ -88,11 +88,12 @@ impl Link {
         self.refused = Some(moment);
     }
 
-    /// The same where it waited already, if a try is left. Whether it waits once more.
-    fn refuse_again(&mut self, moment: u64) -> bool
+    /// The same where it waited already, if a try is left, by an error of this number. Whether it waits once more.
+    fn refuse_again(&mut self, number: u32, moment: u64) -> bool
         ensures new { self.new ≡ refused_again moment self.old }
         ensures may { result ≡ may_retry self.old }
     {
+        self.server.note(number);
         if !self.may_retry() {
             return false;
         }

@@ -68,8 +68,8 @@ fn lead_from<R: Net>(
     let desk = new_desk(rt, alloc)?;
     let server = ServerSocket::open(rt, server, None).ok()?;
     match Link::open(rt, alloc, near, server, moment, retries) {
-        Some(link) => Some(Lead { link, desk }),
-        None => None,
+        Ok(link) => Some(Lead { link, desk }),
+        Err(_) => None,
     }
 }
 

@@ -1,4 +1,4 @@
-use Rattle.std.proofs.Common.{◌≡◌, ◌≤◌, ◌+◌, ◌-◌, ◌*◌, ℕ, subst, arith, length, vec_len}
+use Rattle.std.proofs.Common.{◌≡◌, ◌≤◌, ◌+◌, ◌-◌, ◌*◌, ℕ, zero, suc, sym, subst, arith, length, vec_capacity, vec_len, slice_index_or}
 use Rattle.tcp_relay.specs.Seating.{HaveEach, HaveFew}
 use Rattle.tcp_relay.proofs.gathering.gather.Goals as goal
 
@@ -7,6 +7,24 @@ one_more all old new less within = omega (arith, less, within)
 
 some_more : (all old new each : ℕ) → new + 1 ≡ old → old ≤ all → (all - old) * each + each ≡ (all - new) * each
 some_more all old new each less within = subst (λ n. (all - old) * each + each ≡ n * each) (one_more all old new less within) (omega (arith))
+
+-- one more worker's references, where the workers that have ended are fewer than all
+fewer : (ended left each : ℕ) → ended * each + each ≤ (ended + suc left) * each
+fewer ended left each = omega (arith)
+
+room : (all left each len places : ℕ) → 1 ≤ left → left ≤ all → len ≤ (all - left) * each → all * each ≤ places → len + each ≤ places
+room all zero each len places some within few much = omega (arith, some)
+room all (suc left) each len places some within few much =
+    let is : all - suc left + suc left ≡ all = omega (arith, within) in
+    let more : (all - suc left) * each + each ≤ all * each = subst (λ n. (all - suc left) * each + each ≤ n * each) is (fewer (all - suc left) left each) in
+    omega (arith, few, much, more)
+
+pub end-requires-clause-refs : goal.end-requires-clause-refs
+end-requires-clause-refs g c = λ k d below.
+    let loop = c.loop-worker in
+    let less : vec_len c.pop.new.self + 1 ≡ vec_len loop.workers = c.in-Some.ensures.len in
+    let at = loop.invariant.refs k d below in
+    room (length c.args.workers.items) (vec_len loop.workers) (g.W.Width.most * 3) (vec_len (slice_index_or loop.refs.items k d)) (vec_capacity (slice_index_or loop.refs.items k d)) (omega (arith, less)) loop.invariant.left at.0 at.1
 
 pub loop-worker-preserved : goal.loop-worker-preserved
 loop-worker-preserved g c =

@@ -1,0 +1,124 @@
+//! Connections that end, or are tried again, outside of a turn of their own; `turning` has it done behind its polls.
+
+ghost use Rattle.std.specs.Prelude.{◌≡◌, true, IfSome, None};
+ghost use Rattle.tcp_link.specs.Links.{bytes, must_be_accepted};
+ghost use Rattle.tcp_relay.specs.declared.fates.Ending.TheVariants.{Over};
+
+use crate::ServeRuntime;
+use crate::fates::{Ended, Ending};
+use crate::shared::Shared;
+use crate::turning::EventLoop;
+use crate::visiting::end_admitted;
+use crate::width::Width;
+use crate::worker::Worker;
+use base_clock::{Clock, RunningClock};
+use stick_table::Table;
+use tcp_link::{Buffer, Link, ServerSocket};
+
+/// How a connection ends: for this cause, or else as its link says that is over.
+pub(crate) fn ended_of(link: &Link, cause: Option<Ending>) -> Ended
+    ensures cause { IfSome cause (λ cause. result.ending ≡ cause) }
+    ensures over { cause ≡ None → must_be_accepted link.now ≡ true → result.ending ≡ Over }
+    ensures bytes { (result.bytes_in, result.bytes_out) ≡ bytes link.now }
+{
+    let (bytes_in, bytes_out) = link.bytes();
+    Ended {
+        ending: ending_of(link, cause),
+        bytes_in,
+        bytes_out,
+    }
+}
+
+/// Its cause, without the bytes.
+fn ending_of(link: &Link, cause: Option<Ending>) -> Ending
+    ensures cause { IfSome cause (λ cause. result ≡ cause) }
+    ensures over { cause ≡ None → must_be_accepted link.now ≡ true → result ≡ Over }
+{
+    match cause {
+        Some(cause) => cause,
+        None => Ending::over(link.connect_fault()),
+    }
+}
+
+/// Ends the connection in a place, if it is open there, for this cause, or as it is over.
+pub(crate) fn close<'a, T: Table, R: ServeRuntime, G, W: Width>(
+    shared: &Shared<'a, R, G, W>,
+    worker: &mut Worker<'a, T, R, W>,
+    clock: &mut RunningClock<'_, R>,
+    place: usize,
+    cause: Option<Ending>,
+) {
+    let Some((conn, link)) = worker.places.take(place) else {
+        return;
+    };
+    let ended = ended_of(&link, cause);
+    // First its references: a client that hears of the end may come again at once.
+    end_admitted(shared, worker, clock, place, conn, ended);
+    link.close(shared.rt);
+}
+
+/// Closes the connections of which a peer had been silent for too long at a moment in ms. What the system was short of is tried
+/// again too.
+pub(crate) fn close_silent<'a, T: Table, R: ServeRuntime, G, W: Width>(
+    shared: &Shared<'a, R, G, W>,
+    worker: &mut Worker<'a, T, R, W>,
+    event_loop: &mut EventLoop<'_, R>,
+    as_of: u64,
+) {
+    let since = event_loop.sweep.since();
+    for place in 0..worker.places.count() {
+        if let Some(late) = worker
+            .places
+            .lateness(place, as_of, since, &shared.timeouts)
+        {
+            let cause = Some(Ending::Late(late));
+            close(shared, worker, &mut event_loop.clock, place, cause);
+        }
+    }
+    event_loop.acceptor.try_again();
+}
+
+/// Closes all connections, as a drain has come to its end.
+pub(crate) fn close_all<'a, T: Table, R: ServeRuntime, G, W: Width>(
+    shared: &Shared<'a, R, G, W>,
+    worker: &mut Worker<'a, T, R, W>,
+    event_loop: &mut EventLoop<'_, R>,
+) {
+    for place in 0..worker.places.count() {
+        let cause = Some(Ending::Drained);
+        close(shared, worker, &mut event_loop.clock, place, cause);
+    }
+}
+
+/// Tries the servers again that refused a connection a second ago. A connection for which the system has no socket waits on.
+pub(crate) fn retry_due<'a, T: Table, R: ServeRuntime, G, W: Width>(
+    shared: &Shared<'a, R, G, W>,
+    worker: &mut Worker<'a, T, R, W>,
+    event_loop: &mut EventLoop<'_, R>,
+    buffer: &mut Buffer,
+) {
+    let moment = event_loop.clock.now();
+    for place in 0..worker.places.count() {
+        if worker.places.is_due(place, moment) {
+            retry(shared, worker, event_loop, buffer, place, moment);
+        }
+    }
+}
+
+/// Tries the server of the connection in a place again.
+fn retry<'a, T: Table, R: ServeRuntime, G, W: Width>(
+    shared: &Shared<'a, R, G, W>,
+    worker: &mut Worker<'a, T, R, W>,
+    event_loop: &mut EventLoop<'_, R>,
+    buffer: &mut Buffer,
+    place: usize,
+    moment: u64,
+) {
+    let Ok(server) = ServerSocket::open(shared.rt, shared.server, shared.keepalive) else {
+        return;
+    };
+    let registry = event_loop.watch.registry();
+    if worker.places.retry(place, server, registry, moment, buffer) {
+        close(shared, worker, &mut event_loop.clock, place, None);
+    }
+}

@@ -1,0 +1,122 @@
+//! What a worker counts of its connections, for those who look on; `Worker` has one, and `turning` publishes it.
+
+ghost use Rattle.std.specs.Prelude.{◌≡◌, ◌≢◌, false, true};
+ghost use Rattle.tcp_relay.specs.Counting.{missing, verdict_of, with_end, with_fault, with_one, with_one_if};
+ghost use Rattle.tcp_stats.specs.CountValues.{count_of};
+ghost use Rattle.tcp_stats.specs.declared.count.Count.TheVariants.{Accepted};
+
+use crate::accept_errors::{AcceptFault, Shortage};
+use crate::fates::Ended;
+use tcp_stats::{Cells, Count, Counts};
+
+/// What a worker has counted, and whether some of it isn't published yet.
+#[derive(Drop)]
+pub(crate) struct Counted {
+    counts: Counts,
+    is_news: bool,
+}
+
+impl Counted {
+    /// Nothing is counted.
+    pub(crate) fn new() -> Counted
+        ensures none { (count : Count) → count_of result.counts count ≡ 0 }
+        ensures news { result.is_news ≡ false }
+    {
+        Counted {
+            counts: Counts::new(),
+            is_news: false,
+        }
+    }
+
+    /// One more of a count.
+    fn count(&mut self, count: Count)
+        ensures counts { self.new.counts ≡ with_one count self.old.counts }
+        ensures news { self.new.is_news ≡ true }
+    {
+        self.counts.add(count, 1);
+        self.is_news = true;
+    }
+
+    /// A client was accepted.
+    pub(crate) fn count_accepted(&mut self)
+        ensures counts { self.new.counts ≡ with_one Accepted self.old.counts }
+        ensures news { self.new.is_news ≡ true }
+    {
+        self.count(Count::Accepted);
+    }
+
+    /// The rules have admitted or rejected it.
+    pub(crate) fn count_verdict(&mut self, is_admitted: bool)
+        ensures counts { self.new.counts ≡ with_one (verdict_of is_admitted) self.old.counts }
+        ensures news { self.new.is_news ≡ true }
+    {
+        if is_admitted {
+            self.count(Count::Admitted);
+        } else {
+            self.count(Count::Rejected);
+        }
+    }
+
+    /// A client couldn't be accepted, as the system is short of something.
+    pub(crate) fn count_shortage(&mut self, shortage: Shortage)
+        ensures counts { self.new.counts ≡ with_one (missing shortage) self.old.counts }
+        ensures news { self.new.is_news ≡ true }
+    {
+        match shortage {
+            Shortage::Descriptors => self.count(Count::NoDescriptors),
+            Shortage::Memory => self.count(Count::NoMemory),
+            Shortage::Other => self.count(Count::Unaccepted),
+        }
+    }
+
+    /// Accepting has failed.
+    pub(crate) fn count_fault(&mut self, fault: AcceptFault)
+        ensures counts { self.new.counts ≡ with_fault fault self.old.counts }
+        ensures news { fault ≢ AcceptFault.NoneWaits → fault ≢ AcceptFault.Gone → self.new.is_news ≡ true }
+        ensures kept { self.old.is_news ≡ true → self.new.is_news ≡ true }
+    {
+        match fault {
+            AcceptFault::NoneWaits | AcceptFault::Gone => {}
+            AcceptFault::Unreadable => {
+                self.count(Count::Accepted);
+                self.count(Count::Rejected);
+            }
+            AcceptFault::Short(shortage) => self.count_shortage(shortage),
+        }
+    }
+
+    /// One more, if there is a count to be raised.
+    fn count_if(&mut self, count: Option<Count>)
+        ensures counts { self.new.counts ≡ with_one_if count self.old.counts }
+    {
+        match count {
+            Some(count) => self.count(count),
+            None => {}
+        }
+    }
+
+    /// An admitted connection has ended.
+    pub(crate) fn count_end(&mut self, ended: Ended)
+        ensures counts { self.new.counts ≡ with_end ended.ending ended.bytes_in ended.bytes_out self.old.counts }
+        ensures news { self.new.is_news ≡ true }
+    {
+        self.count_if(ended.ending.fate());
+        self.count(Count::Ended);
+        self.counts.add(Count::BytesIn, ended.bytes_in);
+        self.counts.add(Count::BytesOut, ended.bytes_out);
+    }
+
+    /// Publishes what isn't published yet, where there are cells for it.
+    pub(crate) fn publish(&mut self, cells: Option<&Cells>)
+        ensures counts { self.new.counts ≡ self.old.counts }
+        ensures news { self.new.is_news ≡ false }
+    {
+        if !self.is_news {
+            return;
+        }
+        self.is_news = false;
+        if let Some(cells) = cells {
+            cells.publish(&self.counts);
+        }
+    }
+}

@@ -1,0 +1,14 @@
+pub mod CountNames
+pub mod CountValues
+pub mod Values
+pub mod Info
+pub mod Csv
+pub mod Stat
+pub mod Commands
+pub mod SeenCommands
+pub mod Http
+pub mod CountRows
+pub mod Readings
+pub mod Metrics
+pub mod Report
+pub mod Trouble

@@ -1,0 +1,89 @@
+//! What is counted of the whole program; the proxy's workers and service threads name by it what they count.
+
+ghost use Rattle.std.specs.Prelude.{◌≡◌, ◌<◌};
+ghost use Rattle.tcp_stats.specs.CountNames.{place};
+
+/// How many counts there are.
+pub const COUNTS: usize = 21;
+
+/// What is counted. The variants stand in the order in which a worker publishes them.
+#[derive(Clone, Copy, Debug, PartialEq, Eq)]
+pub enum Count {
+    /// Clients whose connection was accepted.
+    Accepted,
+    /// Clients that the rules admitted, counted at the verdict.
+    Admitted,
+    /// Clients that the rules rejected, or whose address couldn't be read.
+    Rejected,
+    /// Times that no client could be accepted, as no file descriptor was left (`EMFILE`, `ENFILE`).
+    NoDescriptors,
+    /// Times that no client could be accepted for want of memory (`ENOBUFS`, `ENOMEM`).
+    NoMemory,
+    /// Times that no client could be accepted for another cause.
+    Unaccepted,
+    /// Connects to the server that it refused (`ECONNREFUSED`).
+    ServerRefused,
+    /// Connects to the server that took too long: `--timeout-connect`, or `ETIMEDOUT`.
+    ServerTimedOut,
+    /// Connects to the server for which no local port was left (`EADDRNOTAVAIL`, `EAGAIN`).
+    NoPort,
+    /// Connects to the server that failed for another cause.
+    ServerFailed,
+    /// Connections that ended as the client was silent for `--timeout-client`.
+    ClientTimedOut,
+    /// Connections that ended as the server was silent for `--timeout-server`.
+    ServerSilent,
+    /// Connections that ended as one way alone was silent for `--timeout-fin`.
+    FinTimedOut,
+    /// Connections that were closed at the end of a drain.
+    Drained,
+    /// Admitted connections that have ended, for whatever cause.
+    Ended,
+    /// Bytes that clients sent to the server.
+    BytesIn,
+    /// Bytes that the server sent to clients.
+    BytesOut,
+    /// Commands that were answered on the sockets.
+    Commands,
+    /// Times that a shard's record was begun again.
+    Rolls,
+    /// Rounds in which a shard removed the entries whose life was over.
+    Expiries,
+    /// Such work that a shard refused.
+    Refusals,
+}
+
+impl Count {
+    /// All that is counted, in the order of places.
+    pub const ALL: [Count; COUNTS] = [
+        Count::Accepted,
+        Count::Admitted,
+        Count::Rejected,
+        Count::NoDescriptors,
+        Count::NoMemory,
+        Count::Unaccepted,
+        Count::ServerRefused,
+        Count::ServerTimedOut,
+        Count::NoPort,
+        Count::ServerFailed,
+        Count::ClientTimedOut,
+        Count::ServerSilent,
+        Count::FinTimedOut,
+        Count::Drained,
+        Count::Ended,
+        Count::BytesIn,
+        Count::BytesOut,
+        Count::Commands,
+        Count::Rolls,
+        Count::Expiries,
+        Count::Refusals,
+    ];
+
+    /// The count's place among all of them, from 0.
+    pub fn place(self) -> usize
+        ensures place { result ≡ place self }
+        ensures within { result < COUNTS }
+    {
+        self as usize
+    }
+}

@@ -1,0 +1,35 @@
+//! What the proxy counts, and the texts that tell it: reports, HAProxy's `show info` and `show stat`, Prometheus' metrics; the
+//! proxy's workers count by it, and its service threads print by it.
+#![tactic(auto)]
+
+mod cells;
+mod column;
+mod command;
+mod count;
+mod count_rows;
+mod counts;
+mod csv;
+mod http;
+mod info;
+mod metrics;
+mod rate;
+mod readings;
+mod report;
+mod snapshot;
+mod stat;
+mod stat_row;
+mod trouble;
+mod value;
+
+pub use cells::{Cells, Gauge};
+pub use command::{StatsCommand, StatsMessage, read_command};
+pub use count::{COUNTS, Count};
+pub use counts::Counts;
+pub use http::{HttpRequest, MOST_BYTES, push_response, read_request};
+pub use info::push_info;
+pub use metrics::push_metrics;
+pub use rate::Rate;
+pub use report::push_report;
+pub use snapshot::{Snapshot, TableFacts};
+pub use stat::push_stat;
+pub use trouble::{Trouble, push_trouble, troubles};
