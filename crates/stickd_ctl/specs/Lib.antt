@@ -4,4 +4,3 @@ pub mod Strings
 pub mod Ranking
 pub mod Marks
 pub mod Json
-pub mod Stopping

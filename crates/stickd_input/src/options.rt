@@ -1,6 +1,6 @@
 //! The options of `stickd run`, some of which other commands have too; `command_line` gives them to its commands.
 
-use crate::arguments::{count_option, flag_option, value_option};
+use crate::arguments::{count_option, value_option};
 use clap::{Arg, ArgAction, value_parser};
 use std::alloc::Global;
 
@@ -24,21 +24,6 @@ pub const FIN: &str = "timeout-fin";
 
 /// The option that says after how long a silent peer is asked whether it is still there.
 pub const KEEPALIVE: &str = "keepalive";
-
-/// The option that says how long open connections may go on once the program is to stop.
-pub const DRAIN: &str = "drain";
-
-/// The option that says how often a line of counts is written.
-pub const REPORT: &str = "report";
-
-/// The option that names the socket on which HAProxy's tools are answered.
-pub const STATS: &str = "stats-socket";
-
-/// The option that says where Prometheus is answered.
-pub const METRICS: &str = "metrics";
-
-/// The option that has rejected connections told.
-pub const LOG_REJECTED: &str = "log-rejected";
 
 /// The option that says in how many parts each table is kept.
 pub(crate) fn shards_option<'a>(alloc: Global) -> Arg<'a> {
@@ -249,65 +234,4 @@ pub(crate) fn stop_option<'a>(alloc: Global) -> Arg<'a> {
         "Stop once N connections have ended, and settle the tables",
     )
     .value_parser(value_parser!(u64))
-}
-
-/// The socket on which HAProxy's tools are answered.
-pub(crate) fn stats_option<'a>(alloc: Global) -> Arg<'a> {
-    value_option(
-        alloc,
-        STATS,
-        "PATH[,mode=M]",
-        "The Unix socket that speaks as HAProxy's stats socket does [default: none]",
-    )
-}
-
-/// The socket of the program that is to stop.
-pub(crate) fn stopped_option<'a>(alloc: Global) -> Arg<'a> {
-    value_option(
-        alloc,
-        STATS,
-        "PATH",
-        "The stats socket of the program that is to stop",
-    )
-    .required(true)
-}
-
-/// Where Prometheus is answered.
-pub(crate) fn metrics_option<'a>(alloc: Global) -> Arg<'a> {
-    value_option(
-        alloc,
-        METRICS,
-        "ADDRESS:PORT",
-        "Answer GET /metrics there, in Prometheus' text format [default: nowhere]",
-    )
-}
-
-/// How often a line of counts is written.
-pub(crate) fn report_option<'a>(alloc: Global) -> Arg<'a> {
-    value_option(
-        alloc,
-        REPORT,
-        "TIME",
-        "Write a line of counts to standard error each TIME, and one at the end [default: never]",
-    )
-}
-
-/// Whether rejected connections are told.
-pub(crate) fn rejected_option<'a>(alloc: Global) -> Arg<'a> {
-    flag_option(
-        alloc,
-        LOG_REJECTED,
-        "Say on standard error that connections were rejected, at most once a second",
-    )
-}
-
-/// How long open connections may go on once the program is to stop.
-pub(crate) fn drain_option<'a>(alloc: Global) -> Arg<'a> {
-    value_option(
-        alloc,
-        DRAIN,
-        "TIME",
-        "How long open connections may go on once it is to stop",
-    )
-    .default_value("30s")
 }

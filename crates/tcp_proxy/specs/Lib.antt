@@ -1,4 +1,2 @@
 pub mod Backlog
-pub mod Draining
 pub mod Opened
-pub mod Watching

@@ -1,5 +1,5 @@
 use Rattle.std.proofs.Common.{inl, inr}
-use Rattle.table_socket.proofs.client_server.CommandServiceClientServer.serve_client.Goals as goal
+use Rattle.table_socket.proofs.clients.serve_client.Goals as goal
 
 pub returns-in-Ok : goal.returns-in-Ok
 returns-in-Ok g c = let told = c.in-Ok.ensures.whole in (told.0, told.1, inl told.4)
