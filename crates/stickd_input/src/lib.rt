@@ -27,7 +27,8 @@ pub use command_line::read_command_line;
 use explanation::{explain_fault, explain_warnings};
 pub use keeping::{Keeping, read_keeping};
 pub use options::{
-    BIND, CLIENT, CONNECT, DRAIN, FIN, KEEPALIVE, LOG_REJECTED, METRICS, REPORT, SERVER, SOCKET, STATS,
+    BIND, CLIENT, CONNECT, DRAIN, FIN, KEEPALIVE, LOG_REJECTED, METRICS, REPORT, SERVER, SOCKET,
+    STATS,
 };
 use rule_config::{ConfigFault, read_config};
 use rule_model::{Config, NamedSpec, ReadError, Setup};
@@ -236,7 +237,8 @@ fn read_setup<R: Files + Eprint + AllocGlobal>(
 ) -> io::Result<Option<Setup>>
     requires shards { (1 ≤ keeping.shards) × (keeping.shards ≤ 64) }
     requires purge { (1 ≤ keeping.purge) × (keeping.purge ≤ 1024) }
-    ensures { IfOk result (λ opened. IfSome opened CanOpen) }
+    ensures opens { IfOk result (λ opened. IfSome opened CanOpen) }
+    ensures prefixes { IfOk result (λ opened. IfSome opened (λ setup. setup.prefixes ≡ keeping.prefixes)) }
 {
     let made = match path {
         Some(path) => match read_file(rt, path, Telling::First, detail)? {
@@ -249,7 +251,9 @@ fn read_setup<R: Files + Eprint + AllocGlobal>(
         eprintln!(rt; "stickd: out of memory")?;
         return Ok(None);
     };
-    let setup = setup.with_purge(keeping.purge);
+    let setup = setup
+        .with_purge(keeping.purge)
+        .with_prefixes(keeping.prefixes);
     if let Some(narrow) = setup.narrow_table() {
         report_narrow(rt, narrow)?;
         return Ok(None);
@@ -266,7 +270,8 @@ pub fn open_setup<R: Files + Eprint + AllocGlobal>(
 ) -> io::Result<Option<Setup>>
     requires shards { (1 ≤ keeping.shards) × (keeping.shards ≤ 64) }
     requires purge { (1 ≤ keeping.purge) × (keeping.purge ≤ 1024) }
-    ensures { IfOk result (λ opened. IfSome opened CanOpen) }
+    ensures opens { IfOk result (λ opened. IfSome opened CanOpen) }
+    ensures prefixes { IfOk result (λ opened. IfSome opened (λ setup. setup.prefixes ≡ keeping.prefixes)) }
 {
     read_setup(rt, path, keeping, Detail::Short)
 }
@@ -279,7 +284,8 @@ pub fn open_served<R: Files + Eprint + AllocGlobal>(
 ) -> io::Result<Option<Setup>>
     requires shards { (1 ≤ keeping.shards) × (keeping.shards ≤ 64) }
     requires purge { (1 ≤ keeping.purge) × (keeping.purge ≤ 1024) }
-    ensures { IfOk result (λ opened. IfSome opened CanOpen) }
+    ensures opens { IfOk result (λ opened. IfSome opened CanOpen) }
+    ensures prefixes { IfOk result (λ opened. IfSome opened (λ setup. setup.prefixes ≡ keeping.prefixes)) }
 {
     read_setup(rt, path, keeping, Detail::Started)
 }
