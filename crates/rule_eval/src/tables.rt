@@ -3,7 +3,6 @@ ghost use Rattle.std.specs.Prelude.{◌≡◌, true, false, IfOk, IsOk, is_some,
 ghost use Rattle.std.specs.Option.{option_map};
 ghost use Rattle.std.specs.Str.{bytes_eq};
 ghost use Rattle.stick_key.specs.Convert.{converted};
-ghost use Rattle.rule_addresses.specs.Prefix.{masked};
 ghost use Rattle.rule_eval.specs.Memory.{is_text, kind_takes_memory};
 ghost use Rattle.rule_eval.specs.Tables.{in_32_bits, table_number, kind_of, stores, sample_of, key_of, address_sample, has_datum, has_field};
 
