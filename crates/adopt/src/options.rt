@@ -31,6 +31,10 @@ const BIND: &str = "--bind";
 
 const RETRIES: &str = "--retries";
 
+const IPV4_PREFIX: &str = "--ipv4-prefix";
+
+const IPV6_PREFIX: &str = "--ipv6-prefix";
+
 const STATS_SOCKET: &str = "--stats-socket";
 
 /// How many bytes a socket's path may have (unix(7)).
@@ -336,6 +340,27 @@ fn add_sockets(
     Ok(())
 }
 
+/// How much of a source counts in the keys of rules. The line is the frontend's first, as the rules' own lines stand.
+fn add_prefixes(
+    alloc: Global,
+    plan: &Plan,
+    found: &mut Found,
+    frontend: usize,
+) -> Result<(), NoMemory> {
+    let (Some(mask), Some(section)) = (plan.mask, plan.section(frontend)) else {
+        return Ok(());
+    };
+    if mask.v4 != 32 {
+        found.add_number(alloc, IPV4_PREFIX, 32, Some(mask.v4), section.first)?;
+    }
+    match mask.v6 {
+        Some(v6) if v6 != 128 => {
+            found.add_number(alloc, IPV6_PREFIX, 128, Some(v6), section.first)
+        }
+        _ => Ok(()),
+    }
+}
+
 /// The options that stand for lines of a file.
 pub(crate) fn command_options(alloc: Global, plan: &Plan) -> Result<Vec<CommandOption>, NoMemory> {
     let mut found = Found {
@@ -359,6 +384,7 @@ pub(crate) fn command_options(alloc: Global, plan: &Plan) -> Result<Vec<CommandO
         found.add_number(alloc, RETRIES, MOST_RETRIES, number, line)?;
     }
     add_sockets(alloc, plan, &mut found, frontend)?;
+    add_prefixes(alloc, plan, &mut found, frontend)?;
     let Found { options } = found;
     Ok(options)
 }

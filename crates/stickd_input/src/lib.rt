@@ -240,13 +240,16 @@ fn kept_so<R: Eprint>(
     requires limits { IfOk made (λ setup. AreTableSpecs setup.tables) }
     requires some { IfOk made (λ setup. 1 ≤ setup.shards) }
     requires few { IfOk made (λ setup. setup.shards ≤ 64) }
-    ensures { IfOk result (λ opened. IfSome opened CanOpen) }
+    ensures opens { IfOk result (λ opened. IfSome opened CanOpen) }
+    ensures prefixes { IfOk result (λ opened. IfSome opened (λ setup. setup.prefixes ≡ keeping.prefixes)) }
 {
     let Ok(setup) = made else {
         eprintln!(rt; "stickd: out of memory")?;
         return Ok(None);
     };
-    let setup = setup.with_purge(keeping.purge);
+    let setup = setup
+        .with_purge(keeping.purge)
+        .with_prefixes(keeping.prefixes);
     if let Some(narrow) = setup.narrow_table() {
         report_narrow(rt, narrow)?;
         return Ok(None);
@@ -263,7 +266,8 @@ pub fn open_setup<R: Files + Eprint + AllocGlobal>(
 ) -> io::Result<Option<Setup>>
     requires shards { (1 ≤ keeping.shards) × (keeping.shards ≤ 64) }
     requires purge { (1 ≤ keeping.purge) × (keeping.purge ≤ 1024) }
-    ensures { IfOk result (λ opened. IfSome opened CanOpen) }
+    ensures opens { IfOk result (λ opened. IfSome opened CanOpen) }
+    ensures prefixes { IfOk result (λ opened. IfSome opened (λ setup. setup.prefixes ≡ keeping.prefixes)) }
 {
     let made = match path {
         Some(path) => match read_file(rt, path, Telling::First, Detail::Short)? {
@@ -317,7 +321,8 @@ pub fn open_served<R: Eprint + AllocGlobal>(
     requires tables { AreTables config.now.sections }
     requires shards { (1 ≤ keeping.shards) × (keeping.shards ≤ 64) }
     requires purge { (1 ≤ keeping.purge) × (keeping.purge ≤ 1024) }
-    ensures { IfOk result (λ opened. IfSome opened CanOpen) }
+    ensures opens { IfOk result (λ opened. IfSome opened CanOpen) }
+    ensures prefixes { IfOk result (λ opened. IfSome opened (λ setup. setup.prefixes ≡ keeping.prefixes)) }
 {
     kept_so(rt, setup_of(rt.alloc(), config, keeping.shards), keeping)
 }

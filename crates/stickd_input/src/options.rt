@@ -64,6 +64,30 @@ pub(crate) fn purge_option<'a>(alloc: Global) -> Arg<'a> {
     .default_value("1")
 }
 
+/// The option that says how much of an IPv6 source is a key.
+pub(crate) fn ipv6_prefix_option<'a>(alloc: Global) -> Arg<'a> {
+    count_option(
+        alloc,
+        "ipv6-prefix",
+        "N",
+        128,
+        "How many of an IPv6 source's first bits count where it is a key, 1 to 128",
+    )
+    .default_value("128")
+}
+
+/// The option that says how much of an IPv4 source is a key.
+pub(crate) fn ipv4_prefix_option<'a>(alloc: Global) -> Arg<'a> {
+    count_option(
+        alloc,
+        "ipv4-prefix",
+        "N",
+        32,
+        "How many of an IPv4 source's first bits count where it is a key, 1 to 32",
+    )
+    .default_value("32")
+}
+
 /// The option that says how long a server may take to accept a connection.
 pub(crate) fn connect_option<'a>(alloc: Global) -> Arg<'a> {
     value_option(
