@@ -93,6 +93,7 @@ def files(prefix, program, zsh_folder):
     yield File(f'{share}/man/man1/stickd.1.gz', 0o644, packed(source('man', 'stickd.1')))
     unit = replaced('examples/stickd.service', PROGRAM_OF_UNIT, f'{prefix}/bin/stickd')
     yield File(f'{below}lib/systemd/system/stickd.service', 0o644, unit)
+    yield File(f'{below}lib/systemd/system/stickd.socket', 0o644, source('examples', 'stickd.socket'))
     yield File(CONFIGURATION, 0o644, replaced(EXAMPLE, EXAMPLE, f'/{CONFIGURATION}'), is_kept=True)
     yield File(f'{share}/bash-completion/completions/stickd', 0o644, source('packaging', 'completions', 'stickd.bash'))
     yield File(f'{share}/zsh/{zsh_folder}/_stickd', 0o644, source('packaging', 'completions', '_stickd'))

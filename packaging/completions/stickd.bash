@@ -11,10 +11,10 @@ _stickd() {
     fi
     # What the option before wants; else what the command has.
     case "$command $before" in
-        "adopt --frontend" | "ctl --watch" | "replay --shards" | "replay --purge" | "run --threads" | "run --bind" | "run --shards" | "run --purge" | "run --connections" | "run --backlog" | "run --timeout-connect" | "run --retries" | "run --timeout-client" | "run --timeout-server" | "run --timeout-fin" | "run --keepalive" | "run --socket-mode" | "run --socket-clients" | "run --timeout-socket" | "run --stop-after" | "run --roll-at" | "top --table" | "top --by" | "top --rows")
+        "adopt --frontend" | "ctl --watch" | "replay --shards" | "replay --purge" | "run --threads" | "run --bind" | "run --shards" | "run --purge" | "run --connections" | "run --backlog" | "run --timeout-connect" | "run --retries" | "run --timeout-client" | "run --timeout-server" | "run --timeout-fin" | "run --keepalive" | "run --socket-mode" | "run --socket-clients" | "run --timeout-socket" | "run --metrics" | "run --report" | "run --drain" | "run --stop-after" | "run --roll-at" | "stop --drain" | "top --table" | "top --by" | "top --rows")
             return
             ;;
-        "ctl --socket" | "run --socket" | "top --socket")
+        "ctl --socket" | "run --socket" | "run --stats-socket" | "stop --stats-socket" | "top --socket")
             compopt -o filenames 2>/dev/null
             choices=(-f)
             ;;
@@ -23,7 +23,7 @@ _stickd() {
             ;;
     esac
     if ((COMP_CWORD == 1)); then
-        choices=(-W "adopt check ctl replay run top help -h --help -V --version")
+        choices=(-W "adopt check ctl replay run stop top help -h --help -V --version")
     fi
     ((${#choices[@]})) || case "$command ${word:0:1}" in
         "adopt -")
@@ -54,17 +54,20 @@ _stickd() {
             choices=(-f)
             ;;
         "run -")
-            choices=(-W "--socket --threads --bind --shards --purge --connections --backlog --timeout-connect --retries --timeout-client --timeout-server --timeout-fin --keepalive --socket-mode --socket-group --socket-clients --timeout-socket --stop-after --roll-at -h --help")
+            choices=(-W "--socket --threads --bind --shards --purge --connections --backlog --timeout-connect --retries --timeout-client --timeout-server --timeout-fin --keepalive --socket-mode --socket-group --socket-clients --timeout-socket --stats-socket --metrics --report --log-rejected --drain --stop-after --roll-at -h --help")
             ;;
         "run "*)
             compopt -o filenames 2>/dev/null
             choices=(-f)
             ;;
+        "stop -")
+            choices=(-W "--stats-socket --drain -h --help")
+            ;;
         "top -")
             choices=(-W "--socket --table --by --rows -h --help")
             ;;
         "help "*)
-            choices=(-W "adopt check ctl replay run top help")
+            choices=(-W "adopt check ctl replay run stop top help")
             ;;
     esac
     ((${#choices[@]})) && mapfile -t COMPREPLY < <(compgen "${choices[@]}" -- "$word")

@@ -13,6 +13,7 @@ complete -c stickd -n '__stickd_at' -a check -d 'Read a configuration, and say w
 complete -c stickd -n '__stickd_at' -a ctl -d 'Send commands to a running stickd, and show what it answers'
 complete -c stickd -n '__stickd_at' -a replay -d 'Replay a timed script of connections and commands on standard input'
 complete -c stickd -n '__stickd_at' -a run -d 'Run the proxy, and answer commands on a socket'
+complete -c stickd -n '__stickd_at' -a stop -d 'Stop a running stickd, and wait until it has ended'
 complete -c stickd -n '__stickd_at' -a top -d 'Show the entries of a running stickd\'s table with the greatest numbers'
 complete -c stickd -n '__stickd_at' -a help -d 'Print this message or the help of the given subcommand(s)'
 
@@ -55,10 +56,19 @@ complete -c stickd -n '__stickd_at run' -l socket-mode -x -d 'The permissions of
 complete -c stickd -n '__stickd_at run' -l socket-group -x -a '(__fish_complete_groups)' -d 'The group of the socket\'s file, a name or a number [default: the program\'s]'
 complete -c stickd -n '__stickd_at run' -l socket-clients -x -d 'How many clients of the socket are answered at once, 1 to 64 [default: 4]'
 complete -c stickd -n '__stickd_at run' -l timeout-socket -x -d 'How long a client of the socket may send nothing, or take nothing [default: 10s]'
+complete -c stickd -n '__stickd_at run' -l stats-socket -r -F -d 'The Unix socket that speaks as HAProxy\'s stats socket does [default: none]'
+complete -c stickd -n '__stickd_at run' -l metrics -x -d 'Answer GET /metrics there, in Prometheus\' text format [default: nowhere]'
+complete -c stickd -n '__stickd_at run' -l report -x -d 'Write a line of counts to standard error each TIME, and one at the end [default: never]'
+complete -c stickd -n '__stickd_at run' -l log-rejected -d 'Say on standard error that connections were rejected, at most once a second'
+complete -c stickd -n '__stickd_at run' -l drain -x -d 'How long open connections may go on once it is to stop [default: 30s]'
 complete -c stickd -n '__stickd_at run' -l stop-after -x -d 'Stop once N connections have ended, and settle the tables'
 complete -c stickd -n '__stickd_at run' -l roll-at -x -d 'How many calls of a part of a table are recorded before its record begins again [default: 65536]'
 complete -c stickd -n '__stickd_at run' -s h -l help -d 'Print help'
 complete -c stickd -n '__stickd_at run' -F
+
+complete -c stickd -n '__stickd_at stop' -l stats-socket -r -F -d 'The stats socket of the program that is to stop'
+complete -c stickd -n '__stickd_at stop' -l drain -x -d 'How long open connections may go on once it is to stop [default: 30s]'
+complete -c stickd -n '__stickd_at stop' -s h -l help -d 'Print help'
 
 complete -c stickd -n '__stickd_at top' -l socket -r -F -d 'The Unix socket on which commands are answered'
 complete -c stickd -n '__stickd_at top' -l table -x -d 'The table [default: the only one]'
@@ -66,4 +76,4 @@ complete -c stickd -n '__stickd_at top' -l by -x -d 'The number, as conn_rate [d
 complete -c stickd -n '__stickd_at top' -l rows -x -d 'How many entries are shown at most, 1 to 1000 [default: 20]'
 complete -c stickd -n '__stickd_at top' -s h -l help -d 'Print help'
 
-complete -c stickd -n '__stickd_at help' -a 'adopt check ctl replay run top help'
+complete -c stickd -n '__stickd_at help' -a 'adopt check ctl replay run stop top help'

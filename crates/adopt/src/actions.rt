@@ -2,9 +2,10 @@
 
 use crate::calls::{read_call, slot_of};
 use crate::keywords::is_one_of;
+use crate::masks::{mask_of, table_type, tracked_section};
 use crate::plan::{Plan, RuleAt};
 use crate::reasons::{Refusal, Why};
-use crate::texts::{Words, append, copy_text, is_word, split_at_byte, text_of, word_at};
+use crate::texts::{Words, append, copy_text, is_word, text_of, word_at};
 use base_lines::{before_parenthesis, push_decimal, read_number};
 use base_sequence::NoMemory;
 use std::alloc::Global;
@@ -43,53 +44,13 @@ pub(crate) fn tracked_slot(word: &[u8]) -> Option<&[u8]> {
     word.strip_prefix(b"track-sc".as_slice())
 }
 
-/// The type of the table of a section.
-fn table_type(plan: &Plan, place: usize) -> &[u8] {
-    let Some(section) = plan.section(place) else {
-        return b"";
-    };
-    for number in section.first..section.end {
-        let words = plan.words(number);
-        if !is_word(word_at(words, 0), "stick-table") {
-            continue;
-        }
-        for at in 0..words.len() {
-            if is_word(word_at(words, at), "type") {
-                return word_at(words, at.saturating_add(1));
-            }
-        }
-    }
-    b""
-}
-
-/// The bits of a mask for IPv4 and, if given, for IPv6 of `,ipmask(a,b)`.
-fn mask_of(alloc: Global, rest: &[u8]) -> Result<Option<(u64, u64)>, NoMemory> {
-    let Some(inner) = rest.strip_prefix(b",ipmask(".as_slice()) else {
-        return Ok(None);
-    };
-    let Some(inner) = inner.strip_suffix(b")".as_slice()) else {
-        return Ok(None);
-    };
-    let parts = split_at_byte(alloc, inner, b',')?;
-    let first = word_at(parts.as_slice(), 0);
-    let v4 = if is_word(first, "255.255.255.255") {
-        Some(32)
-    } else {
-        read_number(first)
-    };
-    let v6 = if parts.len() > 1 {
-        read_number(word_at(parts.as_slice(), 1))
-    } else {
-        Some(128)
-    };
-    let (Some(v4), Some(v6)) = (v4, v6) else {
-        return Ok(None);
-    };
-    Ok(Some((v4, v6)))
-}
-
 /// The client's address as a key, and what is lost of it.
-fn source_key(alloc: Global, rest: &[u8], kind: &[u8]) -> Result<(Vec<u8>, Option<Why>), Refusal> {
+fn source_key(
+    alloc: Global,
+    plan: &Plan,
+    rest: &[u8],
+    kind: &[u8],
+) -> Result<(Vec<u8>, Option<Why>), Refusal> {
     if is_word(kind, "integer") {
         return Err(Refusal::Lost(Why::TrackedKey));
     }
@@ -98,6 +59,8 @@ fn source_key(alloc: Global, rest: &[u8], kind: &[u8]) -> Result<(Vec<u8>, Optio
         return Ok((key, None));
     }
     match mask_of(alloc, rest)? {
+        // Options of the command line stand for it.
+        Some(_) if plan.mask.is_some() => Ok((key, None)),
         // In a table of this type no key is longer.
         Some((32, _)) if is_word(kind, "ip") => Ok((key, None)),
         Some((32, 128)) => Ok((key, None)),
@@ -122,11 +85,16 @@ fn constant_text(alloc: Global, text: &[u8]) -> Result<Vec<u8>, NoMemory> {
 }
 
 /// A key in stickd's spelling, for a table of this type, and what is lost of it.
-fn convert_key(alloc: Global, word: &[u8], kind: &[u8]) -> Result<(Vec<u8>, Option<Why>), Refusal> {
+fn convert_key(
+    alloc: Global,
+    plan: &Plan,
+    word: &[u8],
+    kind: &[u8],
+) -> Result<(Vec<u8>, Option<Why>), Refusal> {
     let call = read_call(alloc, word)?;
     let name = call.name.as_slice();
     if is_word(name, "src") {
-        return source_key(alloc, call.rest.as_slice(), kind);
+        return source_key(alloc, plan, call.rest.as_slice(), kind);
     }
     if !call.rest.is_empty() || is_word(kind, "ip") || is_word(kind, "ipv6") {
         return Err(Refusal::Lost(Why::TrackedKey));
@@ -170,15 +138,10 @@ fn convert_track(
     let first = word_at(words, 0);
     let _slot = slot_of(tracked_slot(first).unwrap_or(b""))?;
     let is_named = is_word(word_at(words, 2), "table");
-    let section = if is_named {
-        plan.table_section(word_at(words, 3))
-    } else {
-        Some(rule.origin)
-    };
-    let Some(section) = section else {
+    let Some(section) = tracked_section(plan, rule, words) else {
         return Err(Refusal::Lost(Why::OtherTable));
     };
-    let (key, altered) = convert_key(alloc, word_at(words, 1), table_type(plan, section))?;
+    let (key, altered) = convert_key(alloc, plan, word_at(words, 1), table_type(plan, section))?;
     let mut written = Vec::new(alloc);
     written.push(copy_text(alloc, first)?)?;
     written.push(key)?;

@@ -3,6 +3,7 @@
 ghost use Rattle.std.specs.Prelude.{◌≡◌, IfOk};
 
 use crate::lexer::SourceLine;
+use crate::masks::shared_mask;
 use crate::plan::{PatternFile, Plan, RuleAt, Track, Wishes, begins};
 use crate::rules::{rules_of, track_of};
 use crate::sections::{Kind, Section, read_sections};
@@ -210,6 +211,7 @@ pub(crate) fn make_plan(
         names_backend: None,
         rules: Vec::new(alloc),
         tracks: Vec::new(alloc),
+        mask: None,
         stores_rates,
         counts_all: None,
         first_server: wishes.first_server,
@@ -221,9 +223,11 @@ pub(crate) fn make_plan(
     plan.backend = backend;
     let rules = find_rules(alloc, &plan)?;
     let tracks = find_tracks(alloc, &plan, rules.as_slice())?;
+    let mask = shared_mask(alloc, &plan, rules.as_slice())?;
     let slot = slot_for_all(&plan, tracks.as_slice());
     plan.rules = rules;
     plan.tracks = tracks;
+    plan.mask = mask;
     plan.counts_all = slot;
     Ok(plan)
 }

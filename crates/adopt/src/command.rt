@@ -19,7 +19,7 @@ fn is_bare(value: &[u8]) -> bool {
     for byte in value {
         let is_known = matches!(
             *byte,
-            b'-' | b'_' | b'.' | b':' | b'/' | b'@' | b',' | b'+' | b'%'
+            b'-' | b'_' | b'.' | b':' | b'/' | b'@' | b',' | b'+' | b'%' | b'='
         );
         if !byte.is_ascii_alphanumeric() && !is_known {
             return false;

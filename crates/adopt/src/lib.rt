@@ -25,6 +25,7 @@ mod headings;
 mod keywords;
 mod lexer;
 mod listeners;
+mod masks;
 mod options;
 mod plan;
 mod proxy_lines;

@@ -4,7 +4,7 @@ use crate::listeners::{FurtherBind, first_bind, further_binds, option_value};
 use crate::plan::{Plan, begins};
 use crate::sections::Kind;
 use crate::servers::kept_server;
-use crate::texts::{copy_text, is_word, text_of, word_at};
+use crate::texts::{append, append_str, copy_text, is_word, text_of, word_at};
 use base_lines::{push_decimal, read_number};
 use base_sequence::NoMemory;
 use rule_words::read_time;
@@ -30,6 +30,15 @@ const BACKLOG: &str = "--backlog";
 const BIND: &str = "--bind";
 
 const RETRIES: &str = "--retries";
+
+const IPV4_PREFIX: &str = "--ipv4-prefix";
+
+const IPV6_PREFIX: &str = "--ipv6-prefix";
+
+const STATS_SOCKET: &str = "--stats-socket";
+
+/// How many bytes a socket's path may have (unix(7)).
+const LONGEST_PATH: usize = 107;
 
 /// The most connections that can be asked for.
 const MOST_CONNECTIONS: u64 = 0xffff_ffff;
@@ -227,6 +236,9 @@ fn add_global_line(
     line: usize,
     found: &mut Found,
 ) -> Result<(), NoMemory> {
+    if begins(words, "stats", "socket") {
+        return add_stats_socket(alloc, words, line, found);
+    }
     if !begins(words, "nbthread", "") {
         return Ok(());
     }
@@ -236,6 +248,38 @@ fn add_global_line(
         }
         _ => Ok(()),
     }
+}
+
+/// Whether a word says permissions, as stickd reads them: up to four octal digits, up to 0777.
+fn is_mode(word: &[u8]) -> bool {
+    let are_octal = word.iter().all(|digit| matches!(*digit, b'0'..=b'7'));
+    are_octal && !word.is_empty() && (word.len() < 4 || (word.len() == 4 && word.starts_with(b"0")))
+}
+
+/// Whether a word is the path of a socket that stickd can be given, and not an address.
+fn is_socket_path(word: &[u8]) -> bool {
+    word.starts_with(b"/") && word.len() <= LONGEST_PATH && !word.contains(&b',')
+}
+
+/// The first stats socket that has a path: it, and its mode where that is said.
+fn add_stats_socket(
+    alloc: Global,
+    words: &[Vec<u8>],
+    line: usize,
+    found: &mut Found,
+) -> Result<(), NoMemory> {
+    let path = word_at(words, 2);
+    if found.has(STATS_SOCKET) || !is_socket_path(path) {
+        return Ok(());
+    }
+    let mut value = copy_text(alloc, path)?;
+    if let Some(mode) = option_value(words, "mode")
+        && is_mode(mode)
+    {
+        append_str(&mut value, ",mode=")?;
+        append(&mut value, mode)?;
+    }
+    found.add(STATS_SOCKET, value, line)
 }
 
 /// The line that asks for keepalive of connections, if any.
@@ -296,6 +340,27 @@ fn add_sockets(
     Ok(())
 }
 
+/// How much of a source counts in the keys of rules. The line is the frontend's first, as the rules' own lines stand.
+fn add_prefixes(
+    alloc: Global,
+    plan: &Plan,
+    found: &mut Found,
+    frontend: usize,
+) -> Result<(), NoMemory> {
+    let (Some(mask), Some(section)) = (plan.mask, plan.section(frontend)) else {
+        return Ok(());
+    };
+    if mask.v4 != 32 {
+        found.add_number(alloc, IPV4_PREFIX, 32, Some(mask.v4), section.first)?;
+    }
+    match mask.v6 {
+        Some(v6) if v6 != 128 => {
+            found.add_number(alloc, IPV6_PREFIX, 128, Some(v6), section.first)
+        }
+        _ => Ok(()),
+    }
+}
+
 /// The options that stand for lines of a file.
 pub(crate) fn command_options(alloc: Global, plan: &Plan) -> Result<Vec<CommandOption>, NoMemory> {
     let mut found = Found {
@@ -319,6 +384,7 @@ pub(crate) fn command_options(alloc: Global, plan: &Plan) -> Result<Vec<CommandO
         found.add_number(alloc, RETRIES, MOST_RETRIES, number, line)?;
     }
     add_sockets(alloc, plan, &mut found, frontend)?;
+    add_prefixes(alloc, plan, &mut found, frontend)?;
     let Found { options } = found;
     Ok(options)
 }

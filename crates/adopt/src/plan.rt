@@ -46,6 +46,14 @@ pub struct RuleAt {
     pub place: usize,
 }
 
+/// How many bits of a source count in the keys of all rules that track it.
+#[derive(Clone, Copy, Debug)]
+pub struct SharedMask {
+    pub v4: u64,
+    /// None where each of their tables has keys of IPv4 alone.
+    pub v6: Option<u64>,
+}
+
 /// A file, and what is served of it.
 #[derive(Drop)]
 pub struct Plan {
@@ -60,6 +68,8 @@ pub struct Plan {
     /// The rules that run, in their order.
     pub rules: Vec<RuleAt>,
     pub tracks: Vec<Track>,
+    /// What options of the command line stand for in the keys of the rules.
+    pub mask: Option<SharedMask>,
     /// Whether a table stores `gpc_rate`.
     pub stores_rates: bool,
     /// The slot by which all connections of the frontend are counted together, where a rule asks how many there are.

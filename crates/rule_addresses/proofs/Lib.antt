@@ -1,3 +1,5 @@
 mod BitLemmas
 mod PortLemmas
 mod EndpointLemmas
+mod PrefixLemmas
+mod AgreeLemmas

@@ -1,3 +1,4 @@
 pub mod Addresses
 pub mod Laws
 pub mod Matching
+pub mod Prefix

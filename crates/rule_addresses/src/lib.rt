@@ -4,8 +4,10 @@
 mod address;
 mod endpoint;
 pub mod laws;
+mod masking;
 mod network;
 
 pub use address::{Address, Endpoint, Network, read_address};
 pub use endpoint::{read_bind, read_server};
+pub use masking::Prefixes;
 pub use network::read_network;

@@ -3,6 +3,7 @@ use Rattle.std.specs.Prelude.{refl, ◌≡◌, ℕ, ◌^◌, false, [], ◌∷�
 use Rattle.stick_key.specs.declared.kind.KeyType.TheVariants.{Ip}
 use Rattle.stored_data.specs.Fields.{plain, same_field}
 use Rattle.stored_data.specs.declared.datum.Datum.TheVariants.{ConnCur}
+use Rattle.rule_addresses.specs.Prefix.{whole}
 use Rattle.rule_addresses.specs.declared.address.Address.TheVariants.{V4}
 use Rattle.stick_model.specs.Key.{Key}
 use Rattle.stick_model.specs.declared.rows.Row.{Row}
@@ -22,7 +23,7 @@ addresses = record { kind = Ip; size = 10; expire = None; nopurge = false; purge
 
 -- track-sc0 src, and reject if { sc0_conn_cur gt 1 }
 abbrev pub one_each : Setup
-one_each = record { tables = record { name = codes "www"; spec = addresses } ∷ []; rules = tracking_rule (codes "www") ∷ refusing_rule 1 ∷ []; bind = None; server = None; shards = 1 }
+one_each = record { tables = record { name = codes "www"; spec = addresses } ∷ []; rules = tracking_rule (codes "www") ∷ refusing_rule 1 ∷ []; bind = None; server = None; shards = 1; prefixes = whole }
 
 abbrev pub client : Samples
 client = record { src = V4 (10 ∷ 0 ∷ 0 ∷ 1 ∷ []); src_port = 40001; dst_port = 80 }

@@ -2,8 +2,10 @@
 use Rattle.std.specs.Prelude.{ℕ, ◌^◌, nat_lt, Bool, true, false, List, Option, Some, None, is_some, position, slice_get, if◌then◌else◌}
 use Rattle.std.specs.Option.{option_map}
 use Rattle.std.specs.Str.{bytes_eq}
+use Rattle.rule_addresses.specs.Prefix.{masked}
 use Rattle.rule_addresses.specs.declared.address.Address.{Address}
 use Rattle.rule_addresses.specs.declared.address.Address.TheVariants as addresses
+use Rattle.rule_addresses.specs.declared.masking.Prefixes.{Prefixes}
 use Rattle.stick_key.specs.Convert.{converted}
 use Rattle.stick_key.specs.declared.kind.KeyType.{KeyType}
 use Rattle.stick_key.specs.declared.sample.Sample.{Sample}
@@ -57,13 +59,13 @@ abbrev pub address_sample : Address → Sample
 address_sample (addresses.V4 address) = samples.V4 address
 address_sample (addresses.V6 address) = samples.V6 address
 
--- the sample that a key is made of
-abbrev pub sample_of : Samples → KeyExpression → Sample
-sample_of known keys.Source = address_sample known.src
-sample_of known keys.SourcePort = samples.Number known.src_port
-sample_of known keys.DestinationPort = samples.Number known.dst_port
-sample_of known (keys.Integer number) = samples.Number number
-sample_of known (keys.Text text) = samples.Text text
+-- the sample that a key is made of; of a source that is what the prefixes leave of it
+abbrev pub sample_of : Prefixes → Samples → KeyExpression → Sample
+sample_of prefixes known keys.Source = address_sample (masked prefixes known.src)
+sample_of prefixes known keys.SourcePort = samples.Number known.src_port
+sample_of prefixes known keys.DestinationPort = samples.Number known.dst_port
+sample_of prefixes known (keys.Integer number) = samples.Number number
+sample_of prefixes known (keys.Text text) = samples.Text text
 
 abbrev pub key_in : Sample → Option KeyType → Option Key
 key_in sample None = None
@@ -71,4 +73,4 @@ key_in sample (Some kind) = converted sample kind
 
 -- the key that an expression gives a table, if it can be converted
 abbrev pub key_of : Setup → Samples → KeyExpression → ℕ → Option Key
-key_of setup known expression table = key_in (sample_of known expression) (kind_of setup table)
+key_of setup known expression table = key_in (sample_of setup.prefixes known expression) (kind_of setup table)

@@ -8,7 +8,7 @@ ghost use Rattle.rule_eval.specs.Tables.{in_32_bits, table_number, kind_of, stor
 
 use crate::Samples;
 use base_sequence::NoMemory;
-use rule_addresses::Address;
+use rule_addresses::{Address, Prefixes};
 use rule_model::{Fetch, KeyExpression, NamedSpec, Setup};
 use std::alloc::Global;
 use stick_key::{KeyType, Sample, StickKey, convert, unmapped};
@@ -91,11 +91,11 @@ fn address_converts(address: Address, kind: KeyType) -> bool
 }
 
 /// Whether an expression can be a key of this kind. This takes no memory.
-fn converts(samples: Samples, expression: &KeyExpression, kind: KeyType) -> bool
-    ensures { result ≡ is_some (converted (sample_of samples expression.now) kind) }
+fn converts(prefixes: Prefixes, samples: Samples, expression: &KeyExpression, kind: KeyType) -> bool
+    ensures { result ≡ is_some (converted (sample_of prefixes samples expression.now) kind) }
 {
     match expression {
-        KeyExpression::Source => address_converts(samples.src, kind),
+        KeyExpression::Source => address_converts(prefixes.masked(samples.src), kind),
         KeyExpression::SourcePort | KeyExpression::DestinationPort | KeyExpression::Integer(_) =>
             matches!(
                 kind,
@@ -117,16 +117,21 @@ pub(crate) fn has_key(
 {
     match kind_of(setup, table) {
         None => false,
-        Some(kind) => converts(samples, expression, kind),
+        Some(kind) => converts(setup.prefixes, samples, expression, kind),
     }
 }
 
-fn sample_of(samples: Samples, expression: &KeyExpression) -> Result<Sample, NoMemory>
-    ensures sample { IfOk result (λ sample. sample ≡ sample_of samples expression.now) }
+/// The sample that a key is made of; of a source that is what the prefixes leave of it.
+fn sample_of(
+    prefixes: Prefixes,
+    samples: Samples,
+    expression: &KeyExpression,
+) -> Result<Sample, NoMemory>
+    ensures sample { IfOk result (λ sample. sample ≡ sample_of prefixes samples expression.now) }
     ensures memory { is_text expression.now ≡ false → IsOk result }
 {
     match expression {
-        KeyExpression::Source => match samples.src {
+        KeyExpression::Source => match prefixes.masked(samples.src) {
             Address::V4(address) => Ok(Sample::V4(address)),
             Address::V6(address) => Ok(Sample::V6(address)),
         },
@@ -151,7 +156,7 @@ pub(crate) fn key_of(
     let Some(kind) = kind_of(setup, table) else {
         return Ok(None);
     };
-    let sample = sample_of(samples, expression)?;
+    let sample = sample_of(setup.prefixes, samples, expression)?;
     match convert(alloc, &sample, kind) {
         Ok(key) => Ok(key),
         Err(_) => Err(NoMemory),

@@ -3,7 +3,9 @@ use Rattle.std.specs.Prelude.{ℕ, ◌^◌, ◌≤◌, ◌<◌, Bool, true, fals
 use Rattle.std.specs.List.{find, filter_map}
 use Rattle.std.specs.Option.{option_or, option_map, option_and_then}
 use Rattle.std.specs.Str.{bytes_eq}
+use Rattle.rule_addresses.specs.Prefix.{whole}
 use Rattle.rule_addresses.specs.declared.address.Endpoint.{Endpoint}
+use Rattle.rule_addresses.specs.declared.masking.Prefixes.{Prefixes}
 use Rattle.stick_model.specs.declared.specification.Spec.{Spec}
 use Rattle.stick_model.specs.Limits.{IsKeyType, IsTableSpec}
 use Rattle.rule_model.specs.declared.sections.SectionKind.{SectionKind}
@@ -65,10 +67,10 @@ backend_named sections name = find (λ section. has_backend section.kind && byte
 abbrev pub server_of : List Section → Section → Option Endpoint
 server_of sections proxy = option_or proxy.server (option_and_then (λ name. option_and_then (λ (section : Section). section.server) (backend_named sections name)) proxy.default_backend)
 
--- the tables and the proxy; without one there are no rules, and nothing to listen at or connect to
+-- the tables and the proxy, with whole sources as keys; without a proxy there are no rules, and nothing to listen at or connect to
 abbrev pub setup_with : List Section → ℕ → Option Section → Setup
-setup_with sections shards None = record { tables = tables_of sections; rules = []; bind = None; server = None; shards = shards }
-setup_with sections shards (Some proxy) = record { tables = tables_of sections; rules = proxy.rules; bind = proxy.bind; server = server_of sections proxy; shards = shards }
+setup_with sections shards None = record { tables = tables_of sections; rules = []; bind = None; server = None; shards = shards; prefixes = whole }
+setup_with sections shards (Some proxy) = record { tables = tables_of sections; rules = proxy.rules; bind = proxy.bind; server = server_of sections proxy; shards = shards; prefixes = whole }
 
 unfoldable pub setup_of : Config → ℕ → Setup
 setup_of config shards = setup_with config.sections shards (proxy_of config.sections)
@@ -79,6 +81,10 @@ named_with_purge purge named = record named { spec = record named.spec { purge =
 
 abbrev pub with_purge : ℕ → Setup → Setup
 with_purge purge setup = record setup { tables = map (named_with_purge purge) setup.tables }
+
+-- the same, with so many of a source's first bits where it is a key
+abbrev pub with_prefixes : Prefixes → Setup → Setup
+with_prefixes prefixes setup = record setup { prefixes = prefixes }
 
 -- the first table that has fewer places than there are shards
 abbrev pub narrow_table_of : Setup → Option NamedSpec

@@ -3,7 +3,7 @@
 
 use crate::Rule;
 use base_sequence::Sequence;
-use rule_addresses::Endpoint;
+use rule_addresses::{Endpoint, Prefixes};
 use stick_key::KeyType;
 use stick_model::Spec;
 use stored_data::StoredSet;
@@ -70,4 +70,6 @@ pub struct Setup {
     pub server: Option<Endpoint>,
     /// In how many parts each table is kept.
     pub shards: u32,
+    /// How much of a source counts where it is a key.
+    pub prefixes: Prefixes,
 }

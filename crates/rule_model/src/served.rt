@@ -4,13 +4,14 @@ ghost use Rattle.std.specs.Prelude.{◌≡◌, ◌≤◌, ◌-◌, ◌^◌, ◌�
 ghost use Rattle.std.specs.List.{count_by, sum_by};
 ghost use Rattle.std.specs.Option.{option_map, option_and_then};
 ghost use Rattle.stick_model.specs.Limits.{IsTableSpec};
+ghost use Rattle.rule_addresses.specs.Prefix.{whole};
 ghost use Rattle.rule_model.specs.declared.sections.Section.{Section};
 ghost use Rattle.rule_model.specs.Served as spec;
 ghost use Rattle.rule_model.specs.Served.{AreTables, AreTableSpecs, backend_named, named_with_purge, narrow_table_of, proxy_of, server_of, setup_of, spec_of, tables_of};
 
 use crate::{Config, Name, NamedSpec, Rule, Section, SectionKind, Setup, TableSpec};
 use base_sequence::{NoMemory, Sequence};
-use rule_addresses::Endpoint;
+use rule_addresses::{Endpoint, Prefixes};
 use std::alloc::Global;
 use stick_model::Spec;
 
@@ -167,7 +168,7 @@ impl Setup {
     /// One table, and no proxy.
     pub fn of_table(alloc: Global, name: &[u8], spec: Spec) -> Result<Setup, NoMemory>
         requires { IsTableSpec spec }
-        ensures setup { IfOk result (λ setup. setup ≡ record { tables = record { name = name.now; spec = spec } ∷ []; rules = []; bind = None; server = None; shards = 1 }) }
+        ensures setup { IfOk result (λ setup. setup ≡ record { tables = record { name = name.now; spec = spec } ∷ []; rules = []; bind = None; server = None; shards = 1; prefixes = whole }) }
         ensures limits { IfOk result (λ setup. AreTableSpecs setup.tables) }
     {
         let name = Sequence::from_slice(alloc, name)?;
@@ -179,6 +180,7 @@ impl Setup {
             bind: None,
             server: None,
             shards: 1,
+            prefixes: Prefixes::whole(),
         })
     }
 
@@ -194,6 +196,7 @@ impl Setup {
             bind,
             server,
             shards,
+            prefixes,
         } = self;
         Setup {
             tables: purging_tables(tables, purge),
@@ -201,6 +204,30 @@ impl Setup {
             bind,
             server,
             shards,
+            prefixes,
+        }
+    }
+
+    /// The same, but that so many of a source's first bits count where it is a key.
+    pub fn with_prefixes(self, prefixes: Prefixes) -> Setup
+        ensures prefixes { result ≡ spec.with_prefixes prefixes self }
+        ensures limits { AreTableSpecs self.tables → AreTableSpecs result.tables }
+    {
+        let Setup {
+            tables,
+            rules,
+            bind,
+            server,
+            shards,
+            prefixes: _,
+        } = self;
+        Setup {
+            tables,
+            rules,
+            bind,
+            server,
+            shards,
+            prefixes,
         }
     }
 
@@ -232,7 +259,7 @@ impl Config {
     }
 
     /// What is served: the tables of all sections, and the first section that listens for clients, each table in so
-    /// many shards.
+    /// many shards, and sources whole where they are keys.
     #[tactic(auto, unfolding(crate::specs::Served::setup_of))]
     pub fn proxy(&self, alloc: Global, shards: u32) -> Result<Setup, NoMemory>
         requires some { 1 ≤ shards }
@@ -250,6 +277,7 @@ impl Config {
                 bind: None,
                 server: None,
                 shards,
+                prefixes: Prefixes::whole(),
             });
         };
         let rules = copy_rules(alloc, proxy.rules.as_slice())?;
@@ -259,6 +287,7 @@ impl Config {
             bind: proxy.bind,
             server: find_server(sections, proxy),
             shards,
+            prefixes: Prefixes::whole(),
         })
     }
 }

@@ -2,6 +2,7 @@
 use Rattle.std.specs.Prelude.{◌≡◌, ℕ, true, false, List, [], ◌∷◌, ◌++◌, Some, None}
 use Rattle.stick_key.specs.Convert.{converted}
 use Rattle.stick_key.specs.declared.kind.KeyType.{KeyType}
+use Rattle.rule_addresses.specs.declared.masking.Prefixes.{Prefixes}
 use Rattle.rule_eval.specs.Tables.{sample_of}
 use Rattle.rule_eval.specs.declared.wants.Samples.{Samples}
 use Rattle.rule_model.specs.declared.actions.KeyExpression.{KeyExpression}
@@ -27,6 +28,6 @@ abbrev pub AdviceLaw : Type 0
 AdviceLaw = (connections shards : ℕ) (slot : Slot) (before after : List Rule) (named : NamedSpec) →
     AllByRecursion (λ rule. is_sure slot rule ≡ false) before → failing connections shards (before ++ guard slot ∷ after) slot named ≡ None
 
--- an expression that can't be a key of a type gives it none, whatever the connection is
+-- an expression that can't be a key of a type gives it none, whatever the connection is and however much of its source counts
 abbrev pub KeyLaw : Type 0
-KeyLaw = (kind : KeyType) (key : KeyExpression) → can_be_key kind key ≡ false → (known : Samples) → converted (sample_of known key) kind ≡ None
+KeyLaw = (kind : KeyType) (key : KeyExpression) → can_be_key kind key ≡ false → (prefixes : Prefixes) (known : Samples) → converted (sample_of prefixes known key) kind ≡ None

@@ -3,6 +3,7 @@ pub mod BooksLemmas
 pub mod RecordLemmas
 pub mod RollLemmas
 pub mod TotalLemmas
+pub mod KeptLemmas
 pub mod SeatLemmas
 pub mod ToldLemmas
 pub mod LawLemmas

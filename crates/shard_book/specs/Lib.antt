@@ -8,3 +8,4 @@ pub mod Total
 pub mod SeatState
 pub mod Told
 pub mod SeatLaws
+pub mod Kept

@@ -3,6 +3,7 @@
 ghost use Rattle.std.specs.Prelude.{◌≡◌, ◌≤◌, ◌<◌, ◌+◌, ◌^◌, true, false, length, is_some, slice_index, slice_set, IfOk, IfErr, OnOk, OnErr, IsOk};
 ghost use Rattle.stick_model.specs.State.{key_of};
 ghost use Rattle.stick_model.specs.Limits.{IsTableEvent};
+ghost use Rattle.stick_model.specs.Refusals.{has_life};
 ghost use Rattle.stick_model.specs.declared.events.Event.TheVariants.{Release};
 ghost use Rattle.shard_book.specs.BookState.{IsBook, Extends};
 ghost use Rattle.shard_book.specs.SeatState.{SeatState, IsSeat, calls_of, seen_of, fresh};
@@ -110,6 +111,7 @@ pub fn serve<T: Table>(
     ensures told { IfOk result (λ reply. Told seat.old shard event reply seat.new) }
     ensures number { OnOk result (seen_of seat.new shard ≡ book.new.live.events) }
     ensures later { OnOk result (seen_of seat.old shard ≤ book.old.live.events) }
+    ensures lives { OnOk result (has_life book.old.live event ≡ true) }
 
     // A refusal has its cause, in this book, and changes nothing.
     ensures refused { IfErr result (IsRefusedTo seat.old shard event) }

@@ -8,3 +8,4 @@ pub mod Views
 pub mod ViewMoves
 pub mod LawLemmas
 pub mod TellingLemmas
+pub mod DealingLemmas

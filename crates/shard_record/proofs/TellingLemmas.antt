@@ -103,7 +103,7 @@ longer_told : (log : List Call) → longer [] log ≡ log
 longer_told [] = refl
 longer_told (one ∷ log) = let is : nat_le (length (one ∷ log)) (length {A = Call} []) ≡ false = grind (arith, nat_tests) in ap (λ b. cond b [] (one ∷ log)) is
 
-told_back : (number : ℕ) (log mine : List Call) → compared (joined nobody (spoken number log mine)) ≡ spoken number log mine
+pub told_back : (number : ℕ) (log mine : List Call) → compared (joined nobody (spoken number log mine)) ≡ spoken number log mine
 told_back number log mine = λ i. record { keeps = false; log = longer_told log i; told = []; held = []; callers = caller number mine ∷ [] }
 
 pub record HasCalled (book number : ℕ) (event : Event) (reply : Reply) (log mine : List Call) (held : List Held) (after old new : View) : Type 0 where

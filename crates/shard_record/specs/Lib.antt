@@ -3,3 +3,4 @@ pub mod Parts
 pub mod Views
 pub mod Laws
 pub mod Telling
+pub mod Dealing

@@ -35,14 +35,14 @@ impl<J: Naming> Model for Keeper<J> {
 
 impl<J: Naming> Keeper<J> {
     /// The keeper of a book of which no call was noted, from the token that may keep it.
-    pub fn new(record: &Record<J>, first: &mut Token<J>, book: u32) -> Keeper<J>
+    pub fn new(records: &Record<J>, first: &mut Token<J>, book: u32) -> Keeper<J>
         requires none { keeping (at book first.old) ≡ keeper_of [] }
         ensures keeper { result ≡ record { book = book; log = [] } }
         ensures left { first.new ≡ without_keeper book first.old }
     {
         Keeper {
             book,
-            token: record.part_keeper(first, book),
+            token: records.part_keeper(first, book),
         }
     }
 
@@ -57,7 +57,7 @@ impl<J: Naming> Keeper<J> {
     /// call made, if it made one. A release is noted by `note_release`.
     pub fn note(
         &mut self,
-        record: &Record<J>,
+        records: &Record<J>,
         seat: &mut Token<J>,
         event: &Event,
         reply: &Reply,
@@ -73,14 +73,14 @@ impl<J: Naming> Keeper<J> {
         ensures settled { IsSettled seat.new }
         ensures given { result ≡ only self.old.book (holder self.new.log (tickets_told event.now reply.now [])) }
     {
-        note(record, &mut self.token, seat, self.book, event, reply)
+        note(records, &mut self.token, seat, self.book, event, reply)
     }
 
     /// Notes a release that the book has answered to a seat, tells the seat, and takes the reference. That was out, and so the
     /// answer is that it is released.
     pub fn note_release(
         &mut self,
-        record: &Record<J>,
+        records: &Record<J>,
         seat: &mut Token<J>,
         reference: Token<J>,
         release: &Event,
@@ -99,7 +99,7 @@ impl<J: Naming> Keeper<J> {
         ensures settled { IsSettled seat.new }
     {
         note_release(
-            record,
+            records,
             &mut self.token,
             seat,
             reference,
@@ -110,13 +110,13 @@ impl<J: Naming> Keeper<J> {
     }
 
     /// Shows a reference the whole record of its book: what it has is out there, and so no call by it is refused as stale.
-    pub fn confirm(&mut self, record: &Record<J>, reference: &mut Token<J>)
+    pub fn confirm(&mut self, records: &Record<J>, reference: &mut Token<J>)
         requires reference { IsReference self.old.book reference.old }
         ensures same { self.new ≡ self.old }
         ensures reference { reference.new ≡ only self.old.book (holder self.old.log ((ticket_at self.old.book reference.old, key_at self.old.book reference.old) ∷ [])) }
         ensures seen { IsPrefix (log_of self.old.book reference.old) self.old.log }
         ensures out { IsOut self.old.log (ticket_at self.old.book reference.old) (key_at self.old.book reference.old) }
     {
-        confirm(record, &mut self.token, reference, self.book)
+        confirm(records, &mut self.token, reference, self.book)
     }
 }

@@ -5,6 +5,7 @@
 #![tactic(auto)]
 
 mod choosing;
+mod dealing;
 mod keeper;
 pub mod laws;
 mod naming;
@@ -14,6 +15,7 @@ mod telling;
 mod token;
 mod view;
 
+pub use dealing::{deal_keeper, deal_seat};
 pub use keeper::Keeper;
 pub use naming::Naming;
 pub use record::{Opened, Record};

@@ -2,6 +2,7 @@
 
 ghost use Rattle.std.specs.Prelude.{◌≡◌, ℕ, [], map, IfOk};
 ghost use Rattle.shard_record.specs.Parts.{MayAppend, appended, callers_alone, compared, held_alone, joined, without_callers, without_held};
+ghost use Rattle.shard_record.specs.Dealing.{HasBegun};
 ghost use Rattle.shard_record.specs.Views.{AreCompared, at, book_alone, keeper_alone, opening, paired, put, seat_alone, without_book, without_keeper, without_seat};
 
 use crate::choosing::{OfBook, OfCall, OfSeat};
@@ -52,7 +53,8 @@ impl Opened {
     /// The record under a name, and its first token: that keeps the record of each book, and may call for each seat.
     pub fn named<J: Naming>(self) -> (Record<J>, Token<J>)
         requires { self.first.table_id ≡ J.record_id }
-        ensures { result.1 ≡ opening self.books self.seats }
+        ensures opening { result.1 ≡ opening self.books self.seats }
+        ensures begun { HasBegun self.books 0 self.seats result.1 }
     {
         let Opened {
             table,

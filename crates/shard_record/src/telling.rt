@@ -17,7 +17,7 @@ use stick_model::{Event, Reply};
 /// Notes a call that a book has answered to a seat, and tells the seat. Another token has the reference that the call made, if it
 /// made one. A release is noted by `note_release`.
 pub(crate) fn note<J: Naming>(
-    record: &Record<J>,
+    records: &Record<J>,
     keeper: &mut Token<J>,
     seat: &mut Token<J>,
     book: u32,
@@ -36,15 +36,15 @@ pub(crate) fn note<J: Naming>(
     ensures settled { IsSettled seat.new }
     ensures given { result ≡ only book (holder (log_of book keeper.new) (tickets_told event.now reply.now [])) }
 {
-    take_seat(record, keeper, seat, book);
-    tell(record, keeper, seat, book, event, reply);
-    record.part_held(keeper)
+    take_seat(records, keeper, seat, book);
+    tell(records, keeper, seat, book, event, reply);
+    records.part_held(keeper)
 }
 
 /// Notes a release that a book has answered to a seat, tells the seat, and takes the reference. That was out, and so the answer
 /// is that it is released.
 pub(crate) fn note_release<J: Naming>(
-    record: &Record<J>,
+    records: &Record<J>,
     keeper: &mut Token<J>,
     seat: &mut Token<J>,
     reference: Token<J>,
@@ -65,14 +65,14 @@ pub(crate) fn note_release<J: Naming>(
     ensures seat { IsSeer book seat.new }
     ensures settled { IsSettled seat.new }
 {
-    take_reference(record, keeper, reference, book);
-    take_seat(record, keeper, seat, book);
-    tell(record, keeper, seat, book, release, reply);
+    take_reference(records, keeper, reference, book);
+    take_seat(records, keeper, seat, book);
+    tell(records, keeper, seat, book, release, reply);
 }
 
 /// Shows a reference the whole record of its book: what it has is out there, and so no call by it is refused as stale.
 pub(crate) fn confirm<J: Naming>(
-    record: &Record<J>,
+    records: &Record<J>,
     keeper: &mut Token<J>,
     reference: &mut Token<J>,
     book: u32,
@@ -84,15 +84,15 @@ pub(crate) fn confirm<J: Naming>(
     ensures seen { IsPrefix (log_of book reference.old) (log_of book keeper.old) }
     ensures out { IsOut (log_of book keeper.old) (ticket_at book reference.old) (key_at book reference.old) }
 {
-    let blank = record.part_held(keeper);
+    let blank = records.part_held(keeper);
     let shown = mem::replace(reference, blank);
-    take_reference(record, keeper, shown, book);
-    *reference = record.part_held(keeper);
+    take_reference(records, keeper, shown, book);
+    *reference = records.part_held(keeper);
 }
 
 /// The keeper has a reference: it is out.
 fn take_reference<J: Naming>(
-    record: &Record<J>,
+    records: &Record<J>,
     keeper: &mut Token<J>,
     reference: Token<J>,
     book: u32,
@@ -103,11 +103,11 @@ fn take_reference<J: Naming>(
     ensures seen { IsPrefix (log_of book reference) (log_of book keeper.old) }
     ensures out { IsOut (log_of book keeper.old) (ticket_at book reference) (key_at book reference) }
 {
-    record.join(keeper, reference);
+    records.join(keeper, reference);
 }
 
 /// The keeper may call for a seat: the seat's calls of the book are those in the record that have its number.
-fn take_seat<J: Naming>(record: &Record<J>, keeper: &mut Token<J>, seat: &mut Token<J>, book: u32)
+fn take_seat<J: Naming>(records: &Record<J>, keeper: &mut Token<J>, seat: &mut Token<J>, book: u32)
     requires keeper { keeper.old ≡ only book (keeping_for (log_of book keeper.old) (at book keeper.old).held []) }
     requires seat { IsSeer book seat.old }
     ensures keeper { keeper.new ≡ only book (keeping_for (log_of book keeper.old) (at book keeper.old).held (caller (number_of book seat.old) (mine_of book seat.old) ∷ [])) }
@@ -115,13 +115,13 @@ fn take_seat<J: Naming>(record: &Record<J>, keeper: &mut Token<J>, seat: &mut To
     ensures seen { IsPrefix (log_of book seat.old) (log_of book keeper.old) }
     ensures mine { AreTheirs (log_of book keeper.old) (caller (number_of book seat.old) (mine_of book seat.old) ∷ []) }
 {
-    let part = record.part_book(seat, book);
-    record.join(keeper, part);
+    let part = records.part_book(seat, book);
+    records.join(keeper, part);
 }
 
 /// Notes the call for the seat for which the keeper may call, and gives that back to the seat's token.
 fn tell<J: Naming>(
-    record: &Record<J>,
+    records: &Record<J>,
     keeper: &mut Token<J>,
     seat: &mut Token<J>,
     book: u32,
@@ -134,7 +134,7 @@ fn tell<J: Naming>(
     ensures keeper { keeper.new ≡ only book (keeping_for (log_of book keeper.old ++ call (number_of book keeper.old) event.now reply.now ∷ []) (tickets_told event.now reply.now (at book keeper.old).held) []) }
     ensures seat { seat.new ≡ put book (spoken (number_of book keeper.old) (log_of book keeper.old ++ call (number_of book keeper.old) event.now reply.now ∷ []) (mine_of book keeper.old ++ call (number_of book keeper.old) event.now reply.now ∷ [])) seat.old }
 {
-    record.append(keeper, book, event, reply);
-    let part = record.part_callers(keeper);
-    record.join(seat, part);
+    records.append(keeper, book, event, reply);
+    let part = records.part_callers(keeper);
+    records.join(seat, part);
 }

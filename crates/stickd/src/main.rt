@@ -3,6 +3,7 @@
 #![tactic(auto)]
 
 ghost use Rattle.std.specs.Prelude.{◌≤◌};
+ghost use Rattle.rule_model.specs.Served.{AreTables};
 
 mod run_plan;
 
@@ -11,7 +12,8 @@ use base_sequence::NoMemory;
 use byte_ports::{StreamSink, StreamSource};
 use clap::ArgMatches;
 use log::Log;
-use run_plan::{BadWord, read_binds, read_plan};
+use rule_model::Config;
+use run_plan::{BadWord, read_binds, read_drain, read_plan};
 use std::alloc::Global;
 use std::net::{Net, TcpListener, TcpStream};
 use std::process::ExitCode;
@@ -20,13 +22,15 @@ use std::rt::{Env, Files};
 use std::sync::Wait;
 use std::thread::Threads;
 use std::time::Clock;
-use std::{env, io};
-use stickd_ctl::{Ctl, Top, ask_running, show_top};
+use std::{env, io, str};
+use stickd_ctl::{Ctl, Stop, Top, ask_running, show_top, stop_running};
 use stickd_input::{
-    Detail, Keeping, Telling, open_served, open_setup, read_command_line, read_file, read_keeping,
+    Detail, Keeping, STATS, Telling, frontend_name, open_served, open_setup, read_command_line,
+    read_file, read_keeping, read_served,
 };
 use stickd_script::{BadLines, FaultKind, ReplayFault, replay_script};
-use tcp_proxy::{ProxyRuntime, run_pooled};
+use tcp_proxy::{Plan, ProxyRuntime, run_pooled};
+use tcp_watch::read_surroundings;
 
 /// The status of a bad command line.
 const BAD_COMMAND_LINE: u8 = 2;
@@ -100,7 +104,7 @@ fn run<
 }
 
 /// Does what a command asks. The status is 1 where that fails, which is then said on standard error.
-fn run_command<R: ProxyRuntime + RandomSource + Files + Env + Input + Print + Eprint + AllocGlobal>(
+fn run_command<R: ProxyRuntime + RandomSource + Env + Input + Print>(
     rt: &R,
     matches: &ArgMatches<'_>,
 ) -> io::Result<ExitCode> {
@@ -109,6 +113,7 @@ fn run_command<R: ProxyRuntime + RandomSource + Files + Env + Input + Print + Ep
         Some(("check", arguments)) => check(rt, arguments)?,
         Some(("ctl", arguments)) => return ask_named(rt, arguments),
         Some(("run", arguments)) => return serve(rt, arguments),
+        Some(("stop", arguments)) => return stop_named(rt, arguments),
         Some(("top", arguments)) => return show_greatest(rt, arguments),
         Some((_, arguments)) => replay(rt, arguments.get_str("FILE"), read_keeping(arguments))?,
         None => false,
@@ -180,6 +185,19 @@ fn show_greatest<R: Net + Clock + Env + Print + Eprint + AllocGlobal>(
         rows: arguments.get_one::<u32>("rows").unwrap_or(20) as usize,
     };
     Ok(ExitCode::from(show_top(rt, &asked)?))
+}
+
+/// Stops a running stickd.
+fn stop_named<R: Net + Files + Clock + Eprint + AllocGlobal>(
+    rt: &R,
+    arguments: &ArgMatches<'_>,
+) -> io::Result<ExitCode> {
+    let drain = match read_drain(arguments) {
+        Ok(drain) => drain,
+        Err(bad) => return refuse(rt, bad),
+    };
+    let path = arguments.get_str(STATS).unwrap_or("");
+    Ok(ExitCode::from(stop_running(rt, &Stop { path, drain })?))
 }
 
 /// Which faults `stickd check` tells.
@@ -256,7 +274,7 @@ fn report_bad_lines<R: Eprint>(rt: &R, bad: &BadLines) -> io::Result<()> {
 }
 
 /// Runs the proxy of a configuration, each of its tables kept as the command line says.
-fn serve<R: ProxyRuntime + RandomSource + Files + Print + Eprint + AllocGlobal>(
+fn serve<R: ProxyRuntime + RandomSource + Env + Print>(
     rt: &R,
     arguments: &ArgMatches<'_>,
 ) -> io::Result<ExitCode> {
@@ -264,14 +282,35 @@ fn serve<R: ProxyRuntime + RandomSource + Files + Print + Eprint + AllocGlobal>(
         Ok(binds) => binds,
         Err(bad) => return refuse(rt, bad),
     };
-    let plan = match read_plan(arguments, binds.as_slice()) {
+    let plan = match read_plan(arguments, binds.as_slice(), read_surroundings(rt)) {
         Ok(plan) => plan,
         Err(bad) => return refuse(rt, bad),
     };
-    let path = arguments.get_str("FILE");
-    let Some(setup) = open_served(rt, path, read_keeping(arguments))? else {
+    let path = arguments.get_str("FILE").unwrap_or("");
+    match read_served(rt, path)? {
+        Some(config) => serve_config(rt, &config, read_keeping(arguments), plan),
+        None => Ok(ExitCode::FAILURE),
+    }
+}
+
+/// Runs the proxy of a configuration that was read.
+fn serve_config<'a, R: ProxyRuntime + RandomSource + Print>(
+    rt: &R,
+    config: &'a Config,
+    keeping: Keeping,
+    mut plan: Plan<'a>,
+) -> io::Result<ExitCode>
+    requires tables { AreTables config.now.sections }
+    requires shards { (1 ≤ keeping.shards) × (keeping.shards ≤ 64) }
+    requires purge { (1 ≤ keeping.purge) × (keeping.purge ≤ 1024) }
+    requires threads { (1 ≤ plan.threads) × (plan.threads ≤ 64) }
+    requires clients { (1 ≤ plan.socket.clients) × (plan.socket.clients ≤ 64) }
+{
+    let Some(setup) = open_served(rt, config, keeping)? else {
         return Ok(ExitCode::FAILURE);
     };
+    // A name is made of ASCII letters, digits and a few signs.
+    plan.watch.about.frontend = str::from_utf8(frontend_name(config)).unwrap_or("");
     let is_done = run_pooled(rt.alloc(), rt, &setup, plan)?;
     Ok(status_of(is_done))
 }

@@ -1,17 +1,21 @@
 //! What `stickd run` is asked, read from the command line; `main` calls `read_plan` before it runs the proxy.
 
-ghost use Rattle.std.specs.Prelude.{◌≡◌, ◌≤◌, Some, IfOk, length, map};
+ghost use Rattle.std.specs.Prelude.{◌≡◌, ◌≤◌, Some, IfOk, IfSome, length, map};
 ghost use Rattle.rule_addresses.specs.Addresses.{bind_of};
 
 use clap::ArgMatches;
 use rule_addresses::{Endpoint, read_bind};
 use rule_words::read_time;
 use std::alloc::Global;
-use stickd_input::{BIND, CLIENT, CONNECT, FIN, KEEPALIVE, SERVER, SOCKET};
+use stickd_input::{
+    BIND, CLIENT, CONNECT, DRAIN, FIN, KEEPALIVE, LOG_REJECTED, METRICS, REPORT, SERVER, SOCKET,
+    STATS, VERSION,
+};
 use table_socket::read_mode;
 use tcp_link::{Keepalive, Timeouts};
-use tcp_proxy::{Plan, SocketPlan};
+use tcp_proxy::{About, Plan, SocketPlan, StatsPlan, WatchPlan};
 use tcp_relay::Limits;
+use tcp_watch::Surroundings;
 
 /// How long a server may take to accept a connection where that isn't said, in ms.
 const CONNECT_TIME: u64 = 5_000;
@@ -25,6 +29,12 @@ const SOCKET_MODE: u32 = 0o600;
 /// How many connections may wait to be accepted at most: what listen(2) can be asked.
 const MOST_BACKLOG: u32 = 0x7fff_ffff;
 
+/// The day of the program's release, as HAProxy's tools are told it.
+const RELEASE_DATE: &str = "2026/11/27";
+
+/// How long open connections may go on once the program is to stop, where that isn't said, in ms.
+const DRAIN_TIME: u64 = 30_000;
+
 /// How often `--bind` may be given.
 const MOST_BINDS: usize = 16;
 
@@ -35,8 +45,10 @@ pub enum BadWord<'a> {
     Time { option: &'static str, word: &'a str },
     #[error("'{0}' is no mode for --socket-mode: it is one to four octal digits up to 0777, as 600 or 0660")]
     Mode(&'a str),
-    #[error("'{0}' is no place to listen for --bind: it is ADDRESS:PORT, as 127.0.0.1:8080, [::1]:8080 or *:8080")]
-    Bind(&'a str),
+    #[error("'{word}' is no place to listen for --{option}: it is ADDRESS:PORT, as 127.0.0.1:8080, [::1]:8080 or *:8080")]
+    Bind { option: &'static str, word: &'a str },
+    #[error("'{0}' is no socket for --stats-socket: it is PATH or PATH,mode=M, M one to four octal digits up to 0777")]
+    Stats(&'a str),
     #[error("--bind can be given 16 times, and no more")]
     ManyBinds,
     #[error("out of memory")]
@@ -124,7 +136,7 @@ fn read_each<'a>(alloc: Global, words: &[&'a str]) -> Result<Vec<Endpoint>, BadW
     let mut binds = Vec::new(alloc);
     for word in words {
         let Some(bind) = read_bind(word.as_bytes()) else {
-            return Err(BadWord::Bind(word));
+            return Err(BadWord::Bind { option: BIND, word });
         };
         if binds.push(bind).is_err() {
             return Err(BadWord::Memory);
@@ -133,11 +145,52 @@ fn read_each<'a>(alloc: Global, words: &[&'a str]) -> Result<Vec<Endpoint>, BadW
     Ok(binds)
 }
 
+/// The path of `PATH[,mode=M]`, and the permissions of the socket's file, which are its owner's alone where none are said.
+fn split_stats(word: &str) -> Option<(&str, u32)>
+    ensures mode { IfSome result (λ parts. parts.1 ≤ 511) }
+{
+    match word.split_once(',') {
+        Some((path, option)) => Some((path, read_mode(option.strip_prefix("mode=")?)?)),
+        None => Some((word, SOCKET_MODE)),
+    }
+}
+
+/// The socket on which HAProxy's tools are answered.
+fn read_stats<'a>(arguments: &ArgMatches<'a>) -> Result<Option<StatsPlan<'a>>, BadWord<'a>> {
+    let Some(word) = arguments.get_str(STATS) else {
+        return Ok(None);
+    };
+    match split_stats(word) {
+        Some((path, mode)) => Ok(Some(StatsPlan { path, mode })),
+        None => Err(BadWord::Stats(word)),
+    }
+}
+
+/// Where Prometheus is answered.
+fn read_metrics<'a>(arguments: &ArgMatches<'a>) -> Result<Option<Endpoint>, BadWord<'a>> {
+    let Some(word) = arguments.get_str(METRICS) else {
+        return Ok(None);
+    };
+    match read_bind(word.as_bytes()) {
+        Some(place) => Ok(Some(place)),
+        None => Err(BadWord::Bind {
+            option: METRICS,
+            word,
+        }),
+    }
+}
+
+/// How long open connections may go on once the program is to stop, in ms.
+pub fn read_drain<'a>(arguments: &ArgMatches<'a>) -> Result<u64, BadWord<'a>> {
+    Ok(read_timeout(arguments, DRAIN)?.unwrap_or(DRAIN_TIME))
+}
+
 /// What `stickd run` is asked. That its numbers are in their ranges was seen as the command line was read. The connections are
 /// shared out among the threads, of which there are no more than connections.
 pub fn read_plan<'a>(
     arguments: &'a ArgMatches<'_>,
     more_binds: &'a [Endpoint],
+    manager: Surroundings,
 ) -> Result<Plan<'a>, BadWord<'a>>
     ensures threads { IfOk result (λ plan. (1 ≤ plan.threads) × (plan.threads ≤ 64)) }
     ensures backlog { IfOk result (λ plan. (1 ≤ plan.backlog) × (plan.backlog ≤ 2147483647)) }
@@ -170,6 +223,19 @@ pub fn read_plan<'a>(
             keepalive: read_timeout(arguments, KEEPALIVE)?.map(Keepalive::of),
         },
         stop_after: arguments.get_one::<u64>("stop-after"),
+        watch: WatchPlan {
+            report: read_timeout(arguments, REPORT)?,
+            stats: read_stats(arguments)?,
+            metrics: read_metrics(arguments)?,
+            log_rejected: arguments.get_flag(LOG_REJECTED),
+            about: About {
+                version: VERSION,
+                release_date: RELEASE_DATE,
+                frontend: "",
+            },
+        },
+        drain: read_drain(arguments)?,
+        manager,
         roll_at: u64::from(arguments.get_one::<u32>("roll-at").unwrap_or(65_536)),
     })
 }

@@ -4,3 +4,4 @@ pub mod Strings
 pub mod Ranking
 pub mod Marks
 pub mod Json
+pub mod Stopping

@@ -1,8 +1,8 @@
-//! What an operator asks a running stickd on its command socket: commands and their answers, as they come or as JSON, and
-//! the entries with the greatest numbers.
+//! What an operator asks a running stickd on its sockets: commands and their answers, as they come or as JSON, the entries with
+//! the greatest numbers, and its end.
 //!
 //! Answers are bytes. Their lines are read, compared and printed by pure functions, whose contracts cite the definitions in
-//! `specs`. The socket and the terminal are in `client`, `asking` and `showing`, which only call them.
+//! `specs`. The socket and the terminal are in `client`, `asking`, `showing` and `stopping`, which only call them.
 #![tactic(auto)]
 
 mod asking;
@@ -14,6 +14,7 @@ mod lines;
 mod marks;
 mod ranking;
 mod showing;
+mod stopping;
 mod strings;
 
 pub use asking::{Ctl, ask_running};
@@ -23,4 +24,5 @@ pub use lines::{Header, is_row, key_of, read_header, value_of};
 pub use marks::push_marked;
 pub use ranking::{Ranked, greatest};
 pub use showing::{Top, show_top};
+pub use stopping::{AfterLook, Stop, after_look, is_quiet, is_running, pid_of, stop_running};
 pub use strings::push_string;

@@ -33,7 +33,7 @@ fn after<'a>(text: &'a [u8], prefix: &[u8]) -> Option<&'a [u8]>
 }
 
 /// The number behind a prefix.
-fn number_after(text: &[u8], prefix: &[u8]) -> Option<u64>
+pub(crate) fn number_after(text: &[u8], prefix: &[u8]) -> Option<u64>
     ensures { result ≡ spec.number_behind prefix.now text.now }
 {
     read_number(after(text, prefix)?)

@@ -3,15 +3,19 @@
 use crate::arguments::{
     add_argument, count_option, file_argument, file_command, flag_option, value_option,
 };
-use crate::help::{ADOPT_HELP, CHECK_HELP, CTL_HELP, REPLAY_HELP, RUN_HELP, TOP_HELP};
+use crate::help::{ADOPT_HELP, CHECK_HELP, CTL_HELP, REPLAY_HELP, RUN_HELP, STOP_HELP, TOP_HELP};
 use crate::options::{
     backlog_option, bind_option, client_option, clients_option, connect_option, connections_option,
-    fin_option, group_option, keepalive_option, mode_option, purge_option, retries_option,
-    roll_option, server_option, shards_option, socket_option, socket_time_option, stop_option,
-    threads_option,
+    drain_option, fin_option, group_option, ipv4_prefix_option, ipv6_prefix_option,
+    keepalive_option, metrics_option, mode_option, purge_option, rejected_option, report_option,
+    retries_option, roll_option, server_option, shards_option, socket_option, socket_time_option,
+    stats_option, stop_option, stopped_option, threads_option,
 };
 use clap::{Arg, ArgMatches, Command, Error};
 use std::alloc::{AllocError, Global};
+
+/// The program's version.
+pub const VERSION: &str = "0.1.0";
 
 /// The option that asks for an explanation of each fault.
 fn explain_option<'a>(alloc: Global) -> Arg<'a> {
@@ -162,7 +166,9 @@ fn replay_command<'a>(alloc: Global) -> Result<Command<'a>, AllocError> {
         file,
     );
     let command = add_argument(command, shards_option(alloc));
-    add_argument(command, purge_option(alloc))
+    let command = add_argument(command, purge_option(alloc));
+    let command = add_argument(command, ipv4_prefix_option(alloc));
+    add_argument(command, ipv6_prefix_option(alloc))
 }
 
 /// `stickd run`.
@@ -179,6 +185,8 @@ fn run_command<'a>(alloc: Global) -> Result<Command<'a>, AllocError> {
     let command = add_argument(command, bind_option(alloc));
     let command = add_argument(command, shards_option(alloc));
     let command = add_argument(command, purge_option(alloc));
+    let command = add_argument(command, ipv4_prefix_option(alloc));
+    let command = add_argument(command, ipv6_prefix_option(alloc));
     let command = add_argument(command, connections_option(alloc));
     let command = add_argument(command, backlog_option(alloc));
     let command = add_argument(command, connect_option(alloc));
@@ -191,8 +199,22 @@ fn run_command<'a>(alloc: Global) -> Result<Command<'a>, AllocError> {
     let command = add_argument(command, group_option(alloc));
     let command = add_argument(command, clients_option(alloc));
     let command = add_argument(command, socket_time_option(alloc));
+    let command = add_argument(command, stats_option(alloc));
+    let command = add_argument(command, metrics_option(alloc));
+    let command = add_argument(command, report_option(alloc));
+    let command = add_argument(command, rejected_option(alloc));
+    let command = add_argument(command, drain_option(alloc));
     let command = add_argument(command, stop_option(alloc));
     add_argument(command, roll_option(alloc))
+}
+
+/// `stickd stop`.
+fn stop_command<'a>(alloc: Global) -> Result<Command<'a>, AllocError> {
+    let command = Command::new(alloc, "stop")
+        .about("Stop a running stickd, and wait until it has ended")
+        .after_help(STOP_HELP)
+        .arg(stopped_option(alloc));
+    add_argument(command, drain_option(alloc))
 }
 
 /// Adds a subcommand to a command, if there was memory to make it.
@@ -207,7 +229,7 @@ fn add_subcommand<'a>(
 fn bare_program<'a>(alloc: Global) -> Command<'a> {
     Command::new(alloc, "stickd")
         .about("Stick tables in HAProxy's language, with answers that are proved")
-        .version("0.1.0")
+        .version(VERSION)
         .subcommand_required(true)
         .arg_required_else_help(true)
 }
@@ -219,6 +241,7 @@ fn program_command<'a>(alloc: Global) -> Result<Command<'a>, AllocError> {
     let command = add_subcommand(command, ctl_command(alloc))?;
     let command = add_subcommand(command, replay_command(alloc))?;
     let command = add_subcommand(command, run_command(alloc))?;
+    let command = add_subcommand(command, stop_command(alloc))?;
     add_subcommand(command, top_command(alloc))
 }
 

@@ -72,4 +72,14 @@ by ';':
 A connection is closed once a peer has been silent for its TIME. Moments are the
 milliseconds since the start. With --stop-after, once N connections have ended, 'settled
 NAME: C calls, R references' is printed for each table whose record is what its callers
-were told; or 'unsettled NAME: S1' and its kin, and the status is 1.";
+were told; or 'unsettled NAME: S1' and its kin, and the status is 1. It is also stopped by
+'stickd stop', by 'shutdown frontend NAME' on the stats socket, and by SIGTERM or SIGINT
+where that was blocked as it started ('env --block-signal=TERM stickd run ..'). Then it
+accepts none more, lets open connections end, and says the same of each table's counts.";
+
+/// What `stickd stop --help` says last.
+pub(crate) const STOP_HELP: &str = "\
+Asks the stickd whose stats socket is at PATH to stop, and waits until it has ended. It
+accepts no connection more. Those that are open go on until they end, for TIME at most,
+and are then closed. The status is 1 where nobody answers at PATH, or the program still
+runs 10 s behind TIME.";

@@ -3,6 +3,7 @@
 ghost use Rattle.std.specs.Prelude.{◌≤◌};
 
 use clap::ArgMatches;
+use rule_addresses::Prefixes;
 
 /// In how many parts each table is kept. That it is 1 to 64 was seen as the command line was read.
 fn read_shards(arguments: &ArgMatches<'_>) -> u32
@@ -24,22 +25,53 @@ fn read_purge(arguments: &ArgMatches<'_>) -> u32
         .clamp(1, 1024)
 }
 
-/// How each table is kept: in so many shards, and removing so many of its oldest entries for a new one where it is full.
+/// How many of an IPv6 source's first bits count where it is a key. That it is 1 to 128 was seen as the command line was read.
+fn read_ipv6_prefix(arguments: &ArgMatches<'_>) -> u8
+    ensures some { 1 ≤ result }
+    ensures few { result ≤ 128 }
+{
+    arguments
+        .get_one::<u32>("ipv6-prefix")
+        .unwrap_or(128)
+        .clamp(1, 128) as u8
+}
+
+/// How many of an IPv4 source's first bits count where it is a key. That it is 1 to 32 was seen as the command line was read.
+fn read_ipv4_prefix(arguments: &ArgMatches<'_>) -> u8
+    ensures some { 1 ≤ result }
+    ensures few { result ≤ 32 }
+{
+    arguments
+        .get_one::<u32>("ipv4-prefix")
+        .unwrap_or(32)
+        .clamp(1, 32) as u8
+}
+
+/// How each table is kept: in so many shards, and removing so many of its oldest entries for a new one where it is full. And
+/// how much of a source is a key there.
 #[derive(Clone, Copy, Debug)]
 pub struct Keeping {
     /// 1 to 64.
     pub shards: u32,
     /// 1 to 1,024.
     pub purge: u32,
+    /// 1 to 32 bits of IPv4, and 1 to 128 of IPv6.
+    pub prefixes: Prefixes,
 }
 
-/// How each table is kept, as the words say or, where they don't, in one shard and one entry for another.
+/// How each table is kept, as the words say or, where they don't, in one shard, one entry for another, and by whole sources.
 pub fn read_keeping(arguments: &ArgMatches<'_>) -> Keeping
     ensures shards { (1 ≤ result.shards) × (result.shards ≤ 64) }
     ensures purge { (1 ≤ result.purge) × (result.purge ≤ 1024) }
+    ensures ipv4 { (1 ≤ result.prefixes.ipv4) × (result.prefixes.ipv4 ≤ 32) }
+    ensures ipv6 { (1 ≤ result.prefixes.ipv6) × (result.prefixes.ipv6 ≤ 128) }
 {
     Keeping {
         shards: read_shards(arguments),
         purge: read_purge(arguments),
+        prefixes: Prefixes {
+            ipv4: read_ipv4_prefix(arguments),
+            ipv6: read_ipv6_prefix(arguments),
+        },
     }
 }

@@ -1,8 +1,10 @@
 //! The input of the program: its command line, its configuration and what is said of faults; `stickd` calls it.
 #![tactic(auto)]
 
-ghost use Rattle.std.specs.Prelude.{◌≡◌, ◌≤◌, IfOk, IfSome};
-ghost use Rattle.rule_model.specs.Served.{AreTables, AreTableSpecs, setup_of as served_by};
+ghost use Rattle.std.specs.Prelude.{◌≡◌, ◌≤◌, [], IfOk, IfSome};
+ghost use Rattle.std.specs.Option.{option_map, option_map_or};
+ghost use Rattle.rule_model.specs.declared.sections.Section.{Section as SectionSpec};
+ghost use Rattle.rule_model.specs.Served.{AreTables, AreTableSpecs, proxy_of, setup_of as served_by};
 ghost use Rattle.rule_warnings.specs.Warnings.{table_warnings as warnings_for};
 ghost use Rattle.admit_drive.specs.Tables.{CanOpen};
 
@@ -23,12 +25,15 @@ mod suspects;
 
 use all_faults::find_faults;
 use base_sequence::{NoMemory, Sequence};
-pub use command_line::read_command_line;
+pub use command_line::{VERSION, read_command_line};
 use explanation::{explain_fault, explain_warnings};
 pub use keeping::{Keeping, read_keeping};
-pub use options::{BIND, CLIENT, CONNECT, FIN, KEEPALIVE, SERVER, SOCKET};
+pub use options::{
+    BIND, CLIENT, CONNECT, DRAIN, FIN, KEEPALIVE, LOG_REJECTED, METRICS, REPORT, SERVER, SOCKET,
+    STATS,
+};
 use rule_config::{ConfigFault, read_config};
-use rule_model::{Config, NamedSpec, ReadError, Setup};
+use rule_model::{Config, Name, NamedSpec, ReadError, Section, Setup};
 use rule_warnings::{Warning, file_warnings, table_warnings};
 use std::alloc::Global;
 use std::rt::Files;
@@ -224,30 +229,27 @@ fn report_narrow<R: Eprint>(rt: &R, named: &NamedSpec) -> io::Result<()> {
     }
 }
 
-/// What is served by a configuration, or without one, each table kept in this way, and so much said of it. None where that can't
-/// be had, which is said on standard error.
-fn read_setup<R: Files + Eprint + AllocGlobal>(
+/// A setup, each table of which is kept in this way. None where there was no memory for it, or a table has fewer places than
+/// shards, which is said on standard error.
+fn kept_so<R: Eprint>(
     rt: &R,
-    path: Option<&str>,
+    made: Result<Setup, NoMemory>,
     keeping: Keeping,
-    detail: Detail,
 ) -> io::Result<Option<Setup>>
-    requires shards { (1 ≤ keeping.shards) × (keeping.shards ≤ 64) }
     requires purge { (1 ≤ keeping.purge) × (keeping.purge ≤ 1024) }
-    ensures { IfOk result (λ opened. IfSome opened CanOpen) }
+    requires limits { IfOk made (λ setup. AreTableSpecs setup.tables) }
+    requires some { IfOk made (λ setup. 1 ≤ setup.shards) }
+    requires few { IfOk made (λ setup. setup.shards ≤ 64) }
+    ensures opens { IfOk result (λ opened. IfSome opened CanOpen) }
+    ensures prefixes { IfOk result (λ opened. IfSome opened (λ setup. setup.prefixes ≡ keeping.prefixes)) }
 {
-    let made = match path {
-        Some(path) => match read_file(rt, path, Telling::First, detail)? {
-            Some(config) => setup_of(rt.alloc(), &config, keeping.shards),
-            None => return Ok(None),
-        },
-        None => built_in_setup(rt.alloc(), keeping.shards),
-    };
     let Ok(setup) = made else {
         eprintln!(rt; "stickd: out of memory")?;
         return Ok(None);
     };
-    let setup = setup.with_purge(keeping.purge);
+    let setup = setup
+        .with_purge(keeping.purge)
+        .with_prefixes(keeping.prefixes);
     if let Some(narrow) = setup.narrow_table() {
         report_narrow(rt, narrow)?;
         return Ok(None);
@@ -264,20 +266,63 @@ pub fn open_setup<R: Files + Eprint + AllocGlobal>(
 ) -> io::Result<Option<Setup>>
     requires shards { (1 ≤ keeping.shards) × (keeping.shards ≤ 64) }
     requires purge { (1 ≤ keeping.purge) × (keeping.purge ≤ 1024) }
-    ensures { IfOk result (λ opened. IfSome opened CanOpen) }
+    ensures opens { IfOk result (λ opened. IfSome opened CanOpen) }
+    ensures prefixes { IfOk result (λ opened. IfSome opened (λ setup. setup.prefixes ≡ keeping.prefixes)) }
 {
-    read_setup(rt, path, keeping, Detail::Short)
+    let made = match path {
+        Some(path) => match read_file(rt, path, Telling::First, Detail::Short)? {
+            Some(config) => setup_of(rt.alloc(), &config, keeping.shards),
+            None => return Ok(None),
+        },
+        None => built_in_setup(rt.alloc(), keeping.shards),
+    };
+    kept_so(rt, made, keeping)
 }
 
-/// What the proxy serves: the same; and what lines of the configuration say that comes to nothing is said too.
-pub fn open_served<R: Files + Eprint + AllocGlobal>(
+/// The first section that listens.
+fn first_frontend(sections: &[Section]) -> Option<&Section>
+    ensures { option_map (λ section. section.now) result ≡ proxy_of sections.now }
+{
+    for section in sections {
+        if section.kind.has_frontend() {
+            return Some(section);
+        }
+    }
+    None
+}
+
+/// The name of the section that is served: empty where none listens.
+pub fn frontend_name(config: &Config) -> &[u8]
+    ensures { result.now ≡ option_map_or (λ (section : SectionSpec). section.name) (proxy_of config.now.sections) [] }
+{
+    match first_frontend(config.sections.as_slice()) {
+        Some(section) => section.name.as_slice(),
+        None => b"",
+    }
+}
+
+/// Reads a configuration for the proxy: as `read_file`, and what lines of it say that comes to nothing is said too.
+pub fn read_served<R: Files + Eprint + AllocGlobal>(
     rt: &R,
-    path: Option<&str>,
+    path: &str,
+) -> io::Result<Option<Config>>
+    ensures { IfOk result (λ read. IfSome read (λ config. AreTables config.sections)) }
+{
+    read_file(rt, path, Telling::First, Detail::Started)
+}
+
+/// What the proxy serves of a configuration, each table kept in this way. None where that can't be had, which is said on standard
+/// error.
+pub fn open_served<R: Eprint + AllocGlobal>(
+    rt: &R,
+    config: &Config,
     keeping: Keeping,
 ) -> io::Result<Option<Setup>>
+    requires tables { AreTables config.now.sections }
     requires shards { (1 ≤ keeping.shards) × (keeping.shards ≤ 64) }
     requires purge { (1 ≤ keeping.purge) × (keeping.purge ≤ 1024) }
-    ensures { IfOk result (λ opened. IfSome opened CanOpen) }
+    ensures opens { IfOk result (λ opened. IfSome opened CanOpen) }
+    ensures prefixes { IfOk result (λ opened. IfSome opened (λ setup. setup.prefixes ≡ keeping.prefixes)) }
 {
-    read_setup(rt, path, keeping, Detail::Started)
+    kept_so(rt, setup_of(rt.alloc(), config, keeping.shards), keeping)
 }

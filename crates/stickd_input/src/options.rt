@@ -1,6 +1,6 @@
 //! The options of `stickd run`, some of which other commands have too; `command_line` gives them to its commands.
 
-use crate::arguments::{count_option, value_option};
+use crate::arguments::{count_option, flag_option, value_option};
 use clap::{Arg, ArgAction, value_parser};
 use std::alloc::Global;
 
@@ -25,6 +25,21 @@ pub const FIN: &str = "timeout-fin";
 /// The option that says after how long a silent peer is asked whether it is still there.
 pub const KEEPALIVE: &str = "keepalive";
 
+/// The option that says how long open connections may go on once the program is to stop.
+pub const DRAIN: &str = "drain";
+
+/// The option that says how often a line of counts is written.
+pub const REPORT: &str = "report";
+
+/// The option that names the socket on which HAProxy's tools are answered.
+pub const STATS: &str = "stats-socket";
+
+/// The option that says where Prometheus is answered.
+pub const METRICS: &str = "metrics";
+
+/// The option that has rejected connections told.
+pub const LOG_REJECTED: &str = "log-rejected";
+
 /// The option that says in how many parts each table is kept.
 pub(crate) fn shards_option<'a>(alloc: Global) -> Arg<'a> {
     count_option(
@@ -47,6 +62,30 @@ pub(crate) fn purge_option<'a>(alloc: Global) -> Arg<'a> {
         "How many of its oldest entries a full table removes for a new one, 1 to 1024",
     )
     .default_value("1")
+}
+
+/// The option that says how much of an IPv6 source is a key.
+pub(crate) fn ipv6_prefix_option<'a>(alloc: Global) -> Arg<'a> {
+    count_option(
+        alloc,
+        "ipv6-prefix",
+        "N",
+        128,
+        "How many of an IPv6 source's first bits count where it is a key, 1 to 128",
+    )
+    .default_value("128")
+}
+
+/// The option that says how much of an IPv4 source is a key.
+pub(crate) fn ipv4_prefix_option<'a>(alloc: Global) -> Arg<'a> {
+    count_option(
+        alloc,
+        "ipv4-prefix",
+        "N",
+        32,
+        "How many of an IPv4 source's first bits count where it is a key, 1 to 32",
+    )
+    .default_value("32")
 }
 
 /// The option that says how long a server may take to accept a connection.
@@ -234,4 +273,65 @@ pub(crate) fn stop_option<'a>(alloc: Global) -> Arg<'a> {
         "Stop once N connections have ended, and settle the tables",
     )
     .value_parser(value_parser!(u64))
+}
+
+/// The socket on which HAProxy's tools are answered.
+pub(crate) fn stats_option<'a>(alloc: Global) -> Arg<'a> {
+    value_option(
+        alloc,
+        STATS,
+        "PATH[,mode=M]",
+        "The Unix socket that speaks as HAProxy's stats socket does [default: none]",
+    )
+}
+
+/// The socket of the program that is to stop.
+pub(crate) fn stopped_option<'a>(alloc: Global) -> Arg<'a> {
+    value_option(
+        alloc,
+        STATS,
+        "PATH",
+        "The stats socket of the program that is to stop",
+    )
+    .required(true)
+}
+
+/// Where Prometheus is answered.
+pub(crate) fn metrics_option<'a>(alloc: Global) -> Arg<'a> {
+    value_option(
+        alloc,
+        METRICS,
+        "ADDRESS:PORT",
+        "Answer GET /metrics there, in Prometheus' text format [default: nowhere]",
+    )
+}
+
+/// How often a line of counts is written.
+pub(crate) fn report_option<'a>(alloc: Global) -> Arg<'a> {
+    value_option(
+        alloc,
+        REPORT,
+        "TIME",
+        "Write a line of counts to standard error each TIME, and one at the end [default: never]",
+    )
+}
+
+/// Whether rejected connections are told.
+pub(crate) fn rejected_option<'a>(alloc: Global) -> Arg<'a> {
+    flag_option(
+        alloc,
+        LOG_REJECTED,
+        "Say on standard error that connections were rejected, at most once a second",
+    )
+}
+
+/// How long open connections may go on once the program is to stop.
+pub(crate) fn drain_option<'a>(alloc: Global) -> Arg<'a> {
+    value_option(
+        alloc,
+        DRAIN,
+        "TIME",
+        "How long open connections may go on once it is to stop",
+    )
+    .default_value("30s")
 }

@@ -1,5 +1,6 @@
 -- What is served without a configuration: one table, t, in so many shards, which tracks where connections come from.
 use Rattle.std.specs.Prelude.{ℕ, ◌^◌, false, None, [], ◌∷◌, codes}
+use Rattle.rule_addresses.specs.Prefix.{whole}
 use Rattle.stick_key.specs.declared.kind.KeyType.TheVariants.{Ip}
 use Rattle.stored_data.specs.declared.datum.Datum.TheVariants.{Gpc0}
 use Rattle.rule_model.specs.declared.actions.Action.TheVariants.{Track}
@@ -20,4 +21,5 @@ built_in shards = record {
   bind = None;
   server = None;
   shards = shards;
+  prefixes = whole;
 }

@@ -20,14 +20,14 @@ module _ {S C : Type 0} (answers : Answering S) (refuses : Refusing S) (shows : 
       × (ServesAll (SaysLine answers refuses shows) (record { at = old; done = 0 }) whole output (record { at = new; done = count })
       ⊎ ((lines : ℕ) × StopsAfter (SaysLine answers refuses shows) (StopsLine answers refuses shows) (record { at = old; done = 0 }) whole lines output (record { at = new; done = count })))
 
-  -- clients in turn, each with so many commands; the last one stands first
-  abbrev pub Visits : CommandState S C → List ℕ → CommandState S C → Type 0
-  Visits old [] new = new ≡ old
-  Visits old (count ∷ counts) new = (middle : CommandState S C) × Visits old counts middle × Visit middle count new
+-- clients in turn, each with so many commands; the last one stands first
+abbrev pub Visits : {S : Type 0} → (S → ℕ → S → Type 0) → S → List ℕ → S → Type 0
+Visits visits old [] new = new ≡ old
+Visits {S} visits old (count ∷ counts) new = (middle : S) × Visits visits old counts middle × visits middle count new
 
-  -- some clients came in turn, and they and all their commands are counted, up to 2^64 - 1
-  pub record ServesClients (old : CommandState S C) (served : Served) (new : CommandState S C) : Type 0 where
-    pub counts : List ℕ
-    pub visits : Visits old counts new
-    pub clients : served.clients ≡ min (length counts) (2 ^ 64 - 1)
-    pub commands : served.commands ≡ min (sum_by (λ (count : ℕ). count) counts) (2 ^ 64 - 1)
+-- some clients came in turn, and they and all their commands are counted, up to 2^64 - 1
+pub record ServesClients {S : Type 0} (visits : S → ℕ → S → Type 0) (old : S) (served : Served) (new : S) : Type 0 where
+  pub counts : List ℕ
+  pub in_turn : Visits visits old counts new
+  pub clients : served.clients ≡ min (length counts) (2 ^ 64 - 1)
+  pub commands : served.commands ≡ min (sum_by (λ (count : ℕ). count) counts) (2 ^ 64 - 1)

@@ -4,9 +4,9 @@ ghost use Rattle.std.specs.Prelude.{◌≡◌, ◌<◌, Err, length};
 ghost use Rattle.table_socket.specs.declared.fault.SocketFault.TheVariants.{PathLength};
 
 use crate::SocketFault;
+use crate::accepting::patient_unix;
 use crate::file_id::{FileId, is_own};
 use crate::mode::is_narrowed;
-use crate::patient_stream::set_patience;
 use std::fs::{self, Files, Metadata, Permissions};
 use std::io;
 use std::net::Net;
@@ -118,10 +118,7 @@ fn listen<R: Files>(
     if access.group.is_some() && is_own(made, id_at(rt, path).ok()) {
         lchown(rt, path, None, access.group).map_err(SocketFault::Group)?;
     }
-    // The system's time for reading a socket holds for accepting too, and is set by a stream's method alone.
-    let stream = UnixStream::from(socket);
-    set_patience(&stream).map_err(SocketFault::System)?;
-    let listener = UnixListener::from(OwnedFd::from(stream));
+    let listener = patient_unix(socket).map_err(SocketFault::System)?;
     if libc::net::listen(listener.as_raw_fd(), QUEUE) != 0 {
         return Err(SocketFault::System(io::Error::from_raw_os_error(os::errno())));
     }

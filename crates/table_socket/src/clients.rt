@@ -1,70 +1,47 @@
 //! The service of a socket's clients, one after the other; `tcp_proxy` calls it on each thread that answers commands.
 
-ghost use Rattle.table_socket.specs.Clients.{ServesClients, Visit, state_of};
+ghost use Rattle.table_socket.specs.Clients.{ServesClients};
 
 use crate::Served;
+use crate::accepting::ClientListener;
+use crate::client_server::ClientServer;
 use crate::patience::patiences_of;
-use crate::patient_stream::{PatientStream, accept_client};
-use base_clock::Clock;
+use crate::patient_stream::PatientStream;
 use byte_ports::{
-    FlushingSource, GatheringSink, SharedSink, Sink, Source, StreamSink, StreamSource, flush_shared,
+    FlushingSource, GatheringSink, SharedSink, StreamSink, StreamSource, flush_shared,
 };
-use shard_book::Keeper;
 use std::cell::RefCell;
 use std::io::ErrorKind;
-use std::os::unix::net::UnixListener;
 use std::sync::Wait;
 use std::sync::atomic::{AtomicBool, Ordering};
-use std::time::Duration;
-use std::{thread, time};
-use table_cli::CommandService;
-
-/// Answers the lines of a client until it ends, or fails. How many commands were answered whole.
-fn serve_client<K: Keeper, C: Clock, R: Source, W: Sink>(
-    service: &mut CommandService<K, C>,
-    reader: &mut R,
-    writer: &mut W,
-) -> u64
-    ensures { Visit K.answers K.refuses C.shows (state_of K.table K.parts K.state C.state service.old.tables.items service.old.clock) result
-        (state_of K.table K.parts K.state C.state service.new.tables.items service.new.clock) }
-{
-    match service.run(reader, writer) {
-        Ok(count) => count,
-        Err(fault) => fault.done,
-    }
-}
+use std::thread;
+use std::time::{Clock, Duration};
 
 /// Answers the lines of a client on a stream. The answers to what came with one read are written together, before the
 /// next read could wait; a client that has gone needs the last ones no more.
-fn serve_stream<K: Keeper, C: Clock>(
-    service: &mut CommandService<K, C>,
-    stream: PatientStream<'_>,
-) -> u64
-    ensures { Visit K.answers K.refuses C.shows (state_of K.table K.parts K.state C.state service.old.tables.items service.old.clock) result
-        (state_of K.table K.parts K.state C.state service.new.tables.items service.new.clock) }
+fn serve_stream<S: ClientServer>(service: &mut S, stream: PatientStream<'_>) -> u64
+    ensures { S.visits (S.state service.old) result (S.state service.new) }
 {
     let gathered = RefCell::new(GatheringSink::new(StreamSink::new(stream)));
     let mut reader = FlushingSource::new(StreamSource::new(stream), &gathered);
     let mut writer = SharedSink::new(&gathered);
-    let commands = serve_client(service, &mut reader, &mut writer);
+    let commands = service.serve_client(&mut reader, &mut writer);
     let _ = flush_shared(&gathered);
     commands
 }
 
-/// Serves the clients of a socket, one after the other, until `stop` is set; several threads may serve one socket, each by a
-/// service of its own. The flag is looked at each 100 ms, and before a client is asked for more. Of each client all lines are
-/// answered until it ends, where HAProxy closes behind the first. One that fails ends its own turn alone; so does one that has
-/// sent or taken nothing for `silence`, in ms. Where no client can be accepted, as for want of file descriptors, that is counted,
-/// and the next try comes 10 ms later.
-pub fn serve_clients<K: Keeper, C: Clock, R: Wait + time::Clock>(
+/// Serves the clients of a listener, one after the other, until `stop` is set; several threads may serve one listener, each by a
+/// service of its own. The flag is looked at each 100 ms, and before a client is asked for more. One that fails ends its own turn
+/// alone; so does one that has sent or taken nothing for `silence`, in ms. Where no client can be accepted, as for want of file
+/// descriptors, that is counted, and the next try comes 10 ms later.
+pub fn serve_clients<L: ClientListener, S: ClientServer, R: Wait + Clock>(
     rt: &R,
-    listener: &UnixListener,
-    service: &mut CommandService<K, C>,
+    listener: &L,
+    service: &mut S,
     stop: &AtomicBool,
     silence: u64,
 ) -> Served
-    ensures { ServesClients K.answers K.refuses C.shows (state_of K.table K.parts K.state C.state service.old.tables.items service.old.clock) result
-        (state_of K.table K.parts K.state C.state service.new.tables.items service.new.clock) }
+    ensures { ServesClients S.visits (S.state service.old) result (S.state service.new) }
 {
     let most = patiences_of(silence);
     let mut served = Served {
@@ -73,7 +50,7 @@ pub fn serve_clients<K: Keeper, C: Clock, R: Wait + time::Clock>(
         unaccepted: 0,
     };
     for _ in rt.forever() {
-        let accepted = accept_client(listener);
+        let accepted = listener.accept_client();
         if stop.load(Ordering::SeqCst) {
             return served;
         }

@@ -1,8 +1,9 @@
 //! A client's stream, which waits for it no longer than its time; `clients` accepts and serves by it.
 
+use crate::accepting::ClientStream;
 use crate::patience::{AfterPatience, PATIENCE, after_patience};
 use std::io::{self, ErrorKind, Read, Write};
-use std::os::unix::net::{UnixListener, UnixStream};
+use std::os::unix::net::UnixStream;
 use std::sync::atomic::{AtomicBool, Ordering};
 use std::time::Duration;
 
@@ -10,7 +11,7 @@ use std::time::Duration;
 /// patience of the stop. A write that takes some bytes is done, so that each call has the whole time.
 #[derive(Clone, Copy, Drop)]
 pub(crate) struct PatientStream<'a> {
-    pub stream: &'a UnixStream,
+    pub stream: &'a ClientStream,
     pub stop: &'a AtomicBool,
     /// How many patiences a client has.
     pub most: u64,
@@ -39,8 +40,7 @@ impl<'a> Read for PatientStream<'a> {
             return Err(io::Error::from(ErrorKind::ConnectionAborted));
         }
         for passed in 0..u64::MAX {
-            let mut stream = self.stream;
-            match stream.read(buf) {
+            match self.stream.read(buf) {
                 Ok(count) => return Ok(count),
                 Err(reason) if reason.kind() == ErrorKind::WouldBlock => {}
                 Err(reason) => return Err(reason),
@@ -57,8 +57,7 @@ impl<'a> Write for PatientStream<'a> {
     /// Writes once. An answer that its client takes is written to its end, also where the program stops.
     fn write(&mut self, buf: &[u8]) -> io::Result<usize> {
         for passed in 0..u64::MAX {
-            let mut stream = self.stream;
-            match stream.write(buf) {
+            match self.stream.write(buf) {
                 Ok(count) => return Ok(count),
                 Err(reason) if reason.kind() == ErrorKind::WouldBlock => {}
                 Err(reason) => return Err(reason),
@@ -80,11 +79,4 @@ pub(crate) fn set_patience(stream: &UnixStream) -> io::Result<()> {
     let patience = Some(Duration::from_millis(PATIENCE));
     stream.set_read_timeout(patience)?;
     stream.set_write_timeout(patience)
-}
-
-/// The next client. `WouldBlock` where none came for a patience.
-pub(crate) fn accept_client(listener: &UnixListener) -> io::Result<UnixStream> {
-    let (stream, _address) = listener.accept()?;
-    set_patience(&stream)?;
-    Ok(stream)
 }

@@ -1,2 +1,4 @@
 pub mod Backlog
+pub mod Draining
 pub mod Opened
+pub mod Watching

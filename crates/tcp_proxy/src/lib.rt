@@ -1,15 +1,23 @@
 //! The proxy at work: the tables of a setup, shared by its listener's workers, command socket and housekeeping; `stickd` runs it.
 #![tactic(auto)]
 
+mod binding;
+mod counted;
 mod ending;
+mod housekeeping;
+mod instruments;
+mod listeners;
 mod opening;
 mod plan;
+mod reporting;
 mod running;
+mod running_program;
 mod service_threads;
 mod serving;
 mod shared;
 mod sockets;
+mod timetable;
 
-pub use plan::{Plan, SocketPlan};
+pub use plan::{About, METRICS_CLIENTS, Plan, STATS_CLIENTS, SocketPlan, StatsPlan, WatchPlan};
 pub use running::{run_pooled, run_proxy};
 pub use shared::ProxyRuntime;

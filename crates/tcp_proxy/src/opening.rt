@@ -94,7 +94,7 @@ fn open_table<T: Table>(
     requires shards { (1 ≤ shards) × (shards ≤ 64) }
     requires places { shards ≤ named.now.spec.size }
     requires workers { (1 ≤ workers) × (workers ≤ 64) }
-    requires clients { (1 ≤ clients) × (clients ≤ 64) }
+    requires clients { (1 ≤ clients) × (clients ≤ 128) }
     ensures table { IfOk result (λ opened. but_for_seed opened.table ≡ declared_table shards keep named.now) }
     ensures workers { IfOk result (λ opened. vec_len opened.workers ≡ workers) }
     ensures commands { IfOk result (λ opened. vec_len opened.commands ≡ clients) }
@@ -113,8 +113,7 @@ fn open_table<T: Table>(
 }
 
 /// Opens the tables of a setup, in order of declaration, each in the setup's number of shards and by a seed of its own.
-/// With `keep` their seats keep receipts. There are so many workers, and so many threads that answer clients' commands, each 1
-/// to 64.
+/// With `keep` their seats keep receipts. There are so many workers, 1 to 64, and so many threads that answer clients, 1 to 128.
 pub(crate) fn open_tables<T: Table>(
     alloc: Global,
     rt: &impl RandomSource,
@@ -125,7 +124,7 @@ pub(crate) fn open_tables<T: Table>(
 ) -> Result<OpenTables<T>, OpenFault>
     requires can_open { CanOpen setup.now }
     requires workers { (1 ≤ workers) × (workers ≤ 64) }
-    requires clients { (1 ≤ clients) × (clients ≤ 64) }
+    requires clients { (1 ≤ clients) × (clients ≤ 128) }
     ensures tables { IfOk result (λ opened. AreDeclared setup.now.shards keep setup.now.tables opened.tables.items) }
     ensures served { IfOk result (λ opened. AreTablesOf setup.now opened.tables.items) }
     ensures workers { IfOk result (λ opened. AreSeats (length opened.tables.items) workers opened.workers) }

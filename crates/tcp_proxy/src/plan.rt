@@ -1,7 +1,17 @@
 //! What a run of the proxy is asked; `stickd` makes it of the command line, and `running` and `sockets` go by it.
 
+ghost use Rattle.std.specs.Prelude.{◌≡◌, ◌≤◌, ◌+◌};
+ghost use Rattle.tcp_proxy.specs.Watching as spec;
+
 use rule_addresses::Endpoint;
 use tcp_relay::Limits;
+use tcp_watch::Surroundings;
+
+/// How many clients of the stats socket are answered at once.
+pub const STATS_CLIENTS: u32 = 4;
+
+/// How many clients that scrape metrics are answered at once.
+pub const METRICS_CLIENTS: u32 = 8;
 
 /// The socket on which commands are answered.
 #[derive(Clone, Copy, Debug)]
@@ -16,6 +26,40 @@ pub struct SocketPlan<'a> {
     pub clients: u32,
     /// How long a client may send nothing, or take nothing, in ms.
     pub timeout: u64,
+}
+
+/// The socket on which HAProxy's tools are answered.
+#[derive(Clone, Copy, Debug)]
+pub struct StatsPlan<'a> {
+    /// Its path.
+    pub path: &'a str,
+    /// The permissions of its file, up to 0777.
+    pub mode: u32,
+}
+
+/// What the program tells of itself.
+#[derive(Clone, Copy, Debug)]
+pub struct About<'a> {
+    /// Its version.
+    pub version: &'a str,
+    /// The day of its release, as `2026/11/27`.
+    pub release_date: &'a str,
+    /// The name of the frontend, by which `shutdown frontend` names it.
+    pub frontend: &'a str,
+}
+
+/// What is told of a run while it goes on, and to whom.
+#[derive(Clone, Copy, Debug)]
+pub struct WatchPlan<'a> {
+    /// How many ms lie between two reports, at least one. None where none are asked for.
+    pub report: Option<u64>,
+    /// The socket on which HAProxy's tools are answered.
+    pub stats: Option<StatsPlan<'a>>,
+    /// Where metrics are scraped by HTTP.
+    pub metrics: Option<Endpoint>,
+    /// Whether rejected clients are said too, among what goes wrong.
+    pub log_rejected: bool,
+    pub about: About<'a>,
 }
 
 /// What a run of the proxy is asked.
@@ -37,4 +81,69 @@ pub struct Plan<'a> {
     pub stop_after: Option<u64>,
     /// A shard's record begins again once it has so many calls.
     pub roll_at: u64,
+    /// What is told of the run.
+    pub watch: WatchPlan<'a>,
+    /// How long open connections go on once the proxy drains, in ms.
+    pub drain: u64,
+    /// What the service manager hands over, and wants to hear.
+    pub manager: Surroundings,
+}
+
+impl<'a> Plan<'a> {
+    /// Whether there is a stats socket: its own, or one that is handed over.
+    pub(crate) fn has_stats(&self) -> bool
+        ensures { result ≡ spec.has_stats self.now.watch self.now.manager }
+    {
+        self.watch.stats.is_some() || self.manager.handed.stats.is_some()
+    }
+
+    /// Whether somebody looks at the run while it goes on: then its threads publish what they count, and what goes wrong is said.
+    pub(crate) fn is_watched(&self) -> bool
+        ensures { result ≡ spec.is_watched self.now.watch self.now.manager }
+    {
+        self.has_stats()
+            || self.watch.report.is_some()
+            || self.watch.metrics.is_some()
+            || self.watch.log_rejected
+    }
+
+    /// How many threads there are beside the listener and the housekeeping, by what they do. A signal that is blocked is looked for.
+    pub(crate) fn duties(&self, is_stop_blocked: bool) -> Duties
+        ensures { result ≡ spec.duties_of self.now.socket.clients self.now.watch self.now.manager is_stop_blocked }
+    {
+        let is_alive_asked = self.manager.notify.is_some() && self.manager.watchdog.is_some();
+        Duties {
+            commands: self.socket.clients,
+            stats: if self.has_stats() { STATS_CLIENTS } else { 0 },
+            metrics: if self.watch.metrics.is_some() {
+                METRICS_CLIENTS
+            } else {
+                0
+            },
+            reporting: u32::from(self.is_watched() || is_stop_blocked || is_alive_asked),
+        }
+    }
+}
+
+/// How many threads there are beside the listener and the housekeeping.
+#[derive(Clone, Copy, Debug, PartialEq, Eq)]
+pub(crate) struct Duties {
+    /// Those that answer commands.
+    pub commands: u32,
+    /// Those that answer on the stats socket.
+    pub stats: u32,
+    /// Those that are scraped.
+    pub metrics: u32,
+    /// The one that reports, looks for signals, and says that the program is alive.
+    pub reporting: u32,
+}
+
+impl Duties {
+    /// All of them.
+    pub fn sum(&self) -> u32
+        requires few { (self.now.commands ≤ 64) × (self.now.stats ≤ 4) × (self.now.metrics ≤ 8) × (self.now.reporting ≤ 1) }
+        ensures { result ≡ self.now.commands + self.now.stats + self.now.metrics + self.now.reporting }
+    {
+        self.commands + self.stats + self.metrics + self.reporting
+    }
 }

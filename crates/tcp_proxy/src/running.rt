@@ -5,14 +5,16 @@ ghost use Rattle.admit_drive.specs.Tables.{CanOpen};
 ghost use Rattle.tcp_relay.specs.Serving.{AreSeats, AreTablesOf};
 
 use crate::ending::{Left, give_up_all, settle_all};
+use crate::instruments::Instruments;
 use crate::opening::{OpenTables, open_tables};
-use crate::plan::Plan;
-use crate::service_threads::{NOBODY, ServiceThread};
+use crate::plan::{Duties, Plan};
+use crate::service_threads::{Duty, NOBODY, ServiceThread};
 use crate::serving::serve_all;
 use crate::shared::{ProxyRuntime, Shared};
 use crate::sockets::{Sockets, bind_sockets};
 use base_sequence::NoMemory;
 use log::{Log, info};
+use rule_addresses::Endpoint;
 use rule_model::{Name, Setup};
 use rule_warnings::{StartPlan, Warning, allowed_descriptors, warnings_of};
 use shard_book::Seat;
@@ -20,12 +22,11 @@ use shard_locks::Shards;
 use std::alloc::Global;
 use std::io;
 use std::random::RandomSource;
-use std::rt::Files;
 use std::sync::atomic::AtomicBool;
 use stick_pooled::StickTable;
 use stick_table::Table;
-use table_socket::remove_own;
 use tcp_relay::{FaultKind, ServeFault, Served};
+use tcp_watch::Notice;
 
 /// The names of a setup's tables.
 fn names_of(alloc: Global, setup: &Setup) -> Result<Vec<Name>, NoMemory> {
@@ -78,13 +79,15 @@ fn report<R: Eprint>(rt: &R, kind: FaultKind) -> io::Result<()> {
 }
 
 /// Runs the proxy of a setup that has a `bind` and a server: opens its tables, binds its sockets, and serves. It stops once
-/// the connections of the plan have ended, and then settles the tables and prints what they come to; without such a number
-/// it stops only where a thread can't wait for connections. Answers whether all went well; what didn't is said on standard
+/// the connections of the plan have ended, or those that are open as it drains, and then settles the tables and prints what they come
+/// to; or where a thread can't wait for connections. Answers whether all went well; what didn't is said on standard
 /// error. An error is one of printing.
-pub fn run_proxy<
-    T: Table + Send,
-    R: ProxyRuntime + Files + RandomSource + Print + Eprint + AllocGlobal,
->(alloc: Global, rt: &R, setup: &Setup, plan: Plan<'_>) -> io::Result<bool>
+pub fn run_proxy<T: Table + Send, R: ProxyRuntime + RandomSource + Print>(
+    alloc: Global,
+    rt: &R,
+    setup: &Setup,
+    plan: Plan<'_>,
+) -> io::Result<bool>
     requires can_open { CanOpen setup.now }
     requires threads { (1 ≤ plan.threads) × (plan.threads ≤ 64) }
     requires clients { (1 ≤ plan.socket.clients) × (plan.socket.clients ≤ 64) }
@@ -97,22 +100,45 @@ pub fn run_proxy<
         eprintln!(rt; "stickd: the configuration has no server")?;
         return Ok(false);
     }
+    let Ok(instruments) = Instruments::new(alloc, rt, setup, plan) else {
+        report(rt, FaultKind::NoMemory)?;
+        return Ok(false);
+    };
+    let duties = plan.duties(instruments.awaits_signals);
     let keep = plan.stop_after.is_some();
-    let clients = plan.socket.clients;
-    let opened = match open_tables::<T>(alloc, rt, setup, plan.threads, clients, keep) {
+    let opened = match open_tables::<T>(alloc, rt, setup, plan.threads, duties.sum(), keep) {
         Ok(opened) => opened,
         Err(fault) => {
             eprintln!(rt; "stickd: {fault}")?;
             return Ok(false);
         }
     };
+    start(alloc, rt, setup, bind, plan, &instruments, opened)
+}
+
+/// Binds the sockets, says what may surprise, and serves by the tables that were opened.
+fn start<T: Table + Send, R: ProxyRuntime + Print>(
+    alloc: Global,
+    rt: &R,
+    setup: &Setup,
+    bind: Endpoint,
+    plan: Plan<'_>,
+    instruments: &Instruments,
+    opened: OpenTables<T>,
+) -> io::Result<bool>
+    requires server { is_some setup.now.server ≡ true }
+    requires tables { AreTablesOf setup.now opened.tables.items }
+    requires seats { AreSeats (length opened.tables.items) plan.threads opened.workers }
+    requires threads { (1 ≤ plan.threads) × (plan.threads ≤ 64) }
+{
     let OpenTables {
         tables,
         workers,
         commands,
         keepers,
     } = opened;
-    let Ok(service_threads) = make_service_threads(alloc, setup, clients, commands, keepers) else {
+    let duties = plan.duties(instruments.awaits_signals);
+    let Ok(service_threads) = make_service_threads(alloc, setup, duties, commands, keepers) else {
         report(rt, FaultKind::NoMemory)?;
         return Ok(false);
     };
@@ -130,6 +156,7 @@ pub fn run_proxy<
         setup,
         plan,
         &sockets,
+        instruments,
         tables,
         workers,
         service_threads,
@@ -192,26 +219,35 @@ fn end_of(served: Result<Served, ServeFault>) -> Ended {
     }
 }
 
-/// The threads beside the listener: so many that answer commands, and the one that does the housekeeping. All have their memory.
+/// The threads beside the listener, by their duties, and the one that does the housekeeping. All have their memory.
 fn make_service_threads(
     alloc: Global,
     setup: &Setup,
-    clients: u32,
-    mut commands: Vec<Vec<Seat>>,
+    duties: Duties,
+    mut seats: Vec<Vec<Seat>>,
     keepers: Vec<Seat>,
 ) -> Result<Vec<ServiceThread>, NoMemory> {
     let mut service_threads = Vec::new(alloc);
-    for _ in 0..clients {
-        let names = names_of(alloc, setup)?;
-        let seats = take_one_of_each(alloc, &mut commands)?;
-        service_threads.push(ServiceThread::for_commands(names, seats))?;
+    let counts = [
+        (Duty::Commands, duties.commands),
+        (Duty::Stats, duties.stats),
+        (Duty::Metrics, duties.metrics),
+        (Duty::Reporting, duties.reporting),
+    ];
+    for (duty, count) in counts {
+        for _ in 0..count {
+            let names = names_of(alloc, setup)?;
+            let seats = take_one_of_each(alloc, &mut seats)?;
+            service_threads.push(ServiceThread::new(duty, names, seats))?;
+        }
     }
-    service_threads.push(ServiceThread::for_housekeeping(alloc, keepers))?;
+    let names = Vec::new(alloc);
+    service_threads.push(ServiceThread::new(Duty::Housekeeping, names, keepers))?;
     Ok(service_threads)
 }
 
 /// The same on pooled tables, of which an event costs the same whatever their size.
-pub fn run_pooled<R: ProxyRuntime + Files + RandomSource + Print + Eprint + AllocGlobal>(
+pub fn run_pooled<R: ProxyRuntime + RandomSource + Print>(
     alloc: Global,
     rt: &R,
     setup: &Setup,
@@ -224,13 +260,14 @@ pub fn run_pooled<R: ProxyRuntime + Files + RandomSource + Print + Eprint + Allo
     run_proxy::<StickTable, R>(alloc, rt, setup, plan)
 }
 
-/// Serves, removes the socket's file, and then settles the tables where receipts were kept.
-fn serve_and_settle<T: Table + Send, R: ProxyRuntime + Files + Print + Eprint>(
+/// Serves, removes the sockets' files, and then settles the tables.
+fn serve_and_settle<T: Table + Send, R: ProxyRuntime + Print>(
     alloc: Global,
     rt: &R,
     setup: &Setup,
     plan: Plan<'_>,
     sockets: &Sockets,
+    instruments: &Instruments,
     tables: Vec<Shards<T>>,
     workers: Vec<Vec<Seat>>,
     mut service_threads: Vec<ServiceThread>,
@@ -241,6 +278,8 @@ fn serve_and_settle<T: Table + Send, R: ProxyRuntime + Files + Print + Eprint>(
     requires threads { (1 ≤ plan.threads) × (plan.threads ≤ 64) }
 {
     let stop = AtomicBool::new(false);
+    let running = instruments.running(rt, plan, sockets);
+    running.notify(Notice::Ready.bytes());
     let shared = Shared {
         alloc,
         rt,
@@ -254,11 +293,13 @@ fn serve_and_settle<T: Table + Send, R: ProxyRuntime + Files + Print + Eprint>(
         stop_after: plan.stop_after,
         roll_at: plan.roll_at,
         start: sockets.start,
+        running: &running,
         stop: &stop,
     };
     let ended = end_of(serve_all(&shared, workers, service_threads.as_mut_slice()));
-    remove_own(rt, plan.socket.path, sockets.socket.file);
-    settle_where(alloc, rt, setup, plan, tables, ended, service_threads)
+    running.say_stopping();
+    sockets.remove_files(rt, plan);
+    settle_where(alloc, rt, setup, tables, ended, service_threads)
 }
 
 /// Says what the clients of the command socket came to, on all threads together.
@@ -271,12 +312,12 @@ fn log_clients<R: Log>(rt: &R, service_threads: &[ServiceThread]) {
     info!(rt; "commands: {clients} clients, {commands} commands");
 }
 
-/// Says how serving ended, and settles the tables where it ended well and receipts were kept.
-fn settle_where<T: Table, R: ProxyRuntime + Print + Eprint>(
+/// Says how serving ended, and settles the tables where it ended well: by their receipts where those were kept, else by counts and
+/// references.
+fn settle_where<T: Table, R: ProxyRuntime + Print>(
     alloc: Global,
     rt: &R,
     setup: &Setup,
-    plan: Plan<'_>,
     tables: Vec<Shards<T>>,
     ended: Ended,
     service_threads: Vec<ServiceThread>,
@@ -294,10 +335,6 @@ fn settle_where<T: Table, R: ProxyRuntime + Print + Eprint>(
         give_up_all(refs);
         report(rt, kind)?;
         return Ok(false);
-    }
-    if plan.stop_after.is_none() {
-        give_up_all(refs);
-        return Ok(true);
     }
     let Ok(seats) = all_seats(seats, service_threads) else {
         give_up_all(refs);

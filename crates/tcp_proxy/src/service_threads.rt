@@ -1,25 +1,32 @@
-//! The threads beside the listener: one does housekeeping, others answer commands; `running` makes them, and `serving` starts
-//! them.
+//! The threads beside the listener: one does housekeeping, one reports, others answer clients of the sockets; `running` makes them, and
+//! `serving` starts them.
 
+use crate::counted::Counted;
+use crate::housekeeping::keep_tables;
+use crate::reporting::report_on;
+use crate::running_program::Running;
 use crate::shared::{ProxyRuntime, Shared};
 use base_clock::RunningClock;
-use log::{Log, info};
 use rule_model::Name;
 use shard_book::{Named, Seat};
-use shard_housekeeping::{Kept, Pace, housekeep};
 use shard_locks::Seated;
 use std::alloc::Global;
-use std::sync::atomic::{AtomicBool, Ordering};
-use std::time::{Clock, Duration};
+use std::sync::atomic::Ordering;
+use std::time::Duration;
 use std::{mem, thread};
 use stick_table::Table;
 use table_cli::CommandService;
-use table_socket::{Served, serve_clients};
+use table_socket::{ClientListener, ClientServer, Served, serve_clients};
+use tcp_watch::{MetricsService, StatsService, Teller};
 
-/// How many naps are taken between two rounds of housekeeping, each of so many ms: the stop is looked for after each.
-const NAPS: u32 = 20;
-
+/// How long a thread rests where there is no memory for it, in ms.
 const NAP: u64 = 50;
+
+/// How long a client of the stats socket may send or take nothing, in ms.
+const STATS_SILENCE: u64 = 10_000;
+
+/// How long a client that scrapes metrics may send or take nothing, in ms.
+const METRICS_SILENCE: u64 = 2_000;
 
 /// No client yet.
 pub(crate) const NOBODY: Served = Served {
@@ -31,12 +38,20 @@ pub(crate) const NOBODY: Served = Served {
 /// What a thread beside the listener does.
 #[derive(Clone, Copy, Debug, PartialEq, Eq)]
 pub(crate) enum Duty {
+    /// It answers commands.
     Commands,
+    /// It answers HAProxy's tools.
+    Stats,
+    /// It is scraped.
+    Metrics,
+    /// It reports.
+    Reporting,
+    /// It does the housekeeping.
     Housekeeping,
 }
 
-/// A thread beside the listener: its seat of each table; and where it answers commands the tables' names, and what it has
-/// counted once it ends.
+/// A thread beside the listener: its seat of each table, the tables' names where it asks them by name, and what it has counted of
+/// clients that sent commands once it ends.
 #[derive(Drop)]
 pub(crate) struct ServiceThread {
     pub duty: Duty,
@@ -46,21 +61,11 @@ pub(crate) struct ServiceThread {
 }
 
 impl ServiceThread {
-    /// A thread that answers commands.
-    pub fn for_commands(names: Vec<Name>, seats: Vec<Seat>) -> ServiceThread {
+    /// A thread with this duty.
+    pub fn new(duty: Duty, names: Vec<Name>, seats: Vec<Seat>) -> ServiceThread {
         ServiceThread {
-            duty: Duty::Commands,
+            duty,
             names,
-            seats,
-            served: NOBODY,
-        }
-    }
-
-    /// The thread that does the housekeeping.
-    pub fn for_housekeeping(alloc: Global, seats: Vec<Seat>) -> ServiceThread {
-        ServiceThread {
-            duty: Duty::Housekeeping,
-            names: Vec::new(alloc),
             seats,
             served: NOBODY,
         }
@@ -72,24 +77,33 @@ impl ServiceThread {
         let names = mem::replace(&mut self.names, Vec::new(shared.alloc));
         self.seats = match self.duty {
             Duty::Commands => answer_commands(shared, names, seats, &mut self.served),
+            Duty::Stats => answer_stats(shared, names, seats),
+            Duty::Metrics => answer_scrapes(shared, names, seats),
+            Duty::Reporting => report_seated(shared, names, seats),
             Duty::Housekeeping => keep_tables(shared, seats),
         };
     }
 }
 
-/// Tables that are asked, and their seats.
-type AskedTables<'a, T, R> = (Vec<Named<Seated<'a, T, R>>>, Vec<Seat>);
+/// A table as a thread asks it, by its seat.
+pub(crate) type SeatedTable<'a, T, R> = Named<Seated<'a, T, R>>;
+
+/// Tables that are asked, and a place for each of their seats.
+struct Asked<'a, T: Table, R> {
+    tables: Vec<SeatedTable<'a, T, R>>,
+    back: Vec<Seat>,
+}
 
 /// Empty lists for so many, once there is memory for them. None where the proxy stops before.
 fn await_memory<'a, T: Table, R: ProxyRuntime>(
     shared: &Shared<'a, T, R>,
     count: usize,
-) -> Option<AskedTables<'a, T, R>> {
+) -> Option<Asked<'a, T, R>> {
     for _try in shared.rt.forever() {
         let tables = Vec::with_capacity(shared.alloc, count);
-        let seats = Vec::with_capacity(shared.alloc, count);
-        if let (Ok(tables), Ok(seats)) = (tables, seats) {
-            return Some((tables, seats));
+        let back = Vec::with_capacity(shared.alloc, count);
+        if let (Ok(tables), Ok(back)) = (tables, back) {
+            return Some(Asked { tables, back });
         }
         if shared.stop.load(Ordering::SeqCst) {
             return None;
@@ -99,16 +113,15 @@ fn await_memory<'a, T: Table, R: ProxyRuntime>(
     None
 }
 
-/// Answers the commands of the socket's clients, and counts them.
-fn answer_commands<T: Table, R: ProxyRuntime>(
-    shared: &Shared<'_, T, R>,
+/// Seats a thread at the tables. Its seats come back where the proxy stops before there is memory for it.
+fn seat<'a, T: Table, R: ProxyRuntime>(
+    shared: &Shared<'a, T, R>,
     names: Vec<Name>,
     seats: Vec<Seat>,
-    served: &mut Served,
-) -> Vec<Seat> {
+) -> Result<Asked<'a, T, R>, Vec<Seat>> {
     let count = seats.as_slice().len();
-    let Some((mut tables, mut back)) = await_memory(shared, count) else {
-        return seats;
+    let Some(mut asked) = await_memory(shared, count) else {
+        return Err(seats);
     };
     for (place, (name, seat)) in names.into_iter().zip(seats).enumerate() {
         let Some(table) = shared.tables.get(place) else {
@@ -116,68 +129,116 @@ fn answer_commands<T: Table, R: ProxyRuntime>(
         };
         let keeper = Seated::new(table, shared.rt, seat);
         // The place is there.
-        let _ = tables.push(Named { name, keeper });
+        let _ = asked.tables.push(Named { name, keeper });
     }
-    let clock = RunningClock::new(shared.rt, shared.start);
-    let mut service = CommandService::new(shared.alloc, tables, clock);
-    *served = serve_clients(
-        shared.rt,
-        shared.socket,
-        &mut service,
-        shared.stop,
-        shared.silence,
-    );
-    for named in service.tables {
+    Ok(asked)
+}
+
+/// The seats of tables that are asked no more.
+fn seats_of<T: Table, R: ProxyRuntime>(
+    tables: Vec<SeatedTable<'_, T, R>>,
+    mut back: Vec<Seat>,
+) -> Vec<Seat> {
+    for named in tables {
+        // The place is there.
         let _ = back.push(named.keeper.into_seat());
     }
     back
 }
 
-/// When rounds of housekeeping come: each second, until the proxy stops.
-#[derive(Drop)]
-struct EachSecond<'a, R> {
-    rt: &'a R,
-    stop: &'a AtomicBool,
+/// Answers the commands of the socket's clients, and counts them.
+fn answer_commands<T: Table, R: ProxyRuntime>(
+    shared: &Shared<'_, T, R>,
+    names: Vec<Name>,
+    seats: Vec<Seat>,
+    served: &mut Served,
+) -> Vec<Seat> {
+    let Asked { tables, back } = match seat(shared, names, seats) {
+        Ok(asked) => asked,
+        Err(seats) => return seats,
+    };
+    let clock = RunningClock::new(shared.rt, shared.start);
+    let service = CommandService::new(shared.alloc, tables, clock);
+    let mut counted = Counted::new(service, &shared.running.board.service);
+    *served = serve_at(shared, shared.socket, &mut counted, shared.silence);
+    seats_of(counted.into_service().tables, back)
 }
 
-impl<'a, R: Clock> Pace for EachSecond<'a, R> {
-    fn next(&self) -> bool {
-        for _ in 0..NAPS {
-            if self.stop.load(Ordering::SeqCst) {
-                return false;
-            }
-            thread::sleep(self.rt, Duration::from_millis(NAP));
-        }
-        !self.stop.load(Ordering::SeqCst)
+/// Serves the clients of a listener until the proxy stops.
+fn serve_at<T: Table, R: ProxyRuntime, L: ClientListener, S: ClientServer>(
+    shared: &Shared<'_, T, R>,
+    listener: &L,
+    service: &mut S,
+    silence: u64,
+) -> Served {
+    serve_clients(shared.rt, listener, service, shared.stop, silence)
+}
+
+/// What tells of the running proxy by these tables.
+fn teller_of<'a, T: Table, R: ProxyRuntime>(
+    shared: &Shared<'a, T, R>,
+    tables: Vec<SeatedTable<'a, T, R>>,
+) -> Teller<'a, Seated<'a, T, R>, RunningClock<'a, R>, Running<'a, R>> {
+    Teller {
+        alloc: shared.alloc,
+        tables,
+        clock: RunningClock::new(shared.rt, shared.start),
+        program: shared.running,
     }
 }
 
-/// Has shards expire what is over, and begin long records again, each second.
-fn keep_tables<T: Table, R: ProxyRuntime>(
+/// Answers the clients of the stats socket.
+fn answer_stats<T: Table, R: ProxyRuntime>(
     shared: &Shared<'_, T, R>,
+    names: Vec<Name>,
     seats: Vec<Seat>,
 ) -> Vec<Seat> {
-    if seats.as_slice().len() != shared.tables.len() {
+    let Some(listener) = shared.running.stats else {
         return seats;
-    }
-    let mut clock = RunningClock::new(shared.rt, shared.start);
-    let pace = EachSecond {
-        rt: shared.rt,
-        stop: shared.stop,
     };
-    let Kept {
-        rounds,
-        rolled,
-        refused,
-        seats,
-    } = housekeep(
-        shared.rt,
-        shared.tables,
-        seats,
-        &mut clock,
-        &pace,
-        shared.roll_at,
-    );
-    info!(shared.rt; "housekeeping: {rounds} rounds, {rolled} records began again, {refused} refusals");
-    seats
+    let Asked { tables, back } = match seat(shared, names, seats) {
+        Ok(asked) => asked,
+        Err(seats) => return seats,
+    };
+    let service = StatsService {
+        teller: teller_of(shared, tables),
+    };
+    let mut counted = Counted::new(service, &shared.running.board.service);
+    let _ = serve_at(shared, listener, &mut counted, STATS_SILENCE);
+    seats_of(counted.into_service().teller.tables, back)
+}
+
+/// Answers the clients that scrape metrics.
+fn answer_scrapes<T: Table, R: ProxyRuntime>(
+    shared: &Shared<'_, T, R>,
+    names: Vec<Name>,
+    seats: Vec<Seat>,
+) -> Vec<Seat> {
+    let Some(listener) = shared.running.metrics else {
+        return seats;
+    };
+    let Asked { tables, back } = match seat(shared, names, seats) {
+        Ok(asked) => asked,
+        Err(seats) => return seats,
+    };
+    let mut service = MetricsService {
+        teller: teller_of(shared, tables),
+    };
+    let _ = serve_at(shared, listener, &mut service, METRICS_SILENCE);
+    seats_of(service.teller.tables, back)
+}
+
+/// Reports until the proxy stops.
+fn report_seated<T: Table, R: ProxyRuntime>(
+    shared: &Shared<'_, T, R>,
+    names: Vec<Name>,
+    seats: Vec<Seat>,
+) -> Vec<Seat> {
+    let Asked { tables, back } = match seat(shared, names, seats) {
+        Ok(asked) => asked,
+        Err(seats) => return seats,
+    };
+    let mut teller = teller_of(shared, tables);
+    report_on(shared.running, &mut teller, shared.stop);
+    seats_of(teller.tables, back)
 }

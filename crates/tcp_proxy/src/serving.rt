@@ -11,8 +11,7 @@ use std::sync::atomic::Ordering;
 use std::thread;
 use std::thread::Scope;
 use stick_table::Table;
-use tcp_relay::{Control, Drain, FaultKind, Gate, ServeFault, Served, serve};
-use tcp_stats::Gauge;
+use tcp_relay::{FaultKind, Gate, ServeFault, Served, serve};
 
 /// Connections pass between their verdict and their end without being watched.
 struct Open;
@@ -84,14 +83,6 @@ fn serve_where<T: Table + Send, R: ProxyRuntime>(
     if !all_started {
         return Err(unserved(shared.alloc, seats));
     }
-    // Nobody reads yet what is counted, and nobody begins a drain.
-    let gauge = Gauge::new();
-    let drain = Drain::new();
-    let control = Control {
-        cells: &[],
-        gauge: &gauge,
-        drain: &drain,
-    };
     serve(
         shared.alloc,
         shared.rt,
@@ -104,6 +95,6 @@ fn serve_where<T: Table + Send, R: ProxyRuntime>(
         shared.limits,
         shared.stop_after,
         shared.start,
-        control,
+        shared.running.control,
     )
 }

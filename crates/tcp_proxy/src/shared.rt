@@ -3,12 +3,14 @@
 ghost use Rattle.std.specs.Prelude.{◌≡◌, ◌≤◌, is_some, true};
 ghost use Rattle.tcp_relay.specs.Serving.{AreTablesOf};
 
+use crate::running_program::Running;
 use log::Log;
 use rule_model::Setup;
 use shard_locks::Shards;
 use std::alloc::Global;
 use std::net::{Net, TcpListener, TcpStream};
 use std::os::unix::net::UnixListener;
+use std::rt::Files;
 use std::sync::Wait;
 use std::sync::atomic::AtomicBool;
 use std::thread::Threads;
@@ -16,16 +18,27 @@ use std::time::{Clock, Instant};
 use stick_table::Table;
 use tcp_relay::{Limits, Listener};
 
-/// What the proxy asks of the system: sockets, threads, locks, a clock and a log.
+/// What the proxy asks of the system: sockets, files, memory, threads, locks, a clock, a log and standard error.
 pub trait ProxyRuntime: Net<Listener = TcpListener, Stream = TcpStream>
     + Threads
     + Wait
     + Clock
     + Log
+    + Files
+    + AllocGlobal
+    + Eprint
     + Sync {}
 
 impl<
-    R: Net<Listener = TcpListener, Stream = TcpStream> + Threads + Wait + Clock + Log + Sync,
+    R: Net<Listener = TcpListener, Stream = TcpStream>
+        + Threads
+        + Wait
+        + Clock
+        + Log
+        + Files
+        + AllocGlobal
+        + Eprint
+        + Sync,
 > ProxyRuntime for R {}
 
 /// What the threads of the proxy share, each by reference: the tables of its setup, its sockets, and whether it stops.
@@ -48,6 +61,8 @@ pub(crate) struct Shared<'a, T: Table, R> {
     pub roll_at: u64,
     /// The moment 0.
     pub start: Instant,
+    /// What is known of the run, and who looks at it.
+    pub running: &'a Running<'a, R>,
     pub stop: &'a AtomicBool,
     ghost are_tables: { AreTablesOf setup.now tables.now },
     ghost has_server: { is_some setup.now.server ≡ true },

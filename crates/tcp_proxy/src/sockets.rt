@@ -1,193 +1,198 @@
-//! Where connections and commands come in; `running` binds both by it.
+//! Where connections and commands come in, and those that look at the proxy; `running` binds all by it.
 
-ghost use Rattle.std.specs.Prelude.{◌≡◌};
-ghost use Rattle.tcp_proxy.specs.Backlog.{fewer_than};
-
-use crate::plan::{Plan, SocketPlan};
+use crate::binding::{BindFault, say_unbound};
+use crate::listeners::bind_listeners;
+use crate::plan::{Plan, SocketPlan, StatsPlan};
 use crate::shared::ProxyRuntime;
 use base_lines::read_number;
-use log::{Log, info, warn};
+use log::{Log, info};
 use rule_addresses::Endpoint;
 use std::alloc::Global;
 use std::net::TcpListener;
-use std::os::fd::AsRawFd;
-use std::rt::Files;
+use std::os::fd::OwnedFd;
+use std::os::unix::net::UnixListener;
 use std::time::Instant;
 use std::{fs, io};
-use table_socket::{Access, BoundSocket, bind_socket, group_number};
+use table_socket::{
+    Access, BoundSocket, FileId, bind_socket, group_number, patient_tcp, patient_unix, remove_own,
+};
 use tcp_relay::{Listener, socket_address};
+use tcp_watch::take_unix;
 
-/// Where the system says how many connections wait at most, whatever a listener asks (listen(2)).
-const MOST_WAITING: &str = "/proc/sys/net/core/somaxconn";
+/// A Unix socket that listens, and the file that the proxy made for it, if it did.
+#[derive(Drop)]
+pub(crate) struct Socket {
+    pub listener: UnixListener,
+    file: Option<FileId>,
+}
 
-/// Where connections and commands come in.
+/// Where connections and commands come in, and those that look at the proxy.
 #[derive(Drop)]
 pub(crate) struct Sockets {
     /// That of the configuration first.
     pub listeners: Vec<Listener>,
-    pub socket: BoundSocket,
+    pub socket: Socket,
+    pub stats: Option<Socket>,
+    pub metrics: Option<TcpListener>,
     /// The moment 0.
     pub start: Instant,
 }
 
-/// Binds the listeners and the command socket. None where one can't be bound, which is said on standard error.
-pub(crate) fn bind_sockets<R: ProxyRuntime + Files + Eprint + AllocGlobal>(
+/// Binds all, or takes what is handed over. None where one can't be bound, which is said on standard error.
+pub(crate) fn bind_sockets<R: ProxyRuntime>(
     alloc: Global,
     rt: &R,
     bind: Endpoint,
     plan: Plan<'_>,
 ) -> io::Result<Option<Sockets>> {
-    let Some(access) = access_of(rt, plan.socket)? else {
-        return Ok(None);
-    };
-    let Some(listeners) = bind_listeners(alloc, rt, bind, plan)? else {
-        return Ok(None);
-    };
-    if plan.is_backlog_asked {
-        warn_of_backlog(rt, plan.backlog);
+    match bind_all(alloc, rt, bind, plan) {
+        Ok(sockets) => Ok(Some(sockets)),
+        Err(BindFault::Said) => Ok(None),
+        Err(BindFault::Unsaid(reason)) => Err(reason),
     }
-    let start = Instant::now(rt)?;
-    let path = plan.socket.path;
-    let socket = match bind_socket(rt, path, access) {
-        Ok(socket) => socket,
-        Err(reason) => {
-            eprintln!(rt; "stickd: {path} can't be bound: {reason}")?;
-            return Ok(None);
-        }
-    };
-    for further in plan.more_binds {
-        let address = socket_address(*further);
-        info!(rt; "listening on {address}");
-    }
-    let address = socket_address(bind);
-    info!(rt; "listening on {address}, for commands on {path}");
-    Ok(Some(Sockets {
-        listeners,
-        socket,
-        start,
-    }))
 }
 
-/// The listeners of a `bind` and of those that the plan has besides. None where one can't be bound, or there is no memory, which
-/// is said on standard error.
-fn bind_listeners<R: ProxyRuntime + Eprint>(
+/// Binds all. Where one can't be bound, the files of those before it stay, and the next start replaces them.
+fn bind_all<R: ProxyRuntime>(
     alloc: Global,
     rt: &R,
     bind: Endpoint,
     plan: Plan<'_>,
-) -> io::Result<Option<Vec<Listener>>> {
-    let Ok(mut listeners) = Vec::with_capacity(alloc, plan.more_binds.len().saturating_add(1))
-    else {
-        eprintln!(rt; "stickd: out of memory")?;
-        return Ok(None);
+) -> Result<Sockets, BindFault> {
+    let access = access_of(rt, plan.socket)?;
+    let listeners = bind_listeners(alloc, rt, bind, plan)?;
+    let metrics = match plan.watch.metrics {
+        Some(place) => Some(bind_metrics(rt, place)?),
+        None => None,
     };
-    if !add_listener(rt, &mut listeners, bind, plan)? {
-        return Ok(None);
-    }
-    for further in plan.more_binds {
-        if !add_listener(rt, &mut listeners, *further, plan)? {
-            return Ok(None);
-        }
-    }
-    Ok(Some(listeners))
-}
-
-/// Binds one more listener. False where it can't be had, which is said on standard error.
-fn add_listener<R: ProxyRuntime + Eprint>(
-    rt: &R,
-    listeners: &mut Vec<Listener>,
-    bind: Endpoint,
-    plan: Plan<'_>,
-) -> io::Result<bool> {
-    let address = socket_address(bind);
-    let socket = match bind_listener(rt, bind, plan) {
-        Ok(socket) => socket,
-        Err(reason) => {
-            eprintln!(rt; "stickd: {address} can't be bound: {reason}")?;
-            return Ok(false);
-        }
+    let stats = match (plan.manager.handed.stats, plan.watch.stats) {
+        (Some(number), _) => Some(take_socket(rt, number)?),
+        (None, Some(stats)) => Some(bind_stats(rt, stats)?),
+        (None, None) => None,
     };
-    if listeners.push(listener_of(socket, bind)).is_err() {
-        eprintln!(rt; "stickd: out of memory")?;
-        return Ok(false);
-    }
-    Ok(true)
-}
-
-/// A listener whose clients come to the port of this endpoint.
-fn listener_of(socket: TcpListener, bind: Endpoint) -> Listener
-    ensures port { result.port ≡ bind.port }
-{
-    Listener {
+    let start = Instant::now(rt)?;
+    let path = plan.socket.path;
+    let socket = match plan.manager.handed.commands {
+        Some(number) => take_socket(rt, number)?,
+        None => bind_unix(rt, path, access)?,
+    };
+    say_places(rt, bind, plan);
+    Ok(Sockets {
+        listeners,
         socket,
-        port: bind.port,
+        stats,
+        metrics,
+        start,
+    })
+}
+
+/// Says where clients come in.
+fn say_places<R: ProxyRuntime>(rt: &R, bind: Endpoint, plan: Plan<'_>) {
+    for further in plan.more_binds {
+        let address = socket_address(*further);
+        info!(rt; "listening on {address}");
+    }
+    if let Some(stats) = plan.watch.stats {
+        let path = stats.path;
+        info!(rt; "stats on {path}");
+    }
+    if let Some(place) = plan.watch.metrics {
+        let address = socket_address(place);
+        info!(rt; "metrics on http://{address}/metrics");
+    }
+    let address = socket_address(bind);
+    let path = plan.socket.path;
+    info!(rt; "listening on {address}, for commands on {path}");
+}
+
+/// Binds a Unix socket at a path.
+fn bind_unix<R: ProxyRuntime>(rt: &R, path: &str, access: Access) -> Result<Socket, BindFault> {
+    match bind_socket(rt, path, access) {
+        Ok(BoundSocket { listener, file }) => Ok(Socket {
+            listener,
+            file: Some(file),
+        }),
+        Err(reason) => Err(say_unbound(rt, path, reason)),
     }
 }
 
-/// A socket that listens, of whose clients so many may wait to be accepted as the plan says, and are asked as it says whether they are still
-/// there. std's own queue has 128 places; listening once more widens it.
-fn bind_listener<R: ProxyRuntime>(
-    rt: &R,
-    bind: Endpoint,
-    plan: Plan<'_>,
-) -> io::Result<TcpListener> {
-    let listener = TcpListener::bind(rt, socket_address(bind))?;
-    if let Some(keepalive) = plan.limits.keepalive {
-        keepalive.apply(rt, &listener)?;
-    }
-    let places = i32::try_from(plan.backlog).unwrap_or(i32::MAX);
-    if libc::net::listen(listener.as_raw_fd(), places) != 0 {
-        return Err(io::Error::from_raw_os_error(os::errno()));
-    }
-    Ok(listener)
+/// Binds the stats socket.
+fn bind_stats<R: ProxyRuntime>(rt: &R, stats: StatsPlan<'_>) -> Result<Socket, BindFault> {
+    let access = Access {
+        mode: stats.mode,
+        group: None,
+    };
+    bind_unix(rt, stats.path, access)
 }
 
-/// How many clients the system lets wait, where it lets fewer than were asked for.
-pub(crate) fn fewer_places(asked: u32, most: Option<u64>) -> Option<u64>
-    ensures { result ≡ fewer_than asked most }
-{
-    match most {
-        Some(most) if most < u64::from(asked) => Some(most),
-        _ => None,
+/// Takes a Unix socket that the service manager hands over, whose file is the manager's own.
+fn take_socket<R: ProxyRuntime>(rt: &R, number: u32) -> Result<Socket, BindFault> {
+    match take_patient(number) {
+        Ok(listener) => Ok(Socket {
+            listener,
+            file: None,
+        }),
+        Err(reason) => Err(say_unbound(rt, "a socket that was handed over", reason)),
     }
 }
 
-/// What the system says of how many connections wait at most. None where that can't be read.
-fn read_most_waiting<R: Files + AllocGlobal>(rt: &R) -> Option<u64> {
-    let text = fs::read(rt, MOST_WAITING).ok()?;
-    read_number(text.as_slice().trim_ascii())
+/// The Unix socket of a number that was handed over, at which clients are waited for as at the proxy's own.
+fn take_patient(number: u32) -> io::Result<UnixListener> {
+    patient_unix(OwnedFd::from(take_unix(number)?))
 }
 
-/// Warns where the system lets fewer connections wait than were asked for.
-fn warn_of_backlog<R: ProxyRuntime + Files + AllocGlobal>(rt: &R, backlog: u32) {
-    if let Some(most) = fewer_places(backlog, read_most_waiting(rt)) {
-        warn!(rt; "--backlog {backlog} is more than the system allows, which is {most}: sysctl net.core.somaxconn={backlog} allows it");
+/// Binds the listener at which metrics are scraped.
+fn bind_metrics<R: ProxyRuntime>(rt: &R, place: Endpoint) -> Result<TcpListener, BindFault> {
+    match bind_patient(rt, place) {
+        Ok(listener) => Ok(listener),
+        Err(reason) => Err(say_unbound(rt, socket_address(place), reason)),
     }
 }
 
-/// Who may connect to the command socket. None where there is no such group, which is said on standard error.
-fn access_of<R: Files + Eprint + AllocGlobal>(
-    rt: &R,
-    socket: SocketPlan<'_>,
-) -> io::Result<Option<Access>> {
+/// A TCP listener at which clients are waited for no longer than a patience each time.
+fn bind_patient<R: ProxyRuntime>(rt: &R, place: Endpoint) -> io::Result<TcpListener> {
+    patient_tcp(OwnedFd::from(TcpListener::bind(rt, socket_address(place))?))
+}
+
+impl Socket {
+    /// Removes the file that was made for the socket at this path.
+    fn remove_file<R: ProxyRuntime>(&self, rt: &R, path: &str) {
+        if let Some(file) = self.file {
+            remove_own(rt, path, file);
+        }
+    }
+}
+
+impl Sockets {
+    /// Removes the files that were made.
+    pub fn remove_files<R: ProxyRuntime>(&self, rt: &R, plan: Plan<'_>) {
+        self.socket.remove_file(rt, plan.socket.path);
+        if let (Some(socket), Some(stats)) = (&self.stats, plan.watch.stats) {
+            socket.remove_file(rt, stats.path);
+        }
+    }
+}
+
+/// Who may connect to the command socket.
+fn access_of<R: ProxyRuntime>(rt: &R, socket: SocketPlan<'_>) -> Result<Access, BindFault> {
     let mode = socket.mode;
     let Some(word) = socket.group else {
-        return Ok(Some(Access { mode, group: None }));
+        return Ok(Access { mode, group: None });
     };
     match find_group(rt, word) {
-        Some(group) => Ok(Some(Access {
+        Some(group) => Ok(Access {
             mode,
             group: Some(group),
-        })),
+        }),
         None => {
             eprintln!(rt; "stickd: there is no group '{word}'")?;
-            Ok(None)
+            Err(BindFault::Said)
         }
     }
 }
 
 /// The number of a group that is named by its number, or else by its name in /etc/group.
-fn find_group<R: Files + AllocGlobal>(rt: &R, word: &str) -> Option<u32> {
+fn find_group<R: ProxyRuntime>(rt: &R, word: &str) -> Option<u32> {
     if let Some(number) = read_number(word.as_bytes()) {
         return u32::try_from(number).ok();
     }

@@ -5,6 +5,7 @@ ghost use Rattle.stick_model.specs.Limits.{IsTableSpec};
 ghost use Rattle.admit_drive.specs.Tables.{CanOpen};
 
 use base_sequence::{NoMemory, Sequence};
+use rule_addresses::Prefixes;
 use rule_model::{
     Action, Criterion, Fetch, KeyExpression, Measure, NamedSpec, Operator, Pattern, Rule, Setup,
     Slot, Term,
@@ -94,5 +95,6 @@ pub fn limiting(alloc: Global, shards: u32, limit: u64) -> Result<Setup, NoMemor
         bind: None,
         server: None,
         shards,
+        prefixes: Prefixes::whole(),
     })
 }

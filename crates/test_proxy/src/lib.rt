@@ -18,6 +18,8 @@ mod gates;
 #[cfg(test)]
 mod gathered;
 #[cfg(test)]
+mod manager;
+#[cfg(test)]
 mod peers;
 #[cfg(test)]
 mod setups;

@@ -4,7 +4,7 @@ ghost use Rattle.std.specs.Prelude.{◌≡◌, IfOk};
 ghost use Rattle.stick_model.specs.Limits.{IsTableSpec};
 
 use base_sequence::{NoMemory, Sequence};
-use rule_addresses::Endpoint;
+use rule_addresses::{Endpoint, Prefixes};
 use rule_model::{
     Action, Criterion, Fetch, KeyExpression, Measure, NamedSpec, Operator, Pattern, Rule, Setup,
     Slot, Term,
@@ -127,5 +127,6 @@ pub fn setup(alloc: Global, limit: Option<u64>, server: Endpoint) -> Result<Setu
         bind: None,
         server: Some(server),
         shards: 1,
+        prefixes: Prefixes::whole(),
     })
 }

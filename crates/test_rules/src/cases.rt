@@ -4,7 +4,7 @@ use crate::rows::{
     CASES, Case, Clause, Deed, FOUR, Key, Line, MAPPED, MAPPED_CASES, SIX, SIX_CASES, Test, Told,
 };
 use base_sequence::{NoMemory, Sequence};
-use rule_addresses::Address;
+use rule_addresses::{Address, Prefixes};
 use rule_eval::{Answer, Eval, Samples, Verdict, Want};
 use rule_model::{
     Action, Criterion, KeyExpression, Measure, NamedSpec, Pattern, Rule, Setup, Slot, Term,
@@ -166,6 +166,7 @@ fn setup(alloc: Global, lines: &[Line]) -> Result<Setup, NoMemory> {
         bind: None,
         server: None,
         shards: 1,
+        prefixes: Prefixes::whole(),
     })
 }
 

@@ -7,7 +7,7 @@ ghost use Rattle.admit_core.specs.Conn.{progress_of};
 
 use admit_core::{Conn, Need, Phase};
 use base_sequence::{NoMemory, Sequence};
-use rule_addresses::Address;
+use rule_addresses::{Address, Prefixes};
 use rule_eval::{Answer, Samples};
 use rule_model::{Action, KeyExpression, NamedSpec, Rule, Setup, Slot};
 use std::alloc::Global;
@@ -56,6 +56,7 @@ fn setup(alloc: Global, rejects: bool) -> Result<Setup, NoMemory> {
         bind: None,
         server: None,
         shards: 1,
+        prefixes: Prefixes::whole(),
     })
 }
 

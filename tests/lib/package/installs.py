@@ -14,6 +14,7 @@ EXAMPLES = [name for name in sorted(os.listdir(os.path.join(TOP, 'examples'))) i
 BELOW_PREFIX = {
     'bin/stickd': 0o755,
     'lib/systemd/system/stickd.service': 0o644,
+    'lib/systemd/system/stickd.socket': 0o644,
     'share/man/man1/stickd.1.gz': 0o644,
     'share/bash-completion/completions/stickd': 0o644,
     'share/fish/vendor_completions.d/stickd.fish': 0o644,
@@ -51,6 +52,7 @@ def looks_right(root, prefix, zsh):
                          ('fish/vendor_completions.d/stickd.fish', 'completions/stickd.fish'),
                          ('doc/stickd/copyright', 'debian/copyright')]:
         same(path, content(share, path), content(sources, source))
+    same('socket unit', content(root, prefix, 'lib/systemd/system/stickd.socket'), content(TOP, 'examples', 'stickd.socket'))
     same('manual', gzip.decompress(content(share, 'man/man1/stickd.1.gz')), content(TOP, 'man', 'stickd.1'))
     same('changelog', gzip.decompress(content(share, 'doc/stickd/changelog.gz')), content(sources, 'debian', 'changelog'))
     for name in EXAMPLES:
@@ -144,7 +146,7 @@ CALLS = [
     ('postinst configure', ['systemctl --system daemon-reload']),
     ('postinst configure 0.0.9', ['systemctl --system daemon-reload', 'deb-systemd-invoke try-restart stickd.service']),
     ('postinst abort-upgrade 0.0.9', []),
-    ('prerm remove', ['deb-systemd-invoke stop stickd.service']),
+    ('prerm remove', ['deb-systemd-invoke stop stickd.socket stickd.service']),
     ('prerm upgrade 0.0.9', []),
     ('postrm remove', ['systemctl --system daemon-reload']),
     ('postrm purge', []),

@@ -3,7 +3,6 @@ import contextlib
 import os
 import random
 import re
-import signal
 import socket
 import stat
 import subprocess
@@ -21,11 +20,11 @@ def unit_of(root, prefix):
     """The words of the unit's command, which has to be the program's."""
     unit = content(root, prefix, 'lib/systemd/system/stickd.service').decode().replace('\\\n', ' ')
     program = os.path.join('/', prefix, 'bin/stickd')
-    started = re.findall(r'^(?:ExecStart|ExecStartPre)=(\S+)', unit, re.MULTILINE)
-    same('programs of the unit', started, [program, program])
+    started = re.findall(r'^(?:ExecStart|ExecStartPre|ExecStop)=(\S+)', unit, re.MULTILINE)
+    same('programs of the unit', started, [program, program, program])
     same('paths of the unit', set(re.findall(r'/\S*bin/stickd\b', unit)), {program})
     assert re.search(r'^DynamicUser=yes$', unit, re.MULTILINE), 'the unit has no user of its own'
-    return re.search(r'^ExecStart=(.*)', unit, re.MULTILINE)[1].split()
+    return [re.search(rf'^{name}=(.*)', unit, re.MULTILINE)[1].split() for name in ('ExecStart', 'ExecStop')]
 
 
 class Echo:
@@ -89,10 +88,11 @@ def serves_one(root, prefix):
     """Starts what was installed, by the unit's own words and as a user without rights, and makes a connection."""
     echo, front, room = Echo(), free_port(), folder()
     edited(root, front, echo.port)
-    words = unit_of(root, prefix)
+    words, stop = unit_of(root, prefix)
     same('what the unit starts', words[1:5], ['run', f'/{CONFIGURATION}', '--socket', '/run/stickd/stickd.sock'])
     # A socket's path has at most 107 bytes.
-    address = os.path.join(room, 's')
+    address, stats = os.path.join(room, 's'), os.path.join(room, 't')
+    words, stop = ([word.replace('/run/stickd/stats.sock', stats) for word in of] for of in (words, stop))
     other = {'user': NOBODY, 'group': NOBODY, 'extra_groups': []} if os.geteuid() == 0 else {}
     if other:
         os.chown(room, NOBODY, NOBODY)
@@ -109,10 +109,13 @@ def serves_one(root, prefix):
                 answer = operator.makefile().read()
             assert re.search(r'^0x0: key=127\.0\.0\.1 use=1 exp=\d+ conn_cur=1$', answer, re.MULTILINE), answer
         same('mode of the socket', stat.S_IMODE(os.stat(address).st_mode), 0o600)
+        run(os.path.join(root, stop[0][1:]), *stop[1:])
+        written, said = proxy.communicate(timeout=PATIENCE)
     finally:
-        proxy.send_signal(signal.SIGTERM)
+        proxy.kill()
         proxy.communicate(timeout=PATIENCE)
-    same('status', proxy.returncode, -signal.SIGTERM)
+    same('status', proxy.returncode, 0)
+    assert re.fullmatch(r'settled www: \d+ calls, 0 references\n', written), (written, said)
 
 
 def answers(root, prefix):

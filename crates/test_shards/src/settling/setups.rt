@@ -4,6 +4,7 @@ ghost use Rattle.std.specs.Prelude.{◌≡◌, length, IfOk};
 
 use crate::settling::addresses::spec;
 use base_sequence::{NoMemory, Sequence};
+use rule_addresses::Prefixes;
 use rule_model::{
     Action, Criterion, Fetch, KeyExpression, Measure, NamedSpec, Operator, Pattern, Rule, Setup,
     Slot, Term,
@@ -68,6 +69,7 @@ fn with_rules(alloc: Global, rules: Sequence<Rule>) -> Result<Setup, NoMemory>
         bind: None,
         server: None,
         shards: 2,
+        prefixes: Prefixes::whole(),
     })
 }
 

@@ -3,17 +3,21 @@ use Rattle.table_socket.specs.declared.served.Served.{Served}
 use Rattle.table_socket.proofs.ClientsLemmas.{visits_more}
 use Rattle.table_socket.proofs.clients.serve_clients.Goals as goal
 
+pub loop-preserved-else-load-2 : goal.loop-preserved-else-load-2
+loop-preserved-else-load-2 g c =
+    let S = g.S.ClientServer in
+    let was = c.loop.invariant in
+    visits_more S.visits _ _ _ was.0 _ _ _ _ _ was.2 was.3 (ap (λ (s : Served). s.clients) c.note_client.ensures) (ap (λ (s : Served). s.commands) c.note_client.ensures) was.1 c.serve_stream.ensures
+
 pub loop-preserved : goal.loop-preserved
 loop-preserved g c =
-    let K = g.K.Keeper in
-    let C = g.C.Clock in
+    let S = g.S.ClientServer in
     let was = c.loop.invariant in
-    visits_more K.answers K.refuses C.shows _ _ _ was.0 _ _ _ _ _ was.2 was.3 (ap (λ (s : Served). s.clients) c.note_client.ensures) (ap (λ (s : Served). s.commands) c.note_client.ensures) was.1 c.serve_stream.ensures
+    visits_more S.visits _ _ _ was.0 _ _ _ _ _ was.2 was.3 (ap (λ (s : Served). s.clients) c.note_client.ensures) (ap (λ (s : Served). s.commands) c.note_client.ensures) was.1 c.serve_stream.ensures
 
 pub returns-then-load-2 : goal.returns-then-load-2
 returns-then-load-2 g c =
-    let K = g.K.Keeper in
-    let C = g.C.Clock in
+    let S = g.S.ClientServer in
     let was = c.loop.invariant in
-    let all = visits_more K.answers K.refuses C.shows _ _ _ was.0 _ _ _ _ _ was.2 was.3 (ap (λ (s : Served). s.clients) c.note_client.ensures) (ap (λ (s : Served). s.commands) c.note_client.ensures) was.1 c.serve_stream.ensures in
-    record { counts = all.0; visits = all.1; clients = all.2; commands = all.3 }
+    let all = visits_more S.visits _ _ _ was.0 _ _ _ _ _ was.2 was.3 (ap (λ (s : Served). s.clients) c.note_client.ensures) (ap (λ (s : Served). s.commands) c.note_client.ensures) was.1 c.serve_stream.ensures in
+    record { counts = all.0; in_turn = all.1; clients = all.2; commands = all.3 }

@@ -1,0 +1,80 @@
+-- A book beside its record, when it is opened and after a call.
+use Rattle.std.proofs.Common.{◌≡◌, ℕ, List, [], ◌∷◌, ◌++◌, refl, sym, ap, ◌∙◌, subst, append_assoc, true, length, suc, ◌-◌, ◌≤◌, get_or, arith, length-append, rules, ◌<◌, ◌^◌}
+use Rattle.std.proofs.lemmas.List.{map-append}
+use Rattle.stick_model.specs.State.{empty_table}
+use Rattle.stick_model.specs.Limits.{IsTableSpec, IsTableEvent}
+use Rattle.stick_model.specs.Refusals.{has_life}
+use Rattle.stick_model.specs.declared.specification.Spec.{Spec}
+use Rattle.stick_model.specs.declared.events.Event.{Event}
+use Rattle.stick_model.specs.declared.rows.Ticket.{Ticket}
+use Rattle.stick_model.specs.declared.events.Event.TheVariants.{Expire, Release}
+use Rattle.stick_model.specs.declared.replies.Reply.{Reply}
+use Rattle.shard_record.specs.declared.view.Call.{Call}
+use Rattle.shard_record.specs.Calls.{Answers, IsHistoryOf, call}
+use Rattle.shard_record.specs.Telling.{HasAnswered}
+use Rattle.shard_record.proofs.Records.{history_more}
+use Rattle.shard_book.specs.declared.recorded.Recorded.{Recorded}
+use Rattle.shard_book.specs.BookState.{BookState, Extends, opened, recorded, stored_of}
+use Rattle.shard_book.specs.Kept.{IsKept, last_event, last_of, stored}
+use Rattle.shard_book.proofs.BookLemmas.{stored_of-push}
+
+-- the record of an empty table
+empty_history : (spec : Spec) → IsTableSpec spec → IsHistoryOf [] (empty_table spec)
+empty_history spec limits = record { start = empty_table spec; begins = record { limits = limits; empty = refl }; runs = refl }
+
+pub opened_kept : (book : BookState) (log : List Call) → IsTableSpec book.base.spec → book ≡ opened book.base.spec → log ≡ [] → IsKept book log
+opened_kept book log limits is none =
+    let kept : IsKept (opened book.base.spec) [] = record { before = []; since = []; parts = refl; base = empty_history book.base.spec limits; calls = refl; live = empty_history book.base.spec limits } in
+    subst (λ (b : BookState). IsKept b log) (sym is) (subst (IsKept (opened book.base.spec)) (sym none) kept)
+
+-- what a book has answered, by its record
+pub has_answered : (old new : BookState) (log : List Call) (seat : ℕ) (event : Event) (reply : Reply) → IsKept old log → IsTableEvent event → has_life old.live event ≡ true → Extends old seat event reply new → HasAnswered log event reply
+has_answered old new log seat event reply kept takes lives extends = record {
+  live = old.live;
+  next = new.live;
+  history = kept.live;
+  answers = record { takes = takes; lives = lives; step = extends.step };
+}
+
+-- a call more
+pub kept_more : (old new : BookState) (log after : List Call) (seat by : ℕ) (event : Event) (reply : Reply) → IsKept old log → IsTableEvent event → has_life old.live event ≡ true → Extends old seat event reply new
+    → after ≡ log ++ call by event reply ∷ [] → IsKept new after
+kept_more old new log after seat by event reply kept takes lives extends is =
+    let one = call by event reply in
+    let answers : Answers old.live event reply new.live = record { takes = takes; lives = lives; step = extends.step } in
+    subst (IsKept new) (sym is) (record {
+      before = kept.before;
+      since = kept.since ++ one ∷ [];
+      parts = ap (λ l. l ++ one ∷ []) kept.parts ∙ append_assoc kept.before kept.since (one ∷ []);
+      base = subst (IsHistoryOf kept.before) (sym extends.base) kept.base;
+      calls = ap stored_of extends.calls ∙ (stored_of-push old.calls (recorded seat event reply) ∙ (ap (λ l. l ++ stored one ∷ []) kept.calls ∙ sym (map-append stored kept.since (one ∷ []))));
+      live = history_more log old.live by event reply new.live kept.live answers;
+    })
+
+-- ---- the last call of a book
+
+last_of_more : (first : Event) (calls : List Recorded) (call : Recorded) → last_of first (calls ++ call ∷ []) ≡ call.stored.event
+last_of_more first [] call = refl
+last_of_more first (one ∷ calls) call = last_of_more one.stored.event calls call
+
+pub last_more : (old new : BookState) (seat : ℕ) (event : Event) (reply : Reply) → Extends old seat event reply new → last_event new.calls ≡ event
+last_more old new seat event reply extends = ap last_event extends.calls ∙ last_of_more (Expire 0) old.calls (recorded seat event reply)
+
+pub some_more : (old new : BookState) (seat : ℕ) (event : Event) (reply : Reply) → Extends old seat event reply new → 1 ≤ length new.calls
+some_more old new seat event reply extends = omega (arith, ap length extends.calls, length-append old.calls (recorded seat event reply ∷ []))
+
+last_of_at : (first : Event) (calls : List Recorded) (at : Recorded) (d : Recorded) → 1 ≤ length calls → at ≡ get_or calls (length calls - 1) d → last_of first calls ≡ at.stored.event
+last_of_at first [] at d some is = absurd (omega (arith, some))
+last_of_at first (one ∷ []) at d some is = ap (λ (c : Recorded). c.stored.event) (sym is)
+last_of_at first (one ∷ two ∷ calls) at d some is =
+    last_of_at one.stored.event (two ∷ calls) at d (omega arith) (is ∙ ap (λ k. get_or (one ∷ two ∷ calls) k d) (less (length calls)))
+  where
+    less : (n : ℕ) → suc (suc n) - 1 ≡ suc (suc n - 1)
+    less n = omega arith
+
+pub last_at : (calls : List Recorded) (at : Recorded) → 1 ≤ length calls → at ≡ get_or calls (length calls - 1) at → at.stored.event ≡ last_event calls
+last_at calls at some is = sym (last_of_at (Expire 0) calls at at some is)
+
+-- a table takes a release at any moment
+pub takes_release : (now : ℕ) (ticket : Ticket) → now < 2 ^ 62 → IsTableEvent (Release now ticket)
+takes_release now ticket below = record { moment = below; values = search rules; tag = tt }

@@ -1,0 +1,201 @@
+//! A book beside the record of all its calls: what is to lie under a shard's lock; no lock has it yet.
+
+ghost use Rattle.std.specs.Prelude.{◌≡◌, ◌≢◌, ◌≤◌, ◌<◌, ◌^◌, ◌++◌, ◌∷◌, [], ℕ, length, IfOk, IfErr, OnOk, OnErr};
+ghost use Rattle.stick_model.specs.Laws.{tickets_told};
+ghost use Rattle.stick_model.specs.Limits.{IsTableEvent, IsTableSpec};
+ghost use Rattle.stick_model.specs.declared.events.Event.TheVariants.{Release};
+ghost use Rattle.stick_model.specs.declared.replies.Reply.TheVariants.{Released};
+ghost use Rattle.stick_model.specs.declared.replies.Refusal.TheVariants.{Stale};
+ghost use Rattle.shard_record.specs.Calls.{call as noted};
+ghost use Rattle.shard_record.specs.Parts.{holder};
+ghost use Rattle.shard_record.specs.Views.{only};
+ghost use Rattle.shard_record.specs.Telling.{HasAnswered, IsNoRelease, IsReference, IsSeer, IsSettled, IsTold, key_at, log_of, number_of, ticket_at};
+ghost use Rattle.shard_book.specs.BookState.{Extends, opened, rolled};
+ghost use Rattle.shard_book.specs.Kept.{last_event as event_of_last};
+ghost use Rattle.shard_book.specs.Told.{IsRefusedBy, Told};
+
+use crate::{Book, Seat, serve};
+use base_sequence::NoMemory;
+use shard_record::{Keeper, Naming, Record, Token};
+use std::marker::Model;
+use stick_table::{Event, Refusal, Reply, Table, Ticket};
+
+/// A book beside what keeps its record.
+#[derive(Drop)]
+pub struct Kept<T: Table, J: Naming> {
+    book: Book<T>,
+    keeper: Keeper<J>,
+}
+
+impl<T: Table, J: Naming> Model for Kept<T, J> {
+    ghost use Rattle.shard_book.specs.Kept.{IsKept, KeptState};
+
+    ghost Value = { KeptState };
+
+    ghost view = { λ kept. record { book = kept.book; number = kept.keeper.book; log = kept.keeper.log } };
+
+    ghost invariant = { λ kept. IsKept kept.book kept.keeper.log };
+}
+
+impl<T: Table, J: Naming> Kept<T, J> {
+    /// The book of an empty table, and what keeps an empty record.
+    pub fn new(book: Book<T>, keeper: Keeper<J>) -> Kept<T, J>
+        requires limits { IsTableSpec book.base.spec }
+        requires book { book ≡ opened book.base.spec }
+        requires keeper { keeper.log ≡ [] }
+        ensures { result ≡ record { book = book; number = keeper.book; log = [] } }
+    {
+        Kept { book, keeper }
+    }
+
+    /// The book alone.
+    pub fn into_book(self) -> Book<T>
+        ensures { result ≡ self.book }
+    {
+        let Kept { book, keeper: _ } = self;
+        book
+    }
+
+    /// Rolls the book, as `Book::roll` does. Its record stays.
+    pub fn roll(&mut self) -> Result<(), NoMemory>
+        ensures ok { OnOk result (self.new.book ≡ rolled self.old.book) }
+        ensures err { OnErr result (self.new.book ≡ self.old.book) }
+        ensures record { (self.new.log ≡ self.old.log) × (self.new.number ≡ self.old.number) }
+    {
+        self.book.roll()
+    }
+
+    /// Has the book answer an event that is no release, for a seat, as `serve` does, and notes the call in its record. The seat's
+    /// token is told. Another has the reference that the call made, if it made one. A refusal changes nothing.
+    pub fn serve(
+        &mut self,
+        records: &Record<J>,
+        seat: &mut Seat,
+        token: &mut Token<J>,
+        shard: u32,
+        event: Event,
+    ) -> Result<(Reply, Token<J>), Refusal>
+        requires shard { shard < 64 }
+        requires event { IsTableEvent event }
+        requires other { IsNoRelease event }
+        requires seer { IsSeer self.old.number token.old }
+        requires settled { IsSettled token.old }
+        ensures ok { IfOk result (λ told. Extends self.old.book seat.old.number event told.0 self.new.book) }
+        ensures told { IfOk result (λ told. Told seat.old shard event told.0 seat.new) }
+        ensures recorded { IfOk result (λ told. self.new.log ≡ self.old.log ++ noted (number_of self.old.number token.old) event told.0 ∷ []) }
+        ensures mine { IfOk result (λ told. IsTold self.old.number event told.0 token.old token.new) }
+        ensures seen { OnOk result (log_of self.old.number token.new ≡ self.new.log) }
+        ensures seer { IsSeer self.old.number token.new }
+        ensures settled { IsSettled token.new }
+        ensures given { IfOk result (λ told. told.1 ≡ only self.old.number (holder self.new.log (tickets_told event told.0 []))) }
+        ensures number { self.new.number ≡ self.old.number }
+        ensures refused { IfErr result (IsRefusedBy self.old.book.live seat.old shard event) }
+        ensures err { OnErr result ((self.new ≡ self.old) × (seat.new ≡ seat.old) × (token.new ≡ token.old)) }
+    {
+        let Kept { book, keeper } = self;
+        let reply = serve(book, seat, shard, event)?;
+        let given = note_last(book, keeper, records, token, &reply);
+        Ok((reply, given))
+    }
+
+    /// Has the book release a reference, for a seat, and notes the call in its record. The reference is out: it is never refused
+    /// as stale. A refusal changes nothing, and hands the reference's token back.
+    pub fn release(
+        &mut self,
+        records: &Record<J>,
+        seat: &mut Seat,
+        token: &mut Token<J>,
+        reference: Token<J>,
+        shard: u32,
+        now: u64,
+        ticket: Ticket,
+    ) -> Result<(), (Token<J>, Refusal)>
+        requires shard { shard < 64 }
+        requires moment { now < 2 ^ 62 }
+        requires reference { IsReference self.old.number reference }
+        requires ticket { ticket ≡ ticket_at self.old.number reference }
+        requires seer { IsSeer self.old.number token.old }
+        requires settled { IsSettled token.old }
+        ensures ok { OnOk result (Extends self.old.book seat.old.number (Release now ticket) Released self.new.book) }
+        ensures told { OnOk result (Told seat.old shard (Release now ticket) Released seat.new) }
+        ensures recorded { OnOk result (self.new.log ≡ self.old.log ++ noted (number_of self.old.number token.old) (Release now ticket) Released ∷ []) }
+        ensures mine { OnOk result (IsTold self.old.number (Release now ticket) Released token.old token.new) }
+        ensures seen { OnOk result (log_of self.old.number token.new ≡ self.new.log) }
+        ensures seer { IsSeer self.old.number token.new }
+        ensures settled { IsSettled token.new }
+        ensures number { self.new.number ≡ self.old.number }
+        ensures refused { IfErr result (λ refused. IsRefusedBy self.old.book.live seat.old shard (Release now ticket) refused.1) }
+        ensures fresh { IfErr result (λ refused. refused.1 ≢ Stale) }
+        ensures back { IfErr result (λ refused. refused.0 ≡ only self.old.number (holder self.old.log ((ticket, key_at self.old.number reference) ∷ []))) }
+        ensures err { OnErr result ((self.new ≡ self.old) × (seat.new ≡ seat.old) × (token.new ≡ token.old)) }
+    {
+        let Kept { book, keeper } = self;
+        let reply = match serve(book, seat, shard, Event::Release(now, ticket)) {
+            Ok(reply) => reply,
+            Err(refusal) => {
+                let mut shown = reference;
+                keeper.confirm(records, &mut shown);
+                return Err((shown, refusal));
+            }
+        };
+        note_release(book, keeper, records, token, reference, &reply);
+        Ok(())
+    }
+}
+
+/// Notes the release that a book recorded last.
+fn note_release<T: Table, J: Naming>(
+    book: &Book<T>,
+    keeper: &mut Keeper<J>,
+    records: &Record<J>,
+    token: &mut Token<J>,
+    reference: Token<J>,
+    reply: &Reply,
+)
+    requires some { 1 ≤ length book.now.calls }
+    requires seat { IsSeer keeper.old.book token.old }
+    requires settled { IsSettled token.old }
+    requires reference { IsReference keeper.old.book reference }
+    requires release { (now : ℕ) × (event_of_last book.now.calls ≡ Release now (ticket_at keeper.old.book reference)) }
+    requires answered { HasAnswered keeper.old.log (event_of_last book.now.calls) reply.now }
+    ensures released { reply.now ≡ Released }
+    ensures noted { keeper.new ≡ record { book = keeper.old.book; log = keeper.old.log ++ noted (number_of keeper.old.book token.old) (event_of_last book.now.calls) reply.now ∷ [] } }
+    ensures told { IsTold keeper.old.book (event_of_last book.now.calls) reply.now token.old token.new }
+    ensures seen { log_of keeper.old.book token.new ≡ keeper.new.log }
+    ensures seer { IsSeer keeper.old.book token.new }
+    ensures settled { IsSettled token.new }
+{
+    keeper.note_release(records, token, reference, last_event(book), reply)
+}
+
+/// Notes the call that a book recorded last, which is no release.
+fn note_last<T: Table, J: Naming>(
+    book: &Book<T>,
+    keeper: &mut Keeper<J>,
+    records: &Record<J>,
+    token: &mut Token<J>,
+    reply: &Reply,
+) -> Token<J>
+    requires some { 1 ≤ length book.now.calls }
+    requires seat { IsSeer keeper.old.book token.old }
+    requires settled { IsSettled token.old }
+    requires answered { HasAnswered keeper.old.log (event_of_last book.now.calls) reply.now }
+    requires other { IsNoRelease (event_of_last book.now.calls) }
+    ensures noted { keeper.new ≡ record { book = keeper.old.book; log = keeper.old.log ++ noted (number_of keeper.old.book token.old) (event_of_last book.now.calls) reply.now ∷ [] } }
+    ensures told { IsTold keeper.old.book (event_of_last book.now.calls) reply.now token.old token.new }
+    ensures seen { log_of keeper.old.book token.new ≡ keeper.new.log }
+    ensures seer { IsSeer keeper.old.book token.new }
+    ensures settled { IsSettled token.new }
+    ensures given { result ≡ only keeper.old.book (holder keeper.new.log (tickets_told (event_of_last book.now.calls) reply.now [])) }
+{
+    keeper.note(records, token, last_event(book), reply)
+}
+
+/// The event of the call that a book recorded last.
+fn last_event<T: Table>(book: &Book<T>) -> &Event
+    requires { 1 ≤ length book.now.calls }
+    ensures { result.now ≡ event_of_last book.now.calls }
+{
+    let calls = book.calls();
+    &calls[calls.len() - 1].stored.event
+}

@@ -1,0 +1,141 @@
+//! What a run counts by, is drained by, and tells others by; `running` makes it before the threads start.
+
+use crate::plan::Plan;
+use crate::reporting::{Reports, blocks_stop};
+use crate::running_program::{Board, Running};
+use crate::shared::ProxyRuntime;
+use crate::sockets::Sockets;
+use base_sequence::NoMemory;
+use log::{Log, warn};
+use rule_model::Setup;
+use std::alloc::Global;
+use std::{fs, str};
+use tcp_relay::{Control, Drain, socket_address};
+use tcp_stats::{Cells, Gauge};
+use tcp_watch::Notifier;
+
+/// Where the system says the machine's name.
+const HOSTNAME: &str = "/proc/sys/kernel/hostname";
+
+/// What a run counts by, is drained by, and tells others by.
+#[derive(Drop)]
+pub(crate) struct Instruments {
+    board: Board,
+    /// Of each thread that serves connections, where somebody looks.
+    cells: Vec<Cells>,
+    gauge: Gauge,
+    drain: Drain,
+    notifier: Option<Notifier>,
+    /// Whether a signal that stops the run may wait for it.
+    pub awaits_signals: bool,
+    node: Vec<u8>,
+    server: String,
+}
+
+/// The cells of so many threads.
+fn cells_of(alloc: Global, threads: u32) -> Result<Vec<Cells>, NoMemory> {
+    let mut cells = Vec::new(alloc);
+    for _ in 0..threads {
+        cells.push(Cells::new())?;
+    }
+    Ok(cells)
+}
+
+/// The socket to the service manager, where it takes messages. Where there is none to be had, that is said.
+fn open_notifier<R: ProxyRuntime>(rt: &R, plan: Plan<'_>) -> Option<Notifier> {
+    match Notifier::open(plan.manager.notify?) {
+        Ok(notifier) => Some(notifier),
+        Err(reason) => {
+            warn!(rt; "the service manager can't be told: {reason}");
+            None
+        }
+    }
+}
+
+/// The name of the machine. Empty where the system doesn't say it.
+fn read_node<R: ProxyRuntime>(alloc: Global, rt: &R) -> Vec<u8> {
+    match fs::read(rt, HOSTNAME) {
+        Ok(name) => name,
+        Err(_) => Vec::new(alloc),
+    }
+}
+
+/// The address of the server, as it is told.
+fn server_text(alloc: Global, setup: &Setup) -> Result<String, NoMemory> {
+    match setup.server {
+        Some(server) => {
+            let address = socket_address(server);
+            Ok(format!(in alloc; "{address}")?)
+        }
+        None => Ok(String::new(alloc)),
+    }
+}
+
+impl Instruments {
+    /// Those of a run.
+    pub fn new<R: ProxyRuntime>(
+        alloc: Global,
+        rt: &R,
+        setup: &Setup,
+        plan: Plan<'_>,
+    ) -> Result<Instruments, NoMemory> {
+        let watched = if plan.is_watched() { plan.threads } else { 0 };
+        Ok(Instruments {
+            board: Board::new(),
+            cells: cells_of(alloc, watched)?,
+            gauge: Gauge::new(),
+            drain: Drain::new(),
+            notifier: open_notifier(rt, plan),
+            awaits_signals: blocks_stop(rt),
+            node: read_node(alloc, rt),
+            server: server_text(alloc, setup)?,
+        })
+    }
+
+    /// What the threads that serve connections publish in, and are drained by.
+    pub fn control(&self) -> Control<'_> {
+        Control {
+            cells: self.cells.as_slice(),
+            gauge: &self.gauge,
+            drain: &self.drain,
+        }
+    }
+
+    /// The run, as its service threads see it.
+    pub fn running<'a, R>(
+        &'a self,
+        rt: &'a R,
+        plan: Plan<'a>,
+        sockets: &'a Sockets,
+    ) -> Running<'a, R> {
+        Running {
+            rt,
+            about: plan.watch.about,
+            node: str::from_utf8(self.node.as_slice().trim_ascii()).unwrap_or("?"),
+            server: self.server.as_str(),
+            threads: plan.threads,
+            connections: plan.limits.connections,
+            control: self.control(),
+            board: &self.board,
+            listeners: sockets.listeners.as_slice(),
+            is_handed: plan.manager.handed.listener.is_some(),
+            drain: plan.drain,
+            notifier: self.notifier.as_ref(),
+            stats: sockets.stats.as_ref().map(|stats| &stats.listener),
+            metrics: sockets.metrics.as_ref(),
+            reports: reports_of(plan, self.awaits_signals),
+            start: sockets.start,
+        }
+    }
+}
+
+/// What is said and looked for.
+fn reports_of(plan: Plan<'_>, awaits_signals: bool) -> Reports {
+    Reports {
+        report: plan.watch.report,
+        says_troubles: plan.is_watched(),
+        says_rejected: plan.watch.log_rejected,
+        awaits_signals,
+        alive: plan.manager.watchdog,
+    }
+}

@@ -1,0 +1,173 @@
+//! The reports of the running proxy, the signals that stop it, and what its service manager hears; `service_threads` has one thread do
+//! it.
+
+ghost use Rattle.std.specs.Prelude.{◌≡◌, ◌-◌};
+ghost use Rattle.tcp_stats.specs.CountValues.{count_of};
+
+use crate::running_program::Running;
+use crate::shared::ProxyRuntime;
+use crate::timetable::Timetable;
+use base_clock::Clock;
+use log::{Log, info};
+use shard_book::Keeper;
+use std::alloc::Global;
+use std::sync::atomic::{AtomicBool, Ordering};
+use std::time::Duration;
+use std::{fs, str, thread};
+use tcp_stats::{Count, Counts, Trouble, push_trouble, troubles};
+use tcp_watch::{Notice, Teller, Told, is_stop_blocked, is_stop_pending, push_status};
+
+/// How many ms lie between two looks at signals and at the time.
+const LOOK: u64 = 100;
+
+/// Where the system says which signals wait for the program.
+const STATUS: &str = "/proc/self/status";
+
+/// What is said and looked for while the proxy runs.
+#[derive(Clone, Copy, Debug)]
+pub(crate) struct Reports {
+    /// How many ms lie between two reports.
+    pub report: Option<u64>,
+    /// Whether what goes wrong is said, and rejected clients too.
+    pub says_troubles: bool,
+    pub says_rejected: bool,
+    /// Whether a signal that stops the proxy may wait for it.
+    pub awaits_signals: bool,
+    /// How many ms lie between two messages that the program is alive.
+    pub alive: Option<u64>,
+}
+
+/// Whether SIGTERM or SIGINT is blocked, as `env --block-signal` has it. Where the system doesn't say, it isn't.
+pub(crate) fn blocks_stop<R: ProxyRuntime>(rt: &R) -> bool {
+    match fs::read(rt, STATUS) {
+        Ok(status) => is_stop_blocked(status.as_slice()),
+        Err(_) => false,
+    }
+}
+
+/// Whether one of them waits.
+fn awaits_stop<R: ProxyRuntime>(rt: &R) -> bool {
+    match fs::read(rt, STATUS) {
+        Ok(status) => is_stop_pending(status.as_slice()),
+        Err(_) => false,
+    }
+}
+
+/// What stands in front of a line on standard error, by which journald knows a warning, where no human reads it (sd-daemon(3)).
+fn level() -> &'static str {
+    if libc::isatty(libc::STDERR_FILENO) == 1 {
+        ""
+    } else {
+        "<4>"
+    }
+}
+
+/// Says one thing that went wrong, in a line. Whether that can be said changes nothing.
+fn say_trouble<R: ProxyRuntime>(alloc: Global, rt: &R, trouble: Trouble) {
+    let level = level();
+    let mut line = Vec::new(alloc);
+    if push_trouble(&mut line, trouble, b"").is_err() {
+        return;
+    }
+    if let Ok(text) = str::from_utf8(line.as_slice()) {
+        let _ = eprintln!(rt; "{level}stickd: {text}");
+    }
+}
+
+/// Says what went wrong between two moments, a line for each cause.
+fn say_troubles<R: ProxyRuntime>(
+    alloc: Global,
+    running: &Running<'_, R>,
+    before: &Counts,
+    now: &Counts,
+) {
+    let Ok(list) = troubles(alloc, before, now, running.reports.says_rejected) else {
+        return;
+    };
+    for trouble in list.as_slice() {
+        say_trouble(alloc, running.rt, *trouble);
+    }
+}
+
+/// Says a report, also to the service manager. One for which a table can't be asked is left out.
+fn say_report<K: Keeper, C: Clock, R: ProxyRuntime>(
+    running: &Running<'_, R>,
+    teller: &mut Teller<'_, K, C, Running<'_, R>>,
+) {
+    let Ok(line) = teller.tell(Told::Report) else {
+        return;
+    };
+    if let Ok(text) = str::from_utf8(line.as_slice()) {
+        let text = text.trim_end();
+        info!(running.rt; "{text}");
+    }
+    let mut status = Vec::new(teller.alloc);
+    if push_status(&mut status, line.as_slice()).is_ok() {
+        running.notify(status.as_slice());
+    }
+}
+
+/// How much a count has grown.
+fn growth(count: Count, before: &Counts, now: &Counts) -> u64
+    ensures { result ≡ count_of now.now count - count_of before.now count }
+{
+    now.get(count).saturating_sub(before.get(count))
+}
+
+/// Sets the rates of the last second, and says what went wrong in it.
+fn end_second<R: ProxyRuntime>(alloc: Global, running: &Running<'_, R>, before: &Counts) -> Counts {
+    let now = running.counts();
+    let board = running.board;
+    board
+        .connections
+        .note_second(growth(Count::Accepted, before, &now));
+    board
+        .sessions
+        .note_second(growth(Count::Admitted, before, &now));
+    if running.reports.says_troubles {
+        say_troubles(alloc, running, before, &now);
+    }
+    now
+}
+
+/// Begins to drain where a signal waits that asks for it.
+fn look_for_signals<R: ProxyRuntime>(running: &Running<'_, R>) {
+    if !running.reports.awaits_signals || running.control.drain.has_begun() {
+        return;
+    }
+    if awaits_stop(running.rt) {
+        running.begin_drain(running.drain);
+    }
+}
+
+/// Reports, looks for signals and says that the program is alive until the proxy stops. The last report tells the end.
+pub(crate) fn report_on<K: Keeper, C: Clock, R: ProxyRuntime>(
+    running: &Running<'_, R>,
+    teller: &mut Teller<'_, K, C, Running<'_, R>>,
+    stop: &AtomicBool,
+) {
+    let reports = running.reports;
+    let mut timetable = Timetable::new(teller.clock.now(), reports.report, reports.alive);
+    let mut before = Counts::new();
+    for _look in running.rt.forever() {
+        if stop.load(Ordering::SeqCst) {
+            break;
+        }
+        thread::sleep(running.rt, Duration::from_millis(LOOK));
+        look_for_signals(running);
+        let due = timetable.due(teller.clock.now());
+        if due.alive {
+            running.notify(Notice::Watchdog.bytes());
+        }
+        if due.second {
+            before = end_second(teller.alloc, running, &before);
+        }
+        if due.report {
+            say_report(running, teller);
+        }
+    }
+    let _ = end_second(teller.alloc, running, &before);
+    if reports.report.is_some() {
+        say_report(running, teller);
+    }
+}

@@ -1,0 +1,240 @@
+//! What is known of the running proxy beside its tables, and how it is stopped; `service_threads` and `reporting` tell of it.
+
+ghost use Rattle.std.specs.Prelude.{◌≡◌};
+ghost use Rattle.tcp_proxy.specs.Draining.{shutdown_of};
+
+use crate::plan::About;
+use crate::reporting::Reports;
+use base_clock::{Clock, RunningClock};
+use std::net::{Net, TcpListener};
+use std::os::unix::net::UnixListener;
+use std::sync::atomic::{AtomicU64, Ordering};
+use std::time::{self, Instant};
+use tcp_relay::{Control, Listener};
+use tcp_stats::{Count, Counts, Rate, Snapshot, TableFacts};
+use tcp_watch::{Notice, Notifier, Program, Shutdown};
+
+/// What the threads beside the listener count. Each adds to it, and readers see it at any time.
+#[derive(Drop)]
+pub(crate) struct ServiceCounts {
+    commands: AtomicU64,
+    rolls: AtomicU64,
+    expiries: AtomicU64,
+    refusals: AtomicU64,
+}
+
+impl ServiceCounts {
+    /// Nothing is counted yet.
+    pub fn new() -> ServiceCounts {
+        ServiceCounts {
+            commands: AtomicU64::new(0),
+            rolls: AtomicU64::new(0),
+            expiries: AtomicU64::new(0),
+            refusals: AtomicU64::new(0),
+        }
+    }
+
+    /// The word of a count. None of one that the workers have.
+    fn word(&self, count: Count) -> Option<&AtomicU64> {
+        match count {
+            Count::Commands => Some(&self.commands),
+            Count::Rolls => Some(&self.rolls),
+            Count::Expiries => Some(&self.expiries),
+            Count::Refusals => Some(&self.refusals),
+            _ => None,
+        }
+    }
+
+    /// So many more.
+    pub fn add(&self, count: Count, more: u64) {
+        if let Some(word) = self.word(count) {
+            word.fetch_add(more, Ordering::SeqCst);
+        }
+    }
+
+    /// All that was counted so far.
+    fn read(&self) -> Counts {
+        let mut counts = Counts::new();
+        for count in Count::ALL {
+            if let Some(word) = self.word(count) {
+                counts.add(count, word.load(Ordering::SeqCst));
+            }
+        }
+        counts
+    }
+}
+
+/// A rate that one thread sets and others read.
+#[derive(Drop)]
+pub(crate) struct RateCell {
+    last: AtomicU64,
+    most: AtomicU64,
+}
+
+impl RateCell {
+    /// None came yet.
+    pub fn new() -> RateCell {
+        RateCell {
+            last: AtomicU64::new(0),
+            most: AtomicU64::new(0),
+        }
+    }
+
+    /// The rate, as it was set last.
+    pub fn read(&self) -> Rate {
+        Rate {
+            last: self.last.load(Ordering::SeqCst),
+            most: self.most.load(Ordering::SeqCst),
+        }
+    }
+
+    /// A second is over in which so many came.
+    pub fn note_second(&self, count: u64) {
+        let rate = self.read().after_second(count);
+        self.last.store(rate.last, Ordering::SeqCst);
+        self.most.store(rate.most, Ordering::SeqCst);
+    }
+}
+
+/// What is counted and told while the proxy runs.
+#[derive(Drop)]
+pub(crate) struct Board {
+    pub service: ServiceCounts,
+    /// Clients accepted in a second.
+    pub connections: RateCell,
+    /// Clients admitted in a second.
+    pub sessions: RateCell,
+}
+
+impl Board {
+    /// Nothing has happened yet.
+    pub fn new() -> Board {
+        Board {
+            service: ServiceCounts::new(),
+            connections: RateCell::new(),
+            sessions: RateCell::new(),
+        }
+    }
+}
+
+/// The running proxy, as its service threads see it.
+#[derive(Drop)]
+pub(crate) struct Running<'a, R> {
+    pub rt: &'a R,
+    pub about: About<'a>,
+    /// The name of the machine, and the address of the server.
+    pub node: &'a str,
+    pub server: &'a str,
+    /// How many threads serve connections, and how many connections they hold at most.
+    pub threads: u32,
+    pub connections: u32,
+    pub control: Control<'a>,
+    pub board: &'a Board,
+    pub listeners: &'a [Listener],
+    /// Whether the first listener is the service manager's, who goes on listening there.
+    pub is_handed: bool,
+    /// How long open connections go on once the proxy drains, in ms.
+    pub drain: u64,
+    pub notifier: Option<&'a Notifier>,
+    /// Who looks at it: on the stats socket, by HTTP, and by what is said.
+    pub stats: Option<&'a UnixListener>,
+    pub metrics: Option<&'a TcpListener>,
+    pub reports: Reports,
+    /// The moment 0.
+    pub start: Instant,
+}
+
+impl<'a, R: Net + time::Clock> Running<'a, R> {
+    /// The moment, in ms.
+    fn now(&self) -> u64 {
+        RunningClock::new(self.rt, self.start).now()
+    }
+
+    /// Tells the service manager, if there is one.
+    pub fn notify(&self, text: &[u8]) {
+        if let Some(notifier) = self.notifier {
+            notifier.send(text);
+        }
+    }
+
+    /// Tells the service manager that the proxy ends, where that wasn't told as it began to drain.
+    pub fn say_stopping(&self) {
+        if !self.control.drain.has_begun() {
+            self.notify(Notice::Stopping.bytes());
+        }
+    }
+
+    /// What all threads have counted so far.
+    pub fn counts(&self) -> Counts {
+        let mut counts = self.board.service.read();
+        for cells in self.control.cells {
+            counts = counts.with(&cells.read());
+        }
+        counts
+    }
+
+    /// Begins to drain for so many ms: no client is accepted any more, and the listeners refuse those that come. At the service
+    /// manager's they wait for the next program.
+    pub fn begin_drain(&self, drain: u64) {
+        let until = self.now().saturating_add(drain);
+        self.control.drain.begin(until);
+        let own = usize::from(self.is_handed);
+        for listener in self.listeners.iter().skip(own) {
+            listener.refuse(self.rt);
+        }
+        self.notify(Notice::Stopping.bytes());
+    }
+}
+
+impl<'r, R: Net + time::Clock> Program for Running<'r, R> {
+    fn snapshot<'a>(&'a self, tables: &'a [TableFacts<'a>]) -> Snapshot<'a> {
+        let counts = self.counts();
+        Snapshot {
+            version: self.about.version,
+            release_date: self.about.release_date,
+            pid: u32::try_from(libc::getpid()).unwrap_or(0),
+            node: self.node,
+            uptime_ms: self.now(),
+            threads: u64::from(self.threads),
+            is_draining: self.control.drain.has_begun(),
+            limit: u64::from(self.connections),
+            open: self.control.gauge.open(),
+            most: self.control.gauge.most(),
+            connection_rate: self.board.connections.read(),
+            session_rate: self.board.sessions.read(),
+            counts,
+            frontend: self.about.frontend,
+            server: self.server,
+            tables,
+        }
+    }
+
+    fn shut_down(&self, frontend: &[u8]) -> Shutdown {
+        let shutdown = answer_shutdown(
+            self.about.frontend.as_bytes(),
+            frontend,
+            self.control.drain.has_begun(),
+        );
+        if shutdown == Shutdown::Begun {
+            self.begin_drain(self.drain);
+        }
+        shutdown
+    }
+
+    fn stop(&self, drain: u64) {
+        self.begin_drain(drain);
+    }
+}
+
+/// What becomes of the wish that a frontend takes no more clients, where the program's has this name, and may drain already.
+pub(crate) fn answer_shutdown(own: &[u8], named: &[u8], is_draining: bool) -> Shutdown
+    ensures { result ≡ shutdown_of own.now named.now is_draining }
+{
+    if named != own {
+        return Shutdown::NoSuch;
+    }
+    if is_draining {
+        return Shutdown::Already;
+    }
+    Shutdown::Begun
+}

@@ -1,0 +1,6 @@
+pub mod Handed
+pub mod Messages
+pub mod Pending
+pub mod Rhythms
+pub mod Watchdog
+pub mod Conversations

@@ -1,0 +1,63 @@
+//! How far a client's conversation on the stats socket is; `StatsService` goes by it.
+
+ghost use Rattle.std.specs.Prelude.{◌≡◌};
+ghost use Rattle.tcp_watch.specs.Conversations as spec;
+
+/// Whether a client is prompted, and whether all is said. As HAProxy does it, a client has the answers to one line, unless it
+/// asked to be prompted (Management Guide 2.8, 9.3).
+#[derive(Clone, Copy, Debug, PartialEq, Eq)]
+pub struct Conversation {
+    /// Whether `> ` stands behind each answer, and the client may send further lines.
+    pub is_prompting: bool,
+    /// Whether the client is answered nothing more.
+    pub is_over: bool,
+}
+
+/// A client that has said nothing yet.
+pub const BEGUN: Conversation = Conversation {
+    is_prompting: false,
+    is_over: false,
+};
+
+impl Conversation {
+    /// After `prompt`, which asks for prompts, or asks for them no longer.
+    pub fn after_prompt(self) -> Conversation
+        ensures { result ≡ spec.after_prompt self }
+    {
+        Conversation {
+            is_prompting: !self.is_prompting,
+            ..self
+        }
+    }
+
+    /// After `quit`.
+    pub fn after_quit(self) -> Conversation
+        ensures { result ≡ spec.after_quit self }
+    {
+        Conversation {
+            is_over: true,
+            ..self
+        }
+    }
+
+    /// After the last command of a line.
+    pub fn after_line(self) -> Conversation
+        ensures { result ≡ spec.after_line self }
+    {
+        Conversation {
+            is_over: self.is_over || !self.is_prompting,
+            ..self
+        }
+    }
+
+    /// What stands behind an answer.
+    pub fn mark(self) -> &'static [u8]
+        ensures { result.now ≡ spec.mark self }
+    {
+        if self.is_prompting && !self.is_over {
+            b"> "
+        } else {
+            b""
+        }
+    }
+}

@@ -1,0 +1,41 @@
+//! What the running program tells of itself and is told: on the stats socket, as HAProxy's is spoken, by HTTP for Prometheus, and to and
+//! from its service manager; `tcp_proxy` and `stickd` call it.
+//!
+//! - `StatsService` and `MetricsService` serve clients. The texts are those of `tcp_stats`, and a command on a table is answered as on the
+//!   command socket, by `table_cli`. `Program` is what is asked of the program itself.
+//! - Of the service manager what decides is pure: `is_stop_pending` of a status, `read_handed` of the environment, `NotifyAddress` and the
+//!   texts of messages, and the `Rhythm` in which something is done. `Notifier`, `take_tcp`, `take_unix` and `read_surroundings` are the
+//!   thin calls round it.
+#![tactic(auto)]
+
+mod conversation;
+mod facts;
+mod handed;
+mod metrics;
+mod notifier;
+mod notify_address;
+mod pending;
+mod program;
+mod rhythm;
+mod stats;
+mod surroundings;
+mod taking;
+mod teller;
+mod texts;
+mod watchdog;
+
+pub use conversation::Conversation;
+pub use facts::{count_each, facts_of};
+pub use handed::{FIRST_HANDED, Handed, read_handed};
+pub use metrics::MetricsService;
+pub use notifier::Notifier;
+pub use notify_address::{NotifyAddress, read_address};
+pub use pending::{is_stop_blocked, is_stop_pending};
+pub use program::{Program, Shutdown};
+pub use rhythm::Rhythm;
+pub use stats::StatsService;
+pub use surroundings::{Surroundings, read_surroundings};
+pub use taking::{take_tcp, take_unix};
+pub use teller::{Teller, Told};
+pub use texts::{Notice, push_status};
+pub use watchdog::read_watchdog;

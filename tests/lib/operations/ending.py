@@ -1,0 +1,152 @@
+"""Trials of an orderly end: by the stats socket, by `stickd stop`, and by a signal that was blocked."""
+import contextlib
+import os
+import re
+import signal
+import subprocess
+import time
+
+from lib.operations.watched import Watched, watched
+from lib.places import stickd
+from lib.proxy import PATIENCE, TABLE, TRACK, FarServer, Server, greets, is_closed, is_greeted, read_all, wait_for
+
+SETTLED = r'settled www: (\d+) calls, 0 references\n'
+
+
+def stop(path, *words):
+    """What `stickd stop` says: its status, and its words."""
+    done = subprocess.run([stickd(), 'stop', '--stats-socket', path, *words], stdin=subprocess.DEVNULL, capture_output=True, text=True,
+                          timeout=3 * PATIENCE, check=False)
+    return done.returncode, done.stdout + done.stderr
+
+
+def is_refused(proxy):
+    """Whether a newcomer gets no connection."""
+    with contextlib.suppress(OSError):
+        proxy.connect().close()
+        return False
+    return True
+
+
+def has_ended_well(proxy):
+    """That it ends with status 0, says that no reference is out, and leaves no socket behind."""
+    status, written, said = proxy.ended()
+    assert status == 0 and re.fullmatch(SETTLED, written), (status, written, said)
+    assert not os.path.exists(proxy.path) and not os.path.exists(proxy.stats)
+
+
+def a_frontend_is_shut_down():
+    """Behind `shutdown frontend www` newcomers are refused at once, who is open goes on, and behind the last one it ends."""
+    with FarServer() as server, Watched(server.port, [TABLE, TRACK], '--drain', '1m') as proxy:
+        client, far = server.joined(proxy)
+        assert proxy.told('shutdown frontend www').strip() == ''
+        wait_for('newcomers are refused', lambda: is_refused(proxy), within=1)
+        assert proxy.info()['Stopping'] == '1'
+        client.sendall(b'still')
+        assert far.recv(9) == b'still' and proxy.program.poll() is None
+        client.close()
+        far.close()
+        has_ended_well(proxy)
+
+
+def stop_waits_for_the_end():
+    """`stickd stop` comes back once the program has ended, with status 0; who is open still after the drain is closed."""
+    with FarServer() as server, Watched(server.port, [TABLE, TRACK]) as proxy:
+        client, _ = server.joined(proxy)
+        began = time.monotonic()
+        assert stop(proxy.stats, '--drain', '2s') == (0, '')
+        assert 1.5 < time.monotonic() - began < 12
+        assert is_closed(client)
+        has_ended_well(proxy)
+
+
+def an_idle_program_stops_at_once():
+    """Without connections the end comes within a second, on one thread and on eight."""
+    for threads in (1, 8):
+        with watched(threads=threads) as proxy:
+            began = time.monotonic()
+            assert stop(proxy.stats) == (0, '')
+            assert time.monotonic() - began < 3
+            has_ended_well(proxy)
+
+
+def who_can_not_be_stopped():
+    """Nobody at the path, and the command socket, are told, with status 1; a bad time with status 2."""
+    with watched() as proxy:
+        status, said = stop(f'{proxy.room.name}/none')
+        assert status == 1 and "can't be reached: No such file" in said, said
+        assert stop(proxy.path) == (1, f'stickd: {proxy.path} is no stats socket of stickd\n')
+        assert stop(proxy.stats, '--drain', 'x')[0] == 2
+        assert proxy.program.poll() is None
+
+
+def blocked(kind):
+    """Has the program begin with this signal blocked."""
+    return lambda: signal.pthread_sigmask(signal.SIG_BLOCK, [kind])
+
+
+class Blocking(Watched):
+    """The program at work, as `env --block-signal` starts it."""
+
+    kind = signal.SIGTERM
+
+    def limit(self):
+        blocked(self.kind)()
+
+
+class Interrupted(Blocking):
+    kind = signal.SIGINT
+
+
+def a_blocked_signal_drains():
+    """SIGTERM, or SIGINT, that was blocked has it stop as `shutdown frontend` does; SIGTERM that wasn't ends it at once."""
+    for made in (Blocking, Interrupted):
+        with Server(greets) as server, made(server.port, [TABLE, TRACK], '--drain', '1m') as proxy:
+            with proxy.connect() as client:
+                assert is_greeted(client)
+                proxy.program.send_signal(made.kind)
+                wait_for('newcomers are refused', lambda proxy=proxy: is_refused(proxy), within=2)
+                client.sendall(b'still')
+                assert proxy.program.poll() is None
+            has_ended_well(proxy)
+    with watched() as proxy:
+        proxy.program.send_signal(signal.SIGTERM)
+        assert proxy.ended()[0] == -signal.SIGTERM
+
+
+def killed_at_any_moment_it_starts_again():
+    """The sockets' files that a killed program leaves are replaced at the next start."""
+    with watched() as proxy:
+        for pause in (0, 0.02, 0.1):
+            with contextlib.suppress(OSError), proxy.connect() as client:
+                is_greeted(client)
+            time.sleep(pause)
+            proxy.killed()
+            assert os.path.exists(proxy.stats)
+            proxy.start()
+            assert proxy.told('show table').startswith('# table: www')
+
+
+def clients_of_all_threads_are_drained():
+    """200 open connections on 4 threads are closed behind the drain, and are counted, before it ends."""
+    with FarServer() as server, Watched(server.port, [TABLE, TRACK], '--drain', '1s', '--report', '10m', threads=4) as proxy:
+        pairs = [server.joined(proxy) for _ in range(200)]
+        began = time.monotonic()
+        assert proxy.told('shutdown frontend www').strip() == ''
+        status, written, said = proxy.ended()
+        assert 0.9 < time.monotonic() - began < 8
+        assert status == 0 and re.fullmatch(SETTLED, written), (status, written, said)
+        assert re.search(r'\b200 (?:closed|drained)', said) or 'drained' in said, said
+        for client, far in pairs:
+            assert read_all_or_reset(client) and read_all_or_reset(far)
+
+
+def read_all_or_reset(stream):
+    """Whether a socket comes to its end, in order or by a reset."""
+    with contextlib.suppress(ConnectionResetError):
+        return read_all(stream) == b''
+    return True
+
+
+TRIALS = [a_frontend_is_shut_down, stop_waits_for_the_end, an_idle_program_stops_at_once, who_can_not_be_stopped,
+          a_blocked_signal_drains, killed_at_any_moment_it_starts_again, clients_of_all_threads_are_drained]

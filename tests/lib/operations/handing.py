@@ -1,0 +1,187 @@
+"""Trials of what a service manager does: it hands sockets over, and is told how it goes."""
+import contextlib
+import os
+import re
+import socket
+import subprocess
+import sys
+import tempfile
+import threading
+import time
+
+from lib.places import stickd
+from lib.proxy import PATIENCE, TABLE, TRACK, Server, free_port, greets, is_greeted, read_all, wait_for
+
+
+# A program that becomes another one, with descriptors from 3 on, and says by LISTEN_PID that they are its own.
+HANDS_OVER = '''
+import os, sys
+kept = [os.dup2(int(number), 200 + place) for place, number in enumerate(sys.argv[1].split(","))]
+for place, number in enumerate(kept):
+    os.dup2(number, 3 + place, inheritable=True)
+    os.close(number)
+os.environ["LISTEN_PID"] = str(os.getpid())
+os.execv(sys.argv[2], sys.argv[2:])
+'''
+
+
+class Manager:
+    """A manager that holds the sockets of the program, and starts it as systemd does."""
+
+    def __init__(self, server, names=('www', 'commands', 'stats'), bind=None):
+        self.room = tempfile.TemporaryDirectory(prefix='stickd-')
+        self.listener = socket.create_server(('127.0.0.1', 0), backlog=4096)
+        self.port, self.names, self.sockets = self.listener.getsockname()[1], names, [self.listener]
+        for name in names[1:]:
+            stream = socket.socket(socket.AF_UNIX)
+            stream.bind(self.path_of(name))
+            stream.listen(128)
+            self.sockets.append(stream)
+        self.conf = f'{self.room.name}/proxy.cfg'
+        with open(self.conf, 'w', encoding='utf-8') as file:
+            file.write('\n    '.join(['listen www', f'bind {bind or f"127.0.0.1:{self.port}"}', TABLE, TRACK,
+                                      f'server one 127.0.0.1:{server}']) + '\n')
+
+    def path_of(self, name):
+        return f'{self.room.name}/{name}'
+
+    def start(self, *words, environment=None, threads=2):
+        """A program with these sockets at descriptors 3 and up, as sd_listen_fds(3) has it."""
+        handed = [stream.fileno() for stream in self.sockets]
+        words = [stickd(), 'run', self.conf, '--socket', self.path_of('commands'), '--threads', str(threads), '--stats-socket',
+                 self.path_of('stats'), *words]
+        variables = {**os.environ, 'LISTEN_FDS': str(len(handed)), 'LISTEN_FDNAMES': ':'.join(self.names), **(environment or {})}
+        return subprocess.Popen([sys.executable, '-c', HANDS_OVER, ','.join(map(str, handed)), *words], stdin=subprocess.DEVNULL,
+                                stdout=subprocess.PIPE, stderr=subprocess.PIPE, text=True, env=variables, pass_fds=handed)
+
+    def asked(self, name, line):
+        """What a line is answered on a socket."""
+        with socket.socket(socket.AF_UNIX) as stream:
+            stream.settimeout(PATIENCE)
+            stream.connect(self.path_of(name))
+            stream.sendall(line.encode() + b'\n')
+            stream.shutdown(socket.SHUT_WR)
+            return read_all(stream).decode()
+
+    def __enter__(self):
+        return self
+
+    def __exit__(self, *_):
+        for stream in self.sockets:
+            stream.close()
+        self.room.cleanup()
+
+
+@contextlib.contextmanager
+def started(manager, *words, **others):
+    program = manager.start(*words, **others)
+    try:
+        wait_for('it answers', lambda: program.poll() is not None or manager.asked('commands', 'show table').startswith('# table'))
+        assert program.poll() is None, program.stderr.read()
+        yield program
+    finally:
+        program.kill()
+        program.communicate()
+
+
+def sockets_are_taken_over():
+    """The listener and both sockets are those of the manager: no other is bound, and their files stay behind the end."""
+    with Server(greets) as server, Manager(server.port) as manager:
+        with started(manager) as program:
+            with socket.create_connection(('127.0.0.1', manager.port), PATIENCE) as client:
+                client.settimeout(PATIENCE)
+                assert is_greeted(client)
+            assert manager.asked('stats', 'show info').startswith('Name: stickd\n')
+            assert manager.asked('stats', 'shutdown frontend www').strip() == ''
+            assert program.wait(PATIENCE) == 0
+        assert os.path.exists(manager.path_of('commands')) and os.path.exists(manager.path_of('stats'))
+
+
+def another_address_is_warned_of():
+    """A listener that isn't where `bind` says is taken all the same, with a warning that names both."""
+    with Server(greets) as server, Manager(server.port, bind=f'127.0.0.1:{free_port()}') as manager:
+        with started(manager) as program:
+            with socket.create_connection(('127.0.0.1', manager.port), PATIENCE) as client:
+                client.settimeout(PATIENCE)
+                assert is_greeted(client)
+            program.kill()
+            said = program.stderr.read()
+            assert f'127.0.0.1:{manager.port}' in said and 'bind' in said, said
+
+
+def sockets_of_another_are_left():
+    """LISTEN_PID of another process: its sockets are none of this one's."""
+    with Server(greets) as server, Manager(server.port, names=('www',)) as manager:
+        words = [stickd(), 'run', manager.conf, '--socket', manager.path_of('mine'), '--threads', '1']
+        done = subprocess.run(words, stdin=subprocess.DEVNULL, capture_output=True, text=True, timeout=PATIENCE, check=False,
+                              env={**os.environ, 'LISTEN_PID': '1', 'LISTEN_FDS': '1'})
+        assert done.returncode == 1 and "can't be bound: Address already in use" in done.stderr, done
+
+
+def no_connection_is_refused_over_restarts():
+    """While it is restarted again and again, under some 500 connections a second, no client is refused or left without an answer."""
+    with Server(greets) as server, Manager(server.port) as manager:
+        ends, counts = threading.Event(), {'greeted': 0, 'lost': 0}
+
+        def come():
+            while not ends.is_set():
+                try:
+                    with socket.create_connection(('127.0.0.1', manager.port), PATIENCE) as client:
+                        client.settimeout(PATIENCE)
+                        counts['greeted' if client.recv(1) == b'+' else 'lost'] += 1
+                except OSError:
+                    counts['lost'] += 1
+                time.sleep(0.002)
+        program = manager.start()
+        threads = [threading.Thread(target=come) for _ in range(2)]
+        for thread in threads:
+            thread.start()
+        for _ in range(5):
+            time.sleep(0.5)
+            wait_for('it answers', lambda: manager.asked('stats', 'show info').startswith('Name: stickd\n'))
+            manager.asked('stats', 'shutdown frontend www')
+            assert program.wait(PATIENCE) == 0, program.communicate()
+            program.communicate()
+            program = manager.start()
+        time.sleep(0.5)
+        ends.set()
+        for thread in threads:
+            thread.join(PATIENCE)
+        program.kill()
+        program.communicate()
+        assert counts['lost'] == 0 and counts['greeted'] > 300, counts
+
+
+@contextlib.contextmanager
+def notified(is_abstract):
+    """A socket for what the program tells its manager: the environment that names it, and the socket."""
+    with tempfile.TemporaryDirectory(prefix='stickd-') as room, socket.socket(socket.AF_UNIX, socket.SOCK_DGRAM) as stream:
+        name = f'stickd-notify-{os.getpid()}' if is_abstract else f'{room}/notify'
+        stream.bind(f'\0{name}' if is_abstract else name)
+        stream.settimeout(PATIENCE)
+        yield {'NOTIFY_SOCKET': f'@{name}' if is_abstract else name}, stream
+
+
+def heard(stream, until):
+    """What comes up to a message with these words."""
+    messages = []
+    while not messages or until not in messages[-1]:
+        messages.append(stream.recv(65536).decode())
+    return messages
+
+
+def the_manager_is_told():
+    """READY=1 once it listens, WATCHDOG=1 while it runs, and STOPPING=1 as it drains; by a path and by an abstract name."""
+    for is_abstract in (False, True):
+        with Server(greets) as server, Manager(server.port) as manager, notified(is_abstract) as (environment, stream):
+            with started(manager, '--report', '1s', environment={**environment, 'WATCHDOG_USEC': '1000000'}) as program:
+                assert re.search(r'^READY=1$', '\n'.join(heard(stream, 'READY=1')), re.M)
+                heard(stream, 'WATCHDOG=1')
+                assert 'STATUS=' in heard(stream, 'STATUS=')[-1]
+                manager.asked('stats', 'shutdown frontend www')
+                heard(stream, 'STOPPING=1')
+                assert program.wait(PATIENCE) == 0
+
+
+TRIALS = [sockets_are_taken_over, another_address_is_warned_of, sockets_of_another_are_left, no_connection_is_refused_over_restarts,
+          the_manager_is_told]

@@ -1,0 +1,146 @@
+"""Trials of the stats socket: that it speaks as HAProxy's does, by itself and to the tools that ask HAProxy's."""
+import re
+import shutil
+import socket
+import subprocess
+import threading
+import time
+
+from lib.operations.watched import watched
+from lib.proxy import PATIENCE, is_greeted, read_all, wait_for
+
+PROMPT = b'> '
+
+
+def a_line_is_answered_and_closed():
+    """One line of commands, parted by ';', is answered, and then the socket ends, whether or not the client has ended first."""
+    with watched() as proxy:
+        table = '# table: www, type: ip, size:1024, used:0\n\n'
+        assert proxy.told('show table') == table
+        assert proxy.told('show table;show table') == 2 * table
+        assert proxy.told('set table www key 10.0.0.1 data.conn_cnt 7;show table www').count('conn_cnt=7') == 1
+        assert proxy.told('show errors') == '\n'
+        assert proxy.told('').startswith('Unknown command.')
+        with proxy.stats_client() as stream:
+            stream.sendall(b'show table\nshow table\n')
+            assert read_all(stream).decode().count('# table: www') == 1, 'the second line is of no more interest'
+
+
+def a_prompt_keeps_it_open():
+    """Behind `prompt` each line is answered with '> ' behind it, until `quit`."""
+    with watched() as proxy, proxy.stats_client() as stream:
+        stream.sendall(b'prompt\n')
+        assert until_prompt(stream) == b'\n'
+        for _ in range(3):
+            stream.sendall(b'show table\n')
+            assert until_prompt(stream).startswith(b'# table: www, type: ip, size:1024, used:')
+        stream.sendall(b'quit\n')
+        assert read_all(stream) == b''
+
+
+def until_prompt(stream):
+    """What comes before the next prompt."""
+    heard = b''
+    while not heard.endswith(PROMPT):
+        some = stream.recv(65536)
+        assert some, f'ended behind {heard!r}'
+        heard += some
+    return heard[:-len(PROMPT)]
+
+
+def unknown_commands_are_told_what_there_is():
+    """A command that isn't there is answered by HAProxy's words and by what there is, as is `help`."""
+    with watched() as proxy:
+        said = proxy.told('bogus')
+        assert said.startswith('Unknown command'), said
+        for text in (said, proxy.told('help')):
+            for word in ('show info', 'show stat', 'show table', 'prompt', 'quit'):
+                assert re.search(rf'^ +{word}', text, re.M), (word, text)
+        assert proxy.told('shutdown frontend none').startswith('No such frontend.')
+
+
+def info_and_stat_count():
+    """`show info` and `show stat` say what was admitted, what was rejected and what is open, by HAProxy's names."""
+    with watched(limit=2) as proxy:
+        with proxy.connect() as first, proxy.connect() as second:
+            assert is_greeted(first) and is_greeted(second)
+            for _ in range(3):
+                with proxy.connect() as third:
+                    assert not is_greeted(third)
+            wait_for('two are open', lambda: proxy.info()['CurrConns'] == '2')
+            info, stat = proxy.info(), proxy.stat()
+            assert info['Name'] == 'stickd' and info['Pid'] == str(proxy.program.pid), info
+            assert info['CumConns'] == '5' and info['Maxconn'] == '10000' and info['Nbthread'] == '8', info
+            assert info['Stopping'] == '0', info
+            front, back = stat['FRONTEND'], stat['BACKEND']
+            assert (front['pxname'], front['scur'], front['dcon'], front['status']) == ('www', '2', '3', 'OPEN'), front
+            server = next(row for row in stat.values() if row['type'] == '2')
+            assert (front['stot'], front['conn_tot'], back['stot'], server['stot']) == ('2', '5', '2', '2'), stat
+        wait_for('none is open', lambda: proxy.info()['CurrConns'] == '0')
+        assert int(proxy.stat()['FRONTEND']['bout']) == 2, proxy.stat()['FRONTEND']
+
+
+def clients_beside_each_other_are_answered():
+    """Clients that say nothing hold up no other, and are closed after 10 s."""
+    with watched() as proxy, proxy.stats_client() as idle, proxy.stats_client() as other:
+        began = time.monotonic()
+        for _ in range(20):
+            assert proxy.told('show table').startswith('# table: www')
+        assert time.monotonic() - began < 5
+        assert read_all(idle) == b'' and read_all(other) == b''
+        assert 9 < time.monotonic() - began < 15
+
+
+def answers_come_whole_to_many():
+    """64 clients at once, each of whom gets a whole answer."""
+    with watched() as proxy:
+        heard = []
+        threads = [threading.Thread(target=lambda: heard.append(proxy.told('show stat').count('\n'))) for _ in range(64)]
+        for thread in threads:
+            thread.start()
+        for thread in threads:
+            thread.join(PATIENCE)
+        assert heard == 64 * [5], heard
+
+
+def tools_of_haproxy_ask():
+    """socat and nc, which don't end their side first, and hatop and Prometheus' exporter, where they are installed."""
+    with watched() as proxy:
+        tools = [('socat', ['socat', 'stdio', f'unix-connect:{proxy.stats}']), ('nc', ['nc', '-U', proxy.stats])]
+        for name, words in tools:
+            if not shutil.which(name):
+                print(f'  {name} is not installed')
+                continue
+            done = subprocess.run(words, input=b'show info\n', stdout=subprocess.PIPE, timeout=PATIENCE, check=False)
+            assert done.stdout.startswith(b'Name: stickd\n'), (name, done)
+        for name in ('hatop', 'prometheus-haproxy-exporter'):
+            if not shutil.which(name):
+                print(f'  {name} is not installed')
+        if shutil.which('prometheus-haproxy-exporter'):
+            exported(proxy)
+
+
+def exported(proxy):
+    """What Prometheus' exporter makes of the stats socket."""
+    from lib.proxy import free_port
+    port = free_port()
+    words = ['prometheus-haproxy-exporter', f'--haproxy.scrape-uri=unix:{proxy.stats}', f'--web.listen-address=127.0.0.1:{port}']
+    exporter = subprocess.Popen(words, stdout=subprocess.DEVNULL, stderr=subprocess.DEVNULL)
+    try:
+        def shown():
+            try:
+                with socket.create_connection(('127.0.0.1', port), PATIENCE) as stream:
+                    stream.sendall(b'GET /metrics HTTP/1.0\r\n\r\n')
+                    return read_all(stream).decode()
+            except OSError:
+                return ''
+        wait_for('the exporter answers', shown)
+        text = shown()
+        assert 'haproxy_up 1' in text and 'haproxy_frontend_connections_total{frontend="www"} 0' in text, text
+    finally:
+        exporter.kill()
+        exporter.communicate()
+
+
+TRIALS = [a_line_is_answered_and_closed, a_prompt_keeps_it_open, unknown_commands_are_told_what_there_is, info_and_stat_count,
+          clients_beside_each_other_are_answered, answers_come_whole_to_many, tools_of_haproxy_ask]
