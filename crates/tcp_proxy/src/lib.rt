@@ -20,4 +20,4 @@ mod timetable;
 
 pub use plan::{About, METRICS_CLIENTS, Plan, STATS_CLIENTS, SocketPlan, StatsPlan, WatchPlan};
 pub use running::{run_pooled, run_proxy};
-pub use shared::ProxyRuntime;
+pub use shared::{ProxyRuntime, StartRuntime};
