@@ -11,7 +11,7 @@ use rule_model::Setup;
 use std::alloc::Global;
 use std::{fs, str};
 use tcp_relay::{Control, Drain, socket_address};
-use tcp_stats::{Cells, Gauge};
+use tcp_stats::{Cells, Gauge, LastTimes};
 use tcp_watch::{Notifier, ProcessStatus};
 
 /// Where the system says the machine's name.
@@ -23,6 +23,9 @@ pub(crate) struct Instruments {
     board: Board,
     /// Of each thread that serves connections, where somebody looks.
     cells: Vec<Cells>,
+    /// Who was the last that something went wrong for, where somebody looks.
+    lasts: Option<LastTimes>,
+    notes_rejected: bool,
     gauge: Gauge,
     drain: Drain,
     notifier: Option<Notifier>,
@@ -39,6 +42,15 @@ fn cells_of(alloc: Global, threads: u32) -> Result<Vec<Cells>, NoMemory> {
         cells.push(Cells::new())?;
     }
     Ok(cells)
+}
+
+/// Where it is noted who was the last that something went wrong for, if anybody looks.
+fn lasts_where(is_watched: bool) -> Option<LastTimes> {
+    if is_watched {
+        Some(LastTimes::new())
+    } else {
+        None
+    }
 }
 
 /// The socket to the service manager, where it takes messages. Where there is none to be had, that is said.
@@ -93,6 +105,8 @@ impl Instruments {
         Ok(Instruments {
             board: Board::new(),
             cells: cells_of(alloc, watched)?,
+            lasts: lasts_where(plan.is_watched()),
+            notes_rejected: plan.watch.log_rejected,
             gauge: Gauge::new(),
             drain: Drain::new(),
             notifier: open_notifier(rt, plan),
@@ -111,6 +125,8 @@ impl Instruments {
     pub fn control(&self) -> Control<'_> {
         Control {
             cells: self.cells.as_slice(),
+            lasts: self.lasts.as_ref(),
+            notes_rejected: self.notes_rejected,
             gauge: &self.gauge,
             drain: &self.drain,
         }

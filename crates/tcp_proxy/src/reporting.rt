@@ -15,8 +15,8 @@ use shard_book::Keeper;
 use std::alloc::Global;
 use std::sync::atomic::{AtomicBool, Ordering};
 use std::time::Duration;
-use std::{str, thread};
-use tcp_stats::{Count, Counts, Trouble, push_trouble, troubles};
+use std::{io, str, thread};
+use tcp_stats::{Count, Counts, Occasion, Trouble, push_trouble, troubles};
 use tcp_watch::{Notice, Teller, Told, push_status};
 
 /// How many ms lie between two looks at signals and at the time.
@@ -43,21 +43,43 @@ fn level() -> &'static [u8] {
     }
 }
 
-/// Appends a line that says what went wrong, behind its level.
-fn push_line(line: &mut Vec<u8>, level: &[u8], trouble: Trouble) -> Result<(), NoMemory>
-    ensures { OnOk result (line.new.items ≡ line.old.items ++ line_of level.now trouble) }
+/// What is known of the last time: where the client came from, and the system's words for its error.
+fn last_text(alloc: Global, occasion: Option<Occasion>) -> Result<String, NoMemory> {
+    let Some(Occasion { source, error }) = occasion else {
+        return Ok(String::new(alloc));
+    };
+    let reason = error.map(|number| io::Error::from_raw_os_error(number.cast_signed()));
+    match (source, reason) {
+        (Some(source), Some(reason)) => Ok(format!(in alloc; "{source}: {reason}")?),
+        (Some(source), None) => Ok(format!(in alloc; "{source}")?),
+        (None, Some(reason)) => Ok(format!(in alloc; "{reason}")?),
+        (None, None) => Ok(String::new(alloc)),
+    }
+}
+
+/// Appends a line that says what went wrong, behind its level, and what is known of the last time.
+fn push_line(
+    line: &mut Vec<u8>,
+    level: &[u8],
+    trouble: Trouble,
+    last: &[u8],
+) -> Result<(), NoMemory>
+    ensures { OnOk result (line.new.items ≡ line.old.items ++ line_of level.now trouble last.now) }
 {
     line.extend_from_slice(level)?;
     line.extend_from_slice(b"stickd: ")?;
-    push_trouble(line, trouble, b"")?;
+    push_trouble(line, trouble, last)?;
     line.push(b'\n')?;
     Ok(())
 }
 
 /// Says one thing that went wrong, by one write, so that no thread's words come between. Whether that can be said changes nothing.
-fn say_trouble(alloc: Global, trouble: Trouble) {
+fn say_trouble(alloc: Global, trouble: Trouble, occasion: Option<Occasion>) {
     let mut line = Vec::new(alloc);
-    if push_line(&mut line, level(), trouble).is_ok() {
+    let Ok(last) = last_text(alloc, occasion) else {
+        return;
+    };
+    if push_line(&mut line, level(), trouble, last.as_bytes()).is_ok() {
         let _ = libc::write(libc::STDERR_FILENO, line.as_slice());
     }
 }
@@ -73,7 +95,8 @@ fn say_troubles<R: ProxyRuntime>(
         return;
     };
     for trouble in list.as_slice() {
-        say_trouble(alloc, *trouble);
+        let occasion = running.control.last(trouble.count);
+        say_trouble(alloc, *trouble, occasion);
     }
 }
 
