@@ -123,7 +123,10 @@ impl LastCell {
         if version == 0 || version % 2 == 1 {
             return None;
         }
-        let words = array::from_fn(|place| self.words[place].load(Ordering::SeqCst));
+        let mut words = [0; WORDS];
+        for place in 0..WORDS {
+            words[place] = self.words[place].load(Ordering::SeqCst);
+        }
         if self.version.load(Ordering::SeqCst) != version {
             return None;
         }
