@@ -126,6 +126,7 @@ fn start<T: Table + Send, R: StartRuntime + Print>(
     instruments: &Instruments,
     opened: OpenTables<T>,
 ) -> io::Result<bool>
+    requires can_open { CanOpen setup.now }
     requires server { is_some setup.now.server ≡ true }
     requires tables { AreTablesOf setup.now opened.tables.items }
     requires seats { AreSeats (length opened.tables.items) plan.threads opened.workers }
