@@ -107,6 +107,7 @@ impl Instruments {
         rt: &'a R,
         plan: Plan<'a>,
         sockets: &'a Sockets,
+        begins_at: u64,
     ) -> Running<'a, R> {
         Running {
             rt,
@@ -125,6 +126,7 @@ impl Instruments {
             metrics: sockets.metrics.as_ref(),
             reports: reports_of(plan, self.awaits_signals),
             start: sockets.start,
+            begins_at,
         }
     }
 }

@@ -140,8 +140,9 @@ pub(crate) struct Running<'a, R> {
     pub stats: Option<&'a UnixListener>,
     pub metrics: Option<&'a TcpListener>,
     pub reports: Reports,
-    /// The moment 0.
+    /// The moment 0, and that at which the run began.
     pub start: Instant,
+    pub begins_at: u64,
 }
 
 impl<'a, R: Net + time::Clock> Running<'a, R> {
@@ -194,7 +195,7 @@ impl<'r, R: Net + time::Clock> Program for Running<'r, R> {
             release_date: self.about.release_date,
             pid: u32::try_from(libc::getpid()).unwrap_or(0),
             node: self.node,
-            uptime_ms: self.now(),
+            uptime_ms: self.now().saturating_sub(self.begins_at),
             threads: u64::from(self.threads),
             is_draining: self.control.drain.has_begun(),
             limit: u64::from(self.connections),
