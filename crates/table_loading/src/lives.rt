@@ -1,6 +1,6 @@
 //! When an entry was refreshed that has so much of its life left, and when tables go on; `loading` and `tcp_proxy` ask it.
 
-ghost use Rattle.std.specs.Prelude.{◌≡◌, ◌<◌, ◌^◌};
+ghost use Rattle.std.specs.Prelude.{◌≡◌};
 ghost use Rattle.shard_book.specs.NamedTables.{states_of};
 ghost use Rattle.table_loading.specs.Lives as lives;
 ghost use Rattle.table_loading.specs.Lives.{goes_on_at};
@@ -29,13 +29,12 @@ pub fn life_of(spec: &Spec) -> u32
 }
 
 /// The longest life that tables give, in ms: the moment at which they go on once they are loaded.
-pub fn longest_life<K: Keeper>(tables: &[Named<K>]) -> u64
-    ensures longest { result ≡ goes_on_at (states_of K.table K.parts K.state tables.now) }
-    ensures bound { result < 2 ^ 32 }
+pub fn longest_life<K: Keeper>(tables: &[Named<K>]) -> u32
+    ensures { result ≡ goes_on_at (states_of K.table K.parts K.state tables.now) }
 {
     let mut longest = 0u32;
     for named in tables {
         longest = longest.max(life_of(named.keeper.spec()));
     }
-    u64::from(longest)
+    longest
 }

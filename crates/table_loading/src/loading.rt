@@ -50,7 +50,7 @@ fn moment_of<K: Keeper>(tables: &[Named<K>], left: u64, name: &[u8]) -> u64
     ensures moment { result ≡ spec.moment_of left name.now (states_of K.table K.parts K.state tables.now) }
     ensures bound { result < 2 ^ 62 }
 {
-    longest_life(tables).saturating_sub(age(life_in(tables, name), left))
+    u64::from(longest_life(tables)).saturating_sub(age(life_in(tables, name), left))
 }
 
 /// The first line of a text.

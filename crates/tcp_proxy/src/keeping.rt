@@ -28,15 +28,14 @@ use table_loading::{life_of, load};
 const SAVED_MODE: u32 = 0o600;
 
 /// The longest life that a setup's tables give, in ms: the moment at which they go on once they are loaded.
-pub(crate) fn longest_life(setup: &Setup) -> u64
-    ensures longest { result ≡ spec.longest_life (map (λ (named : ItsSpec). named.spec) setup.now.tables) }
-    ensures bound { result < 2 ^ 32 }
+pub(crate) fn longest_life(setup: &Setup) -> u32
+    ensures { result ≡ spec.longest_life (map (λ (named : ItsSpec). named.spec) setup.now.tables) }
 {
     let mut longest = 0u32;
     for named in setup.tables.as_slice() {
         longest = longest.max(life_of(&named.spec));
     }
-    u64::from(longest)
+    longest
 }
 
 /// Tables, each asked by one of these seats, under the names of the setup.

@@ -171,11 +171,9 @@ fn start<T: Table + Send, R: ProxyRuntime + Print>(
 }
 
 /// The moment at which the run begins, in ms: where entries are loaded, the longest life of all, so that each was refreshed since 0.
-fn begins_at(setup: &Setup, plan: Plan<'_>) -> u64
-    ensures bound { result < 2 ^ 32 }
-{
+fn begins_at(setup: &Setup, plan: Plan<'_>) -> u64 {
     match plan.keep.load {
-        Some(_path) => longest_life(setup),
+        Some(_path) => u64::from(longest_life(setup)),
         None => 0,
     }
 }
