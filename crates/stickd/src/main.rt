@@ -26,8 +26,8 @@ use std::time::Clock;
 use std::{env, fs, io, str};
 use stickd_ctl::{Ctl, Stop, Top, ask_running, show_top, stop_running};
 use stickd_input::{
-    Detail, Keeping, LOAD, STATS, Telling, frontend_name, open_served, open_setup, read_command_line,
-    read_file, read_keeping, read_served,
+    Detail, Keeping, LOAD, STATS, Telling, frontend_name, open_served, open_setup,
+    read_command_line, read_file, read_keeping, read_served,
 };
 use stickd_script::{BadLines, FaultKind, ReplayFault, Stopped, replay_loaded, replay_script};
 use tcp_proxy::{Plan, ProxyRuntime, run_pooled};

@@ -100,7 +100,11 @@ fn asked<R: Net + Eprint + AllocGlobal>(
     if is_error(&answer) {
         let (said, _rest) = split_at_first(&answer, b'\n');
         let (command, said) = (str::from_utf8(command), str::from_utf8(said));
-        eprintln!(rt; "stickd: '{}' is answered '{}'", command.unwrap_or("?"), said.unwrap_or("?"))?;
+        eprintln!(rt;
+            "stickd: '{}' is answered '{}'",
+            command.unwrap_or("?"),
+            said.unwrap_or("?")
+        )?;
         return Err(Unsaved::Said(FAILED));
     }
     if !answer.ends_with(b"\n\n") {

@@ -48,15 +48,28 @@ impl<'a> Display for Told<'a> {
 impl<'a> Display for LineFault<'a> {
     fn fmt<W: Write>(&self, f: &mut Formatter<W>) -> fmt::Result {
         match self {
-            LineFault::NoTime(word) =>
-                write!(f, "'{}' stands where the ms are to stand that an entry has left", Told(word)),
+            LineFault::NoTime(word) => write!(
+                f,
+                "'{}' stands where the ms are to stand that an entry has left",
+                Told(word)
+            ),
             LineFault::NoCommand(b"") => f.write_str("nothing stands where 'cmd' is to stand"),
-            LineFault::NoCommand(word) =>
-                write!(f, "'{}' stands where 'cmd' is to stand", Told(word)),
-            LineFault::NoEntry(command) =>
-                write!(f, "'{}' is no 'set table T key K [data.X V]..'", Told(command.trim_ascii())),
-            LineFault::Answered(command, said) =>
-                write!(f, "'{}' is answered '{}'", Told(command.trim_ascii()), Told(said)),
+            LineFault::NoCommand(word) => write!(
+                f,
+                "'{}' stands where 'cmd' is to stand",
+                Told(word)
+            ),
+            LineFault::NoEntry(command) => write!(
+                f,
+                "'{}' is no 'set table T key K [data.X V]..'",
+                Told(command.trim_ascii())
+            ),
+            LineFault::Answered(command, said) => write!(
+                f,
+                "'{}' is answered '{}'",
+                Told(command.trim_ascii()),
+                Told(said)
+            ),
             LineFault::NoMemory => f.write_str("out of memory"),
         }
     }

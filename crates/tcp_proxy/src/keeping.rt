@@ -170,12 +170,7 @@ fn write_whole<R: ProxyRuntime>(rt: &R, path: &str, text: &[u8]) -> io::Result<(
 }
 
 /// Writes a text to a new file beside one of this path, whose place it then takes. Where that fails, the old one stays.
-fn replace_file<R: ProxyRuntime>(
-    alloc: Global,
-    rt: &R,
-    path: &str,
-    text: &[u8],
-) -> io::Result<()> {
+fn replace_file<R: ProxyRuntime>(alloc: Global, rt: &R, path: &str, text: &[u8]) -> io::Result<()> {
     let beside = format!(in alloc; "{path}.new")?;
     match write_whole(rt, &beside, text) {
         Ok(()) => fs::rename(rt, &beside, path),

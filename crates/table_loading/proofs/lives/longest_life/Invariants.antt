@@ -1,4 +1,4 @@
-use Rattle.std.proofs.Common.{◌≡◌, ◌<◌, ◌^◌, drop, fold, max, map, List, ℕ}
+use Rattle.std.proofs.Common.{◌≡◌, drop, fold, max, map, ℕ}
 use Rattle.stick_model.specs.declared.specification.Spec.{Spec}
 use Rattle.shard_book.specs.NamedTables.{NamedState, states_of}
 use Rattle.table_loading.specs.Lives.{goes_on_at, life_of}
