@@ -1,6 +1,7 @@
 -- Worked examples of connections, which the checker computes.
 use Rattle.std.specs.Prelude.{refl, ◌≡◌, ℕ, [], ◌∷◌, Some, None}
 use Rattle.stored_data.specs.Fields.{same_field}
+use Rattle.rule_addresses.specs.Prefix.{masked}
 use Rattle.stored_data.specs.declared.act.Act.TheVariants.{BytesIn, BytesOut, Session}
 use Rattle.stick_model.specs.State.{State, empty_table}
 use Rattle.stick_model.specs.Step.{after}
@@ -38,25 +39,25 @@ abbrev is_shown : ℕ → Connection ℕ
 is_shown count = took has_tracked (answers.Row (shown count)) None
 
 wants-reference : need comes ≡ Track Sc0 0 client_key
-unfolding need_of effect
+unfolding masked need_of effect
 wants-reference = refl
 
 wants-look : need has_tracked ≡ Look Sc0
-unfolding need_of took_of effect judged
+unfolding masked need_of took_of effect judged
 wants-look = refl
 
 -- beyond the limit it is rejected, and gives its reference back
 wants-turn : need (is_shown 2) ≡ Turn
-unfolding need_of took_of effect judged same_field
+unfolding masked need_of took_of effect judged same_field
 wants-turn = refl
 
 gives-back : need (turned (is_shown 2)) ≡ Release Sc0
-unfolding need_of took_of effect judged same_field
+unfolding masked need_of took_of effect judged same_field
 gives-back = refl
 
 -- within it its session is counted
 counts-session : need (is_shown 1) ≡ Count Sc0 Session
-unfolding need_of took_of effect judged same_field
+unfolding masked need_of took_of effect judged same_field
 counts-session = refl
 
 -- ---- the life of one that holds two references

@@ -3,7 +3,7 @@ use Rattle.std.specs.Prelude.{refl, ◌≡◌, ℕ, ◌^◌, false, [], ◌∷�
 use Rattle.stick_key.specs.declared.kind.KeyType.TheVariants.{Ip}
 use Rattle.stored_data.specs.Fields.{plain, same_field}
 use Rattle.stored_data.specs.declared.datum.Datum.TheVariants.{ConnCur}
-use Rattle.rule_addresses.specs.Prefix.{whole}
+use Rattle.rule_addresses.specs.Prefix.{masked, whole}
 use Rattle.rule_addresses.specs.declared.address.Address.TheVariants.{V4}
 use Rattle.stick_model.specs.Key.{Key}
 use Rattle.stick_model.specs.declared.rows.Row.{Row}
@@ -39,22 +39,27 @@ one_each-limits : LimitsFirst one_each (codes "www") 0 1
 one_each-limits = record { later = []; begin = refl; named = refl; stored = refl; others = tt }
 
 wants-reference : next one_each client [] ≡ Track Sc0 0 client_key
-unfolding effect
+unfolding masked effect
 wants-reference = refl
 
+-- where 24 bits of an IPv4 source count, what is tracked is its network
+wants-network : next (record one_each { prefixes = record { ipv4 = 24; ipv6 = 64 } }) client [] ≡ Track Sc0 0 (10 ∷ 0 ∷ 0 ∷ 0 ∷ [])
+unfolding masked effect
+wants-network = refl
+
 wants-look : next one_each client (answers.Tracked ∷ []) ≡ Look Sc0
-unfolding effect judged
+unfolding masked effect judged
 wants-look = refl
 
 within-limit : next one_each client (answers.Tracked ∷ answers.Row (shown 1) ∷ []) ≡ Done Accept
-unfolding effect judged same_field
+unfolding masked effect judged same_field
 within-limit = refl
 
 beyond-limit : next one_each client (answers.Tracked ∷ answers.Row (shown 2) ∷ []) ≡ Done Reject
-unfolding effect judged same_field
+unfolding masked effect judged same_field
 beyond-limit = refl
 
 -- a full table tracks nothing, and then there is nothing to compare
 without-reference : next one_each client (answers.Untracked ∷ []) ≡ Done Accept
-unfolding effect judged
+unfolding masked effect judged
 without-reference = refl

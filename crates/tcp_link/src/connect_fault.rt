@@ -16,6 +16,13 @@ pub enum ConnectFault {
     Other,
 }
 
+/// Why a server couldn't be connected to, and the number of the system's error (connect(2)).
+#[derive(Clone, Copy, Debug, PartialEq, Eq)]
+pub struct Unreached {
+    pub fault: ConnectFault,
+    pub error: u32,
+}
+
 /// Why a connect failed, by the number of its socket's error (connect(2)). None where that is of a connection that was made.
 pub fn connect_fault_of(number: u32) -> Option<ConnectFault>
     ensures { result ≡ connect_fault_of number }

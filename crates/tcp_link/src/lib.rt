@@ -27,7 +27,7 @@ mod way;
 
 pub use ahead::Ahead;
 pub use buffer::Buffer;
-pub use connect_fault::{ConnectFault, connect_fault_of};
+pub use connect_fault::{ConnectFault, Unreached, connect_fault_of};
 pub use end::Side;
 pub use keepalive::Keepalive;
 pub use lateness::Lateness;

@@ -13,7 +13,7 @@ mod retrying;
 use crate::closing::Closing;
 use crate::end::{End, Side};
 use crate::way::Way;
-use crate::{Buffer, ConnectFault, Ready, ServerSocket, Timeouts};
+use crate::{Buffer, Ready, ServerSocket, Timeouts, Unreached};
 use mio::Registry;
 use mio::net::TcpStream;
 use std::alloc::Global;
@@ -60,14 +60,14 @@ impl Link {
         server: ServerSocket,
         moment: u64,
         retries: u32,
-    ) -> Result<Link, ConnectFault>
+    ) -> Result<Link, Unreached>
         ensures open { IfOk result (λ link. waits link ≡ false → link ≡ opened moment retries) }
         ensures refused { IfOk result (λ link. waits link ≡ true → (0 < retries) × (link ≡ refused_at moment (opened moment retries))) }
         ensures last { IfErr result (λ _. retries ≡ 0) }
     {
         match server.connect() {
             Ok(socket) => Ok(Link::new(alloc, client, socket, moment, retries)),
-            Err(refusal) if retries == 0 => Err(refusal.fault()),
+            Err(refusal) if retries == 0 => Err(refusal.cause()),
             Err(refusal) => {
                 let mut link = Link::new(alloc, client, refusal.socket, moment, retries);
                 link.server.note(refusal.number);

@@ -5,7 +5,7 @@ ghost use Rattle.tcp_link.specs.ConnectFaults.{refused_for};
 
 use crate::address::{encode, family};
 use crate::calls::{checked, number_of};
-use crate::{ConnectFault, Keepalive, connect_fault_of};
+use crate::{ConnectFault, Keepalive, Unreached, connect_fault_of};
 use libc::EINPROGRESS;
 use libc::net::{SOCK_CLOEXEC, SOCK_NONBLOCK, SOCK_STREAM, connect, socket};
 use mio::net::TcpStream;
@@ -62,10 +62,14 @@ pub(crate) struct Refusal {
 
 impl Refusal {
     /// Why it couldn't be connected.
-    pub(crate) fn fault(&self) -> ConnectFault
-        ensures { result ≡ refused_for self.now.number }
+    pub(crate) fn cause(&self) -> Unreached
+        ensures fault { result.fault ≡ refused_for self.now.number }
+        ensures error { result.error ≡ self.now.number }
     {
-        connect_fault_of(self.number).unwrap_or(ConnectFault::Other)
+        Unreached {
+            fault: connect_fault_of(self.number).unwrap_or(ConnectFault::Other),
+            error: self.number,
+        }
     }
 }
 

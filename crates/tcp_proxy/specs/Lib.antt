@@ -1,4 +1,5 @@
 pub mod Backlog
 pub mod Draining
 pub mod Opened
+pub mod Saying
 pub mod Watching

@@ -1,9 +1,9 @@
 //! What a run counts by, is drained by, and tells others by; `running` makes it before the threads start.
 
 use crate::plan::Plan;
-use crate::reporting::{Reports, blocks_stop};
+use crate::reporting::Reports;
 use crate::running_program::{Board, Running};
-use crate::shared::ProxyRuntime;
+use crate::shared::StartRuntime;
 use crate::sockets::Sockets;
 use base_sequence::NoMemory;
 use log::{Log, warn};
@@ -11,8 +11,8 @@ use rule_model::Setup;
 use std::alloc::Global;
 use std::{fs, str};
 use tcp_relay::{Control, Drain, socket_address};
-use tcp_stats::{Cells, Gauge};
-use tcp_watch::Notifier;
+use tcp_stats::{Cells, Gauge, LastTimes};
+use tcp_watch::{Notifier, ProcessStatus};
 
 /// Where the system says the machine's name.
 const HOSTNAME: &str = "/proc/sys/kernel/hostname";
@@ -23,11 +23,14 @@ pub(crate) struct Instruments {
     board: Board,
     /// Of each thread that serves connections, where somebody looks.
     cells: Vec<Cells>,
+    /// Who was the last that something went wrong for, where somebody looks.
+    lasts: Option<LastTimes>,
+    notes_rejected: bool,
     gauge: Gauge,
     drain: Drain,
     notifier: Option<Notifier>,
-    /// Whether a signal that stops the run may wait for it.
-    pub awaits_signals: bool,
+    /// The status of the process, where a signal that stops the run may wait in it.
+    status: Option<ProcessStatus>,
     node: Vec<u8>,
     server: String,
 }
@@ -41,8 +44,17 @@ fn cells_of(alloc: Global, threads: u32) -> Result<Vec<Cells>, NoMemory> {
     Ok(cells)
 }
 
+/// Where it is noted who was the last that something went wrong for, if anybody looks.
+fn lasts_where(is_watched: bool) -> Option<LastTimes> {
+    if is_watched {
+        Some(LastTimes::new())
+    } else {
+        None
+    }
+}
+
 /// The socket to the service manager, where it takes messages. Where there is none to be had, that is said.
-fn open_notifier<R: ProxyRuntime>(rt: &R, plan: Plan<'_>) -> Option<Notifier> {
+fn open_notifier<R: StartRuntime>(rt: &R, plan: Plan<'_>) -> Option<Notifier> {
     match Notifier::open(plan.manager.notify?) {
         Ok(notifier) => Some(notifier),
         Err(reason) => {
@@ -52,8 +64,18 @@ fn open_notifier<R: ProxyRuntime>(rt: &R, plan: Plan<'_>) -> Option<Notifier> {
     }
 }
 
+/// The status of the process, where SIGTERM or SIGINT may wait in it, as one is blocked (`env --block-signal`).
+fn open_status() -> Option<ProcessStatus> {
+    let status = ProcessStatus::open().ok()?;
+    if status.blocks_stop() {
+        Some(status)
+    } else {
+        None
+    }
+}
+
 /// The name of the machine. Empty where the system doesn't say it.
-fn read_node<R: ProxyRuntime>(alloc: Global, rt: &R) -> Vec<u8> {
+fn read_node<R: StartRuntime>(alloc: Global, rt: &R) -> Vec<u8> {
     match fs::read(rt, HOSTNAME) {
         Ok(name) => name,
         Err(_) => Vec::new(alloc),
@@ -73,7 +95,7 @@ fn server_text(alloc: Global, setup: &Setup) -> Result<String, NoMemory> {
 
 impl Instruments {
     /// Those of a run.
-    pub fn new<R: ProxyRuntime>(
+    pub fn new<R: StartRuntime>(
         alloc: Global,
         rt: &R,
         setup: &Setup,
@@ -83,19 +105,28 @@ impl Instruments {
         Ok(Instruments {
             board: Board::new(),
             cells: cells_of(alloc, watched)?,
+            lasts: lasts_where(plan.is_watched()),
+            notes_rejected: plan.watch.log_rejected,
             gauge: Gauge::new(),
             drain: Drain::new(),
             notifier: open_notifier(rt, plan),
-            awaits_signals: blocks_stop(rt),
+            status: open_status(),
             node: read_node(alloc, rt),
             server: server_text(alloc, setup)?,
         })
+    }
+
+    /// Whether a signal that stops the run may wait for it.
+    pub fn awaits_signals(&self) -> bool {
+        self.status.is_some()
     }
 
     /// What the threads that serve connections publish in, and are drained by.
     pub fn control(&self) -> Control<'_> {
         Control {
             cells: self.cells.as_slice(),
+            lasts: self.lasts.as_ref(),
+            notes_rejected: self.notes_rejected,
             gauge: &self.gauge,
             drain: &self.drain,
         }
@@ -124,7 +155,8 @@ impl Instruments {
             notifier: self.notifier.as_ref(),
             stats: sockets.stats.as_ref().map(|stats| &stats.listener),
             metrics: sockets.metrics.as_ref(),
-            reports: reports_of(plan, self.awaits_signals),
+            reports: reports_of(plan),
+            status: self.status.as_ref(),
             start: sockets.start,
             begins_at,
         }
@@ -132,12 +164,11 @@ impl Instruments {
 }
 
 /// What is said and looked for.
-fn reports_of(plan: Plan<'_>, awaits_signals: bool) -> Reports {
+fn reports_of(plan: Plan<'_>) -> Reports {
     Reports {
         report: plan.watch.report,
         says_troubles: plan.is_watched(),
         says_rejected: plan.watch.log_rejected,
-        awaits_signals,
         alive: plan.manager.watchdog,
     }
 }

@@ -6,7 +6,7 @@ ghost use Rattle.rule_model.specs.declared.sections.NamedSpec.{NamedSpec as ItsS
 ghost use Rattle.table_loading.specs.Lives as spec;
 
 use crate::service_threads::SeatedTable;
-use crate::shared::ProxyRuntime;
+use crate::shared::StartRuntime;
 use base_clock::{Clock, RunningClock, StoppedClock};
 use base_sequence::NoMemory;
 use byte_ports::MemorySink;
@@ -78,7 +78,7 @@ fn say_no_memory<R: Eprint>(rt: &R) -> io::Result<()> {
 
 /// Makes the entries that a file keeps, by one seat of each table, which come back. None where the file can't be read or isn't what
 /// was saved, which is said on standard error.
-pub(crate) fn load_tables<T: Table, R: ProxyRuntime>(
+pub(crate) fn load_tables<T: Table, R: StartRuntime>(
     alloc: Global,
     rt: &R,
     setup: &Setup,
@@ -119,7 +119,7 @@ fn show_command(alloc: Global, name: &[u8]) -> Result<Vec<u8>, NoMemory> {
 }
 
 /// Adds what the table of a place holds, at a moment.
-fn save_one<T: Table, R: ProxyRuntime>(
+fn save_one<T: Table, R: StartRuntime>(
     alloc: Global,
     tables: &mut [SeatedTable<'_, T, R>],
     place: usize,
@@ -142,7 +142,7 @@ fn save_one<T: Table, R: ProxyRuntime>(
 }
 
 /// What tables hold at a moment.
-fn text_of<T: Table, R: ProxyRuntime>(
+fn text_of<T: Table, R: StartRuntime>(
     alloc: Global,
     tables: &mut [SeatedTable<'_, T, R>],
     moment: u64,
@@ -157,7 +157,7 @@ fn text_of<T: Table, R: ProxyRuntime>(
 }
 
 /// Writes a file anew, whole, as it is to lie on the disk.
-fn write_whole<R: ProxyRuntime>(rt: &R, path: &str, text: &[u8]) -> io::Result<()> {
+fn write_whole<R: StartRuntime>(rt: &R, path: &str, text: &[u8]) -> io::Result<()> {
     let mut options = OpenOptions::new();
     options
         .write(true)
@@ -170,7 +170,7 @@ fn write_whole<R: ProxyRuntime>(rt: &R, path: &str, text: &[u8]) -> io::Result<(
 }
 
 /// Writes a text to a new file beside one of this path, whose place it then takes. Where that fails, the old one stays.
-fn replace_file<R: ProxyRuntime>(alloc: Global, rt: &R, path: &str, text: &[u8]) -> io::Result<()> {
+fn replace_file<R: StartRuntime>(alloc: Global, rt: &R, path: &str, text: &[u8]) -> io::Result<()> {
     let beside = format!(in alloc; "{path}.new")?;
     match write_whole(rt, &beside, text) {
         Ok(()) => fs::rename(rt, &beside, path),
@@ -183,7 +183,7 @@ fn replace_file<R: ProxyRuntime>(alloc: Global, rt: &R, path: &str, text: &[u8])
 
 /// Writes what the tables hold to a file, by one seat of each table. The seats that come back, and whether the file is written; where
 /// it isn't, that is said on standard error. Where memory was short for the seats, none come back.
-pub(crate) fn save_all<T: Table, R: ProxyRuntime>(
+pub(crate) fn save_all<T: Table, R: StartRuntime>(
     alloc: Global,
     rt: &R,
     setup: &Setup,

@@ -1,27 +1,26 @@
 //! The reports of the running proxy, the signals that stop it, and what its service manager hears; `service_threads` has one thread do
 //! it.
 
-ghost use Rattle.std.specs.Prelude.{◌≡◌, ◌-◌};
+ghost use Rattle.std.specs.Prelude.{◌≡◌, ◌-◌, ◌++◌, OnOk};
 ghost use Rattle.tcp_stats.specs.CountValues.{count_of};
+ghost use Rattle.tcp_proxy.specs.Saying.{line_of};
 
 use crate::running_program::Running;
 use crate::shared::ProxyRuntime;
 use crate::timetable::Timetable;
 use base_clock::Clock;
+use base_sequence::NoMemory;
 use log::{Log, info};
 use shard_book::Keeper;
 use std::alloc::Global;
 use std::sync::atomic::{AtomicBool, Ordering};
 use std::time::Duration;
-use std::{fs, str, thread};
-use tcp_stats::{Count, Counts, Trouble, push_trouble, troubles};
-use tcp_watch::{Notice, Teller, Told, is_stop_blocked, is_stop_pending, push_status};
+use std::{io, str, thread};
+use tcp_stats::{Count, Counts, Occasion, Trouble, push_trouble, troubles};
+use tcp_watch::{Notice, Teller, Told, push_status};
 
 /// How many ms lie between two looks at signals and at the time.
 const LOOK: u64 = 100;
-
-/// Where the system says which signals wait for the program.
-const STATUS: &str = "/proc/self/status";
 
 /// What is said and looked for while the proxy runs.
 #[derive(Clone, Copy, Debug)]
@@ -31,46 +30,57 @@ pub(crate) struct Reports {
     /// Whether what goes wrong is said, and rejected clients too.
     pub says_troubles: bool,
     pub says_rejected: bool,
-    /// Whether a signal that stops the proxy may wait for it.
-    pub awaits_signals: bool,
     /// How many ms lie between two messages that the program is alive.
     pub alive: Option<u64>,
 }
 
-/// Whether SIGTERM or SIGINT is blocked, as `env --block-signal` has it. Where the system doesn't say, it isn't.
-pub(crate) fn blocks_stop<R: ProxyRuntime>(rt: &R) -> bool {
-    match fs::read(rt, STATUS) {
-        Ok(status) => is_stop_blocked(status.as_slice()),
-        Err(_) => false,
-    }
-}
-
-/// Whether one of them waits.
-fn awaits_stop<R: ProxyRuntime>(rt: &R) -> bool {
-    match fs::read(rt, STATUS) {
-        Ok(status) => is_stop_pending(status.as_slice()),
-        Err(_) => false,
-    }
-}
-
 /// What stands in front of a line on standard error, by which journald knows a warning, where no human reads it (sd-daemon(3)).
-fn level() -> &'static str {
+fn level() -> &'static [u8] {
     if libc::isatty(libc::STDERR_FILENO) == 1 {
-        ""
+        b""
     } else {
-        "<4>"
+        b"<4>"
     }
 }
 
-/// Says one thing that went wrong, in a line. Whether that can be said changes nothing.
-fn say_trouble<R: ProxyRuntime>(alloc: Global, rt: &R, trouble: Trouble) {
-    let level = level();
-    let mut line = Vec::new(alloc);
-    if push_trouble(&mut line, trouble, b"").is_err() {
-        return;
+/// What is known of the last time: where the client came from, and the system's words for its error.
+fn last_text(alloc: Global, occasion: Option<Occasion>) -> Result<String, NoMemory> {
+    let Some(Occasion { source, error }) = occasion else {
+        return Ok(String::new(alloc));
+    };
+    let reason = error.map(|number| io::Error::from_raw_os_error(number.cast_signed()));
+    match (source, reason) {
+        (Some(source), Some(reason)) => Ok(format!(in alloc; "{source}: {reason}")?),
+        (Some(source), None) => Ok(format!(in alloc; "{source}")?),
+        (None, Some(reason)) => Ok(format!(in alloc; "{reason}")?),
+        (None, None) => Ok(String::new(alloc)),
     }
-    if let Ok(text) = str::from_utf8(line.as_slice()) {
-        let _ = eprintln!(rt; "{level}stickd: {text}");
+}
+
+/// Appends a line that says what went wrong, behind its level, and what is known of the last time.
+fn push_line(
+    line: &mut Vec<u8>,
+    level: &[u8],
+    trouble: Trouble,
+    last: &[u8],
+) -> Result<(), NoMemory>
+    ensures { OnOk result (line.new.items ≡ line.old.items ++ line_of level.now trouble last.now) }
+{
+    line.extend_from_slice(level)?;
+    line.extend_from_slice(b"stickd: ")?;
+    push_trouble(line, trouble, last)?;
+    line.push(b'\n')?;
+    Ok(())
+}
+
+/// Says one thing that went wrong, by one write, so that no thread's words come between. Whether that can be said changes nothing.
+fn say_trouble(alloc: Global, trouble: Trouble, occasion: Option<Occasion>) {
+    let mut line = Vec::new(alloc);
+    let Ok(last) = last_text(alloc, occasion) else {
+        return;
+    };
+    if push_line(&mut line, level(), trouble, last.as_bytes()).is_ok() {
+        let _ = libc::write(libc::STDERR_FILENO, line.as_slice());
     }
 }
 
@@ -85,7 +95,8 @@ fn say_troubles<R: ProxyRuntime>(
         return;
     };
     for trouble in list.as_slice() {
-        say_trouble(alloc, running.rt, *trouble);
+        let occasion = running.control.last(trouble.count);
+        say_trouble(alloc, *trouble, occasion);
     }
 }
 
@@ -132,10 +143,10 @@ fn end_second<R: ProxyRuntime>(alloc: Global, running: &Running<'_, R>, before: 
 
 /// Begins to drain where a signal waits that asks for it.
 fn look_for_signals<R: ProxyRuntime>(running: &Running<'_, R>) {
-    if !running.reports.awaits_signals || running.control.drain.has_begun() {
+    let Some(status) = running.status else {
         return;
-    }
-    if awaits_stop(running.rt) {
+    };
+    if !running.control.drain.has_begun() && status.awaits_stop() {
         running.begin_drain(running.drain);
     }
 }

@@ -12,7 +12,7 @@ use crate::opening::{OpenTables, open_tables};
 use crate::plan::{Duties, Plan};
 use crate::service_threads::{Duty, NOBODY, ServiceThread};
 use crate::serving::serve_all;
-use crate::shared::{ProxyRuntime, Shared};
+use crate::shared::{Shared, StartRuntime};
 use crate::sockets::{Sockets, bind_sockets};
 use base_sequence::NoMemory;
 use log::{Log, info};
@@ -85,7 +85,7 @@ fn report<R: Eprint>(rt: &R, kind: FaultKind) -> io::Result<()> {
 /// the connections of the plan have ended, or those that are open as it drains, and then settles the tables and prints what they come
 /// to; or where a thread can't wait for connections. Answers whether all went well; what didn't is said on standard
 /// error. An error is one of printing.
-pub fn run_proxy<T: Table + Send, R: ProxyRuntime + RandomSource + Print>(
+pub fn run_proxy<T: Table + Send, R: StartRuntime + RandomSource + Print>(
     alloc: Global,
     rt: &R,
     setup: &Setup,
@@ -107,7 +107,7 @@ pub fn run_proxy<T: Table + Send, R: ProxyRuntime + RandomSource + Print>(
         report(rt, FaultKind::NoMemory)?;
         return Ok(false);
     };
-    let duties = plan.duties(instruments.awaits_signals);
+    let duties = plan.duties(instruments.awaits_signals());
     let keep = plan.stop_after.is_some();
     let opened = match open_tables::<T>(alloc, rt, setup, plan.threads, duties.sum(), keep) {
         Ok(opened) => opened,
@@ -120,7 +120,7 @@ pub fn run_proxy<T: Table + Send, R: ProxyRuntime + RandomSource + Print>(
 }
 
 /// Binds the sockets, says what may surprise, and serves by the tables that were opened.
-fn start<T: Table + Send, R: ProxyRuntime + Print>(
+fn start<T: Table + Send, R: StartRuntime + Print>(
     alloc: Global,
     rt: &R,
     setup: &Setup,
@@ -129,6 +129,7 @@ fn start<T: Table + Send, R: ProxyRuntime + Print>(
     instruments: &Instruments,
     opened: OpenTables<T>,
 ) -> io::Result<bool>
+    requires can_open { CanOpen setup.now }
     requires server { is_some setup.now.server ≡ true }
     requires tables { AreTablesOf setup.now opened.tables.items }
     requires seats { AreSeats (length opened.tables.items) plan.threads opened.workers }
@@ -143,7 +144,7 @@ fn start<T: Table + Send, R: ProxyRuntime + Print>(
     let Some(keepers) = load_where(alloc, rt, setup, plan, tables.as_slice(), keepers)? else {
         return Ok(false);
     };
-    let duties = plan.duties(instruments.awaits_signals);
+    let duties = plan.duties(instruments.awaits_signals());
     let Ok(service_threads) = make_service_threads(alloc, setup, duties, commands, keepers) else {
         report(rt, FaultKind::NoMemory)?;
         return Ok(false);
@@ -186,7 +187,7 @@ fn earlier(start: Instant, by: u64) -> Instant {
 }
 
 /// Makes the entries of the plan's file, if it names one, by these seats, which come back. None where that can't be done, which is said.
-fn load_where<T: Table, R: ProxyRuntime>(
+fn load_where<T: Table, R: StartRuntime>(
     alloc: Global,
     rt: &R,
     setup: &Setup,
@@ -202,7 +203,7 @@ fn load_where<T: Table, R: ProxyRuntime>(
 
 /// Writes what the tables hold to the plan's file, if it names one and serving ended well, by the seats of a thread that has ended.
 /// Answers whether nothing is left undone.
-fn save_where<T: Table, R: ProxyRuntime>(
+fn save_where<T: Table, R: StartRuntime>(
     alloc: Global,
     rt: &R,
     setup: &Setup,
@@ -304,7 +305,7 @@ fn make_service_threads(
 }
 
 /// The same on pooled tables, of which an event costs the same whatever their size.
-pub fn run_pooled<R: ProxyRuntime + RandomSource + Print>(
+pub fn run_pooled<R: StartRuntime + RandomSource + Print>(
     alloc: Global,
     rt: &R,
     setup: &Setup,
@@ -319,7 +320,7 @@ pub fn run_pooled<R: ProxyRuntime + RandomSource + Print>(
 }
 
 /// Serves, removes the sockets' files, and then settles the tables.
-fn serve_and_settle<T: Table + Send, R: ProxyRuntime + Print>(
+fn serve_and_settle<T: Table + Send, R: StartRuntime + Print>(
     alloc: Global,
     rt: &R,
     setup: &Setup,
@@ -386,7 +387,7 @@ fn log_clients<R: Log>(rt: &R, service_threads: &[ServiceThread]) {
 
 /// Says how serving ended, and settles the tables where it ended well: by their receipts where those were kept, else by counts and
 /// references.
-fn settle_where<T: Table, R: ProxyRuntime + Print>(
+fn settle_where<T: Table, R: StartRuntime + Print>(
     alloc: Global,
     rt: &R,
     setup: &Setup,

@@ -12,7 +12,7 @@ use std::sync::atomic::{AtomicU64, Ordering};
 use std::time::{self, Instant};
 use tcp_relay::{Control, Listener};
 use tcp_stats::{Count, Counts, Rate, Snapshot, TableFacts};
-use tcp_watch::{Notice, Notifier, Program, Shutdown};
+use tcp_watch::{Notice, Notifier, ProcessStatus, Program, Shutdown};
 
 /// What the threads beside the listener count. Each adds to it, and readers see it at any time.
 #[derive(Drop)]
@@ -140,6 +140,8 @@ pub(crate) struct Running<'a, R> {
     pub stats: Option<&'a UnixListener>,
     pub metrics: Option<&'a TcpListener>,
     pub reports: Reports,
+    /// Where a signal that stops the run may wait, if one may.
+    pub status: Option<&'a ProcessStatus>,
     /// The moment 0, and that at which the run began.
     pub start: Instant,
     pub begins_at: u64,

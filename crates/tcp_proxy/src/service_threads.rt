@@ -4,20 +4,23 @@
 use crate::counted::Counted;
 use crate::housekeeping::keep_tables;
 use crate::reporting::report_on;
-use crate::running_program::Running;
+use crate::running_program::{Running, ServiceCounts};
 use crate::shared::{ProxyRuntime, Shared};
-use base_clock::RunningClock;
+use base_clock::{Clock, RunningClock};
 use rule_model::Name;
-use shard_book::{Named, Seat};
+use shard_book::{Keeper, Named, Seat};
 use shard_locks::Seated;
 use std::alloc::Global;
-use std::sync::atomic::Ordering;
-use std::time::Duration;
+use std::net::TcpListener;
+use std::os::unix::net::UnixListener;
+use std::sync::Wait;
+use std::sync::atomic::{AtomicBool, Ordering};
+use std::time::{self, Duration};
 use std::{mem, thread};
 use stick_table::Table;
 use table_cli::CommandService;
-use table_socket::{ClientListener, ClientServer, Served, serve_clients};
-use tcp_watch::{MetricsService, StatsService, Teller};
+use table_socket::{Served, serve_clients};
+use tcp_watch::{MetricsService, Program, StatsService, Teller};
 
 /// How long a thread rests where there is no memory for it, in ms.
 const NAP: u64 = 50;
@@ -146,7 +149,46 @@ fn seats_of<T: Table, R: ProxyRuntime>(
     back
 }
 
-/// Answers the commands of the socket's clients, and counts them.
+/// Answers the commands of a socket's clients, and counts them. The tables come back, and what the clients came to.
+fn serve_commands<K: Keeper, C: Clock + Drop, R: Wait + time::Clock>(
+    rt: &R,
+    listener: &UnixListener,
+    service: CommandService<K, C>,
+    counts: &ServiceCounts,
+    stop: &AtomicBool,
+    silence: u64,
+) -> (Vec<Named<K>>, Served) {
+    let mut counted = Counted::new(service, counts);
+    let served = serve_clients(rt, listener, &mut counted, stop, silence);
+    (counted.into_service().tables, served)
+}
+
+/// Answers the clients of a stats socket. The tables come back.
+fn serve_stats<K: Keeper, C: Clock + Drop, P: Program, R: Wait + time::Clock>(
+    rt: &R,
+    listener: &UnixListener,
+    teller: Teller<'_, K, C, P>,
+    counts: &ServiceCounts,
+    stop: &AtomicBool,
+) -> Vec<Named<K>> {
+    let mut counted = Counted::new(StatsService { teller }, counts);
+    let _ = serve_clients(rt, listener, &mut counted, stop, STATS_SILENCE);
+    counted.into_service().teller.tables
+}
+
+/// Answers clients that scrape metrics. The tables come back.
+fn serve_scrapes<K: Keeper, C: Clock + Drop, P: Program, R: Wait + time::Clock>(
+    rt: &R,
+    listener: &TcpListener,
+    teller: Teller<'_, K, C, P>,
+    stop: &AtomicBool,
+) -> Vec<Named<K>> {
+    let mut service = MetricsService { teller };
+    let _ = serve_clients(rt, listener, &mut service, stop, METRICS_SILENCE);
+    service.teller.tables
+}
+
+/// Answers the commands of the command socket's clients, and counts them.
 fn answer_commands<T: Table, R: ProxyRuntime>(
     shared: &Shared<'_, T, R>,
     names: Vec<Name>,
@@ -159,19 +201,17 @@ fn answer_commands<T: Table, R: ProxyRuntime>(
     };
     let clock = RunningClock::new(shared.rt, shared.start);
     let service = CommandService::new(shared.alloc, tables, clock);
-    let mut counted = Counted::new(service, &shared.running.board.service);
-    *served = serve_at(shared, shared.socket, &mut counted, shared.silence);
-    seats_of(counted.into_service().tables, back)
-}
-
-/// Serves the clients of a listener until the proxy stops.
-fn serve_at<T: Table, R: ProxyRuntime, L: ClientListener, S: ClientServer>(
-    shared: &Shared<'_, T, R>,
-    listener: &L,
-    service: &mut S,
-    silence: u64,
-) -> Served {
-    serve_clients(shared.rt, listener, service, shared.stop, silence)
+    let counts = &shared.running.board.service;
+    let (tables, all) = serve_commands(
+        shared.rt,
+        shared.socket,
+        service,
+        counts,
+        shared.stop,
+        shared.silence,
+    );
+    *served = all;
+    seats_of(tables, back)
 }
 
 /// What tells of the running proxy by these tables.
@@ -200,12 +240,14 @@ fn answer_stats<T: Table, R: ProxyRuntime>(
         Ok(asked) => asked,
         Err(seats) => return seats,
     };
-    let service = StatsService {
-        teller: teller_of(shared, tables),
-    };
-    let mut counted = Counted::new(service, &shared.running.board.service);
-    let _ = serve_at(shared, listener, &mut counted, STATS_SILENCE);
-    seats_of(counted.into_service().teller.tables, back)
+    let tables = serve_stats(
+        shared.rt,
+        listener,
+        teller_of(shared, tables),
+        &shared.running.board.service,
+        shared.stop,
+    );
+    seats_of(tables, back)
 }
 
 /// Answers the clients that scrape metrics.
@@ -221,11 +263,8 @@ fn answer_scrapes<T: Table, R: ProxyRuntime>(
         Ok(asked) => asked,
         Err(seats) => return seats,
     };
-    let mut service = MetricsService {
-        teller: teller_of(shared, tables),
-    };
-    let _ = serve_at(shared, listener, &mut service, METRICS_SILENCE);
-    seats_of(service.teller.tables, back)
+    let tables = serve_scrapes(shared.rt, listener, teller_of(shared, tables), shared.stop);
+    seats_of(tables, back)
 }
 
 /// Reports until the proxy stops.

@@ -18,28 +18,22 @@ use std::time::{Clock, Instant};
 use stick_table::Table;
 use tcp_relay::{Limits, Listener};
 
-/// What the proxy asks of the system: sockets, files, memory, threads, locks, a clock, a log and standard error.
+/// What the threads of the proxy ask of the system: sockets, threads, locks, a clock and a log.
 pub trait ProxyRuntime: Net<Listener = TcpListener, Stream = TcpStream>
     + Threads
     + Wait
     + Clock
     + Log
-    + Files
-    + AllocGlobal
-    + Eprint
     + Sync {}
 
 impl<
-    R: Net<Listener = TcpListener, Stream = TcpStream>
-        + Threads
-        + Wait
-        + Clock
-        + Log
-        + Files
-        + AllocGlobal
-        + Eprint
-        + Sync,
+    R: Net<Listener = TcpListener, Stream = TcpStream> + Threads + Wait + Clock + Log + Sync,
 > ProxyRuntime for R {}
+
+/// What the proxy asks of the system while it starts and ends, beside what its threads ask: files, memory and standard error.
+pub trait StartRuntime: ProxyRuntime + Files + AllocGlobal + Eprint {}
+
+impl<R: ProxyRuntime + Files + AllocGlobal + Eprint> StartRuntime for R {}
 
 /// What the threads of the proxy share, each by reference: the tables of its setup, its sockets, and whether it stops.
 #[derive(Drop)]

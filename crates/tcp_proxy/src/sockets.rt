@@ -3,7 +3,7 @@
 use crate::binding::{BindFault, say_unbound};
 use crate::listeners::bind_listeners;
 use crate::plan::{Plan, SocketPlan, StatsPlan};
-use crate::shared::ProxyRuntime;
+use crate::shared::StartRuntime;
 use base_lines::read_number;
 use log::{Log, info};
 use rule_addresses::Endpoint;
@@ -39,7 +39,7 @@ pub(crate) struct Sockets {
 }
 
 /// Binds all, or takes what is handed over. None where one can't be bound, which is said on standard error.
-pub(crate) fn bind_sockets<R: ProxyRuntime>(
+pub(crate) fn bind_sockets<R: StartRuntime>(
     alloc: Global,
     rt: &R,
     bind: Endpoint,
@@ -53,7 +53,7 @@ pub(crate) fn bind_sockets<R: ProxyRuntime>(
 }
 
 /// Binds all. Where one can't be bound, the files of those before it stay, and the next start replaces them.
-fn bind_all<R: ProxyRuntime>(
+fn bind_all<R: StartRuntime>(
     alloc: Global,
     rt: &R,
     bind: Endpoint,
@@ -87,7 +87,7 @@ fn bind_all<R: ProxyRuntime>(
 }
 
 /// Says where clients come in.
-fn say_places<R: ProxyRuntime>(rt: &R, bind: Endpoint, plan: Plan<'_>) {
+fn say_places<R: StartRuntime>(rt: &R, bind: Endpoint, plan: Plan<'_>) {
     for further in plan.more_binds {
         let address = socket_address(*further);
         info!(rt; "listening on {address}");
@@ -106,7 +106,7 @@ fn say_places<R: ProxyRuntime>(rt: &R, bind: Endpoint, plan: Plan<'_>) {
 }
 
 /// Binds a Unix socket at a path.
-fn bind_unix<R: ProxyRuntime>(rt: &R, path: &str, access: Access) -> Result<Socket, BindFault> {
+fn bind_unix<R: StartRuntime>(rt: &R, path: &str, access: Access) -> Result<Socket, BindFault> {
     match bind_socket(rt, path, access) {
         Ok(BoundSocket { listener, file }) => Ok(Socket {
             listener,
@@ -117,7 +117,7 @@ fn bind_unix<R: ProxyRuntime>(rt: &R, path: &str, access: Access) -> Result<Sock
 }
 
 /// Binds the stats socket.
-fn bind_stats<R: ProxyRuntime>(rt: &R, stats: StatsPlan<'_>) -> Result<Socket, BindFault> {
+fn bind_stats<R: StartRuntime>(rt: &R, stats: StatsPlan<'_>) -> Result<Socket, BindFault> {
     let access = Access {
         mode: stats.mode,
         group: None,
@@ -126,7 +126,7 @@ fn bind_stats<R: ProxyRuntime>(rt: &R, stats: StatsPlan<'_>) -> Result<Socket, B
 }
 
 /// Takes a Unix socket that the service manager hands over, whose file is the manager's own.
-fn take_socket<R: ProxyRuntime>(rt: &R, number: u32) -> Result<Socket, BindFault> {
+fn take_socket<R: StartRuntime>(rt: &R, number: u32) -> Result<Socket, BindFault> {
     match take_patient(number) {
         Ok(listener) => Ok(Socket {
             listener,
@@ -142,7 +142,7 @@ fn take_patient(number: u32) -> io::Result<UnixListener> {
 }
 
 /// Binds the listener at which metrics are scraped.
-fn bind_metrics<R: ProxyRuntime>(rt: &R, place: Endpoint) -> Result<TcpListener, BindFault> {
+fn bind_metrics<R: StartRuntime>(rt: &R, place: Endpoint) -> Result<TcpListener, BindFault> {
     match bind_patient(rt, place) {
         Ok(listener) => Ok(listener),
         Err(reason) => Err(say_unbound(rt, socket_address(place), reason)),
@@ -150,13 +150,13 @@ fn bind_metrics<R: ProxyRuntime>(rt: &R, place: Endpoint) -> Result<TcpListener,
 }
 
 /// A TCP listener at which clients are waited for no longer than a patience each time.
-fn bind_patient<R: ProxyRuntime>(rt: &R, place: Endpoint) -> io::Result<TcpListener> {
+fn bind_patient<R: StartRuntime>(rt: &R, place: Endpoint) -> io::Result<TcpListener> {
     patient_tcp(OwnedFd::from(TcpListener::bind(rt, socket_address(place))?))
 }
 
 impl Socket {
     /// Removes the file that was made for the socket at this path.
-    fn remove_file<R: ProxyRuntime>(&self, rt: &R, path: &str) {
+    fn remove_file<R: StartRuntime>(&self, rt: &R, path: &str) {
         if let Some(file) = self.file {
             remove_own(rt, path, file);
         }
@@ -165,7 +165,7 @@ impl Socket {
 
 impl Sockets {
     /// Removes the files that were made.
-    pub fn remove_files<R: ProxyRuntime>(&self, rt: &R, plan: Plan<'_>) {
+    pub fn remove_files<R: StartRuntime>(&self, rt: &R, plan: Plan<'_>) {
         self.socket.remove_file(rt, plan.socket.path);
         if let (Some(socket), Some(stats)) = (&self.stats, plan.watch.stats) {
             socket.remove_file(rt, stats.path);
@@ -174,7 +174,7 @@ impl Sockets {
 }
 
 /// Who may connect to the command socket.
-fn access_of<R: ProxyRuntime>(rt: &R, socket: SocketPlan<'_>) -> Result<Access, BindFault> {
+fn access_of<R: StartRuntime>(rt: &R, socket: SocketPlan<'_>) -> Result<Access, BindFault> {
     let mode = socket.mode;
     let Some(word) = socket.group else {
         return Ok(Access { mode, group: None });
@@ -192,7 +192,7 @@ fn access_of<R: ProxyRuntime>(rt: &R, socket: SocketPlan<'_>) -> Result<Access, 
 }
 
 /// The number of a group that is named by its number, or else by its name in /etc/group.
-fn find_group<R: ProxyRuntime>(rt: &R, word: &str) -> Option<u32> {
+fn find_group<R: StartRuntime>(rt: &R, word: &str) -> Option<u32> {
     if let Some(number) = read_number(word.as_bytes()) {
         return u32::try_from(number).ok();
     }

@@ -52,6 +52,7 @@ pub(crate) fn close<'a, T: Table, R: ServeRuntime, G, W: Width>(
         return;
     };
     let ended = ended_of(&link, cause);
+    shared.control.note_end(ended.ending, &link);
     // First its references: a client that hears of the end may come again at once.
     end_admitted(shared, worker, clock, place, conn, ended);
     link.close(shared.rt);

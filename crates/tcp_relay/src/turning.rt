@@ -20,7 +20,6 @@ use crate::worker::Worker;
 use crate::{Gate, ServeRuntime};
 use base_clock::{Clock, RunningClock};
 use mio::{Events, net};
-use std::net::TcpStream;
 use std::thread;
 use std::time::Duration;
 use stick_table::Table;
@@ -57,25 +56,21 @@ fn take_in<'a, T: Table, R: ServeRuntime, G: Gate, W: Width>(
 )
     requires free { slice_get worker.old.places.held.items place ≡ Some None }
 {
-    let Accepted {
-        client,
-        peer,
-        port,
-        ..
-    } = accepted;
+    let peer = accepted.peer;
     let seated = &mut worker.seated;
-    let samples = samples(peer, port);
+    let samples = samples(peer, accepted.port);
     let (conn, is_admitted) = judge_one(shared, seated, &mut event_loop.clock, number, samples);
     worker.counted.count_verdict(is_admitted);
     if !is_admitted {
+        shared.control.note_rejected(peer);
         // First its references: a client that hears of the reset may come again at once.
         end_at(shared, worker, &mut event_loop.clock, place, conn, false);
-        reset(shared.rt, net::TcpStream::from_std(client));
+        reset(shared.rt, net::TcpStream::from_std(accepted.client));
         return;
     }
     shared.control.gauge.enter();
     let moment = event_loop.clock.now();
-    match begin(shared, event_loop, buffer, place, client, moment) {
+    match begin(shared, event_loop, buffer, place, accepted, moment) {
         Ok(link) => worker.places.put_open(place, conn, link),
         Err(ended) => {
             end_admitted(shared, worker, &mut event_loop.clock, place, conn, ended);
@@ -89,9 +84,10 @@ fn begin<R: ServeRuntime, G, W: Width>(
     event_loop: &mut EventLoop<'_, R>,
     buffer: &mut Buffer,
     place: usize,
-    client: TcpStream,
+    accepted: Accepted,
     moment: u64,
 ) -> Result<Link, Ended> {
+    let Accepted { client, peer, .. } = accepted;
     // Only now: a rejected client needs it not.
     if client.set_nonblocking(true).is_err() {
         return Err(Ended::unbegun(Ending::Over));
@@ -103,7 +99,10 @@ fn begin<R: ServeRuntime, G, W: Width>(
     let retries = shared.retries;
     match Link::open(shared.rt, shared.alloc, client, server, moment, retries) {
         Ok(link) => start(shared, event_loop, buffer, place, link, moment),
-        Err(fault) => Err(Ended::unbegun(Ending::Unreached(fault))),
+        Err(unreached) => {
+            shared.control.note_unreached(unreached, peer);
+            Err(Ended::unbegun(Ending::Unreached(unreached.fault)))
+        }
     }
 }
 
@@ -120,6 +119,7 @@ fn start<R: ServeRuntime, G, W: Width>(
         return Ok(link);
     }
     let ended = ended_of(&link, None);
+    shared.control.note_end(ended.ending, &link);
     link.close(shared.rt);
     Err(ended)
 }

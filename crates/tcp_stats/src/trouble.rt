@@ -67,10 +67,7 @@ pub fn troubles(
 ) -> Result<Sequence<Trouble>, NoMemory>
     ensures { IfOk result (λ list. list ≡ troubles_between before.now now.now tells_rejected) }
 {
-    match troubles_among(alloc, &Count::ALL, before, now, tells_rejected) {
-        Ok(list) => Ok(list),
-        Err(error) => Err(error),
-    }
+    troubles_among(alloc, &Count::ALL, before, now, tells_rejected)
 }
 
 /// Appends what is known of the last time, where something is known.

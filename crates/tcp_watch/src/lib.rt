@@ -4,8 +4,8 @@
 //! - `StatsService` and `MetricsService` serve clients. The texts are those of `tcp_stats`, and a command on a table is answered as on the
 //!   command socket, by `table_cli`. `Program` is what is asked of the program itself.
 //! - Of the service manager what decides is pure: `is_stop_pending` of a status, `read_handed` of the environment, `NotifyAddress` and the
-//!   texts of messages, and the `Rhythm` in which something is done. `Notifier`, `take_tcp`, `take_unix` and `read_surroundings` are the
-//!   thin calls round it.
+//!   texts of messages, and the `Rhythm` in which something is done. `ProcessStatus`, `Notifier`, `take_tcp`, `take_unix` and
+//!   `read_surroundings` are the thin calls round it.
 #![tactic(auto)]
 
 mod conversation;
@@ -15,6 +15,7 @@ mod metrics;
 mod notifier;
 mod notify_address;
 mod pending;
+mod process_status;
 mod program;
 mod rhythm;
 mod stats;
@@ -30,7 +31,7 @@ pub use handed::{FIRST_HANDED, Handed, read_handed};
 pub use metrics::MetricsService;
 pub use notifier::Notifier;
 pub use notify_address::{NotifyAddress, read_address};
-pub use pending::{is_stop_blocked, is_stop_pending};
+pub use process_status::ProcessStatus;
 pub use program::{Program, Shutdown};
 pub use rhythm::Rhythm;
 pub use stats::StatsService;

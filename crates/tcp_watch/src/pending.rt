@@ -1,4 +1,4 @@
-//! Whether a signal that asks the program to stop waits to be delivered; the reports of `tcp_proxy` ask it ten times a second.
+//! Whether a signal that asks the program to stop waits to be delivered; `process_status` reads what it is told by.
 
 ghost use Rattle.std.specs.Prelude.{◌≡◌};
 ghost use Rattle.base_lines.specs.Words.{is_blank, words};

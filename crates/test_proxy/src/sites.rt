@@ -89,6 +89,8 @@ impl Watched {
     fn control(&self) -> Control<'_> {
         Control {
             cells: &self.cells,
+            lasts: None,
+            notes_rejected: false,
             gauge: &self.gauge,
             drain: &self.drain,
         }

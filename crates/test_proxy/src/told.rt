@@ -3,6 +3,7 @@
 mod answers;
 mod asked;
 mod cells;
+mod lasts;
 mod scrapes;
 mod snapshots;
 mod texts;

@@ -29,7 +29,7 @@ def nothing_is_said_unless_asked():
 
 
 def rejections_are_said_once_a_second():
-    """With --log-rejected a line a second at most says how many were rejected."""
+    """With --log-rejected a line a second at most says how many were rejected, and where the last came from."""
     with watched('--log-rejected', limit=0) as proxy:
         end = time.monotonic() + 3.2
         count = 0
@@ -40,10 +40,11 @@ def rejections_are_said_once_a_second():
         lines = [line for line in proxy.killed() if 'rejected' in line and 'connections:' not in line]
         told = [int(re.search(r'(\d+)', re.sub(r'<\d>', '', line))[1]) for line in lines]
         assert 3 <= len(lines) <= 6 and sum(told) == count, (lines, count)
+        assert all(re.search(r'; last 127\.0\.0\.1:\d+$', line) for line in lines), lines
 
 
 def a_server_that_refuses_is_said():
-    """A server that isn't there is said with how often, a line a second at most."""
+    """A server that isn't there is said with how often, whose connection was the last, and why; a line a second at most."""
     with Proxy(free_port(), [TABLE, TRACK], '--report', '10m') as proxy:
         for _ in range(20):
             with proxy.connect() as client:
@@ -53,6 +54,7 @@ def a_server_that_refuses_is_said():
         lines = [line for line in proxy.killed() if 'refused' in line]
         told = [int(re.search(r'(\d+)', re.sub(r'<\d>', '', line))[1]) for line in lines]
         assert 1 <= len(lines) <= 4 and sum(told) == 20, lines
+        assert all(re.search(r'; last 127\.0\.0\.1:\d+: Connection refused', line) for line in lines), lines
 
 
 TRIALS = [a_line_comes_each_time, nothing_is_said_unless_asked, rejections_are_said_once_a_second, a_server_that_refuses_is_said]

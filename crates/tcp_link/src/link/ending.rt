@@ -7,6 +7,7 @@ ghost use Rattle.tcp_link.specs.Links.{must_be_accepted, waits};
 use super::{Link, is_held_up};
 use crate::connect_fault::connect_fault_of;
 use crate::{ConnectFault, Lateness, Timeouts};
+use std::net::SocketAddr;
 
 impl Link {
     /// Which timeout is over, if a peer is late, as `is_late` says.
@@ -49,5 +50,20 @@ impl Link {
             return None;
         }
         connect_fault_of(self.server.error()?)
+    }
+
+    /// The number of the system's error by which its server wasn't reached (connect(2)). None where the server has accepted.
+    pub fn connect_error(&self) -> Option<u32>
+        ensures accepted { must_be_accepted self.now ≡ true → IsNone result }
+    {
+        if self.is_accepted || self.has_passed() {
+            return None;
+        }
+        self.server.error()
+    }
+
+    /// Where its client came from, as the system says it. None where the client is gone.
+    pub fn peer(&self) -> Option<SocketAddr> {
+        self.client.socket.peer_addr().ok()
     }
 }
