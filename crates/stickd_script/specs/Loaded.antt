@@ -3,6 +3,7 @@ use Rattle.std.specs.Prelude.{◌≡◌, ◌⊎◌, ℕ, List, []}
 use Rattle.base_lines.specs.Service.{StopsAfter}
 use Rattle.rule_model.specs.declared.sections.Setup.{Setup}
 use Rattle.admit_drive.specs.Tables.{TableState}
+use Rattle.table_loading.specs.Lines.{Fault}
 use Rattle.table_loading.specs.Loading.{FailsAt, LoadsAll, lines_of}
 use Rattle.table_loading.specs.Seen.{seen_fault}
 use Rattle.stickd_script.specs.BadLines.{Noted, bad_among, noted}
@@ -18,9 +19,17 @@ use Rattle.stickd_script.specs.declared.loaded.Stopped.TheVariants.{Unloaded, Re
 abbrev pub with_tables : Setup → List TableState → ScriptState
 with_tables setup tables = record (start setup) { tables = tables }
 
--- the lines of a saved file are loaded into empty tables, which come to these
+-- all lines of a saved file are loaded into tables
+pub record IsLoaded (old : List TableState) (saved : List ℕ) (new : List TableState) : Type 0 where
+  pub loads : LoadsAll answering refusing old (lines_of saved) new
+
+-- the line of this number comes to this fault, and those before it are loaded
+pub record IsUnloaded (old : List TableState) (saved : List ℕ) (number : ℕ) (fault : Fault) (new : List TableState) : Type 0 where
+  pub fails : FailsAt answering refusing old (lines_of saved) number fault new
+
+-- the tables of a setup, empty before, are these once they are loaded
 abbrev pub Begins : Setup → List ℕ → List TableState → Type 0
-Begins setup saved tables = LoadsAll answering refusing (start setup).tables (lines_of saved) tables
+Begins setup saved tables = IsLoaded (start setup).tables saved tables
 
 -- the script's text that was taken so far, and what was written
 abbrev pub Passed : Type 1
@@ -36,5 +45,5 @@ StopsReplay setup saved takes grows fault bad =
 -- why it stopped; nothing is read or written where a line can't be loaded
 abbrev pub IsStopped : Setup → List ℕ → Passed → Passed → Stopped → Noted → Type 0
 IsStopped setup saved takes grows (Unloaded found) bad =
-    (tables : List TableState) × FailsAt answering refusing (start setup).tables (lines_of saved) found.line (seen_fault found.fault) tables × takes [] × grows [] × (bad ≡ noted [])
+    (tables : List TableState) × IsUnloaded (start setup).tables saved found.line (seen_fault found.fault) tables × takes [] × grows [] × (bad ≡ noted [])
 IsStopped setup saved takes grows (Replay fault) bad = StopsReplay setup saved takes grows fault bad

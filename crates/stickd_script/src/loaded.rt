@@ -3,12 +3,11 @@
 ghost use Rattle.std.specs.Prelude.{◌≡◌, ℕ, List, IfErr, OnOk};
 ghost use Rattle.byte_ports.specs.Bytes.{Grows, IsAtEnd, Takes};
 ghost use Rattle.base_lines.specs.Service.{ServesAll};
-ghost use Rattle.table_loading.specs.Loading.{FailsAt, LoadsAll, lines_of};
 ghost use Rattle.table_loading.specs.Seen.{seen_fault};
 ghost use Rattle.stickd_script.specs.BadLines.{bad_lines, noted};
 ghost use Rattle.stickd_script.specs.Guests.{ScriptState};
-ghost use Rattle.stickd_script.specs.Loaded.{Begins, IsStopped, with_tables};
-ghost use Rattle.stickd_script.specs.Script.{Says, answering, refusing};
+ghost use Rattle.stickd_script.specs.Loaded.{Begins, IsLoaded, IsStopped, IsUnloaded, with_tables};
+ghost use Rattle.stickd_script.specs.Script.{Says};
 ghost use Rattle.admit_drive.specs.Tables.{CanOpen, TableState, table_states};
 
 use crate::bad_lines::BadLines;
@@ -35,8 +34,8 @@ fn load_tables<'t, T: Table>(
     tables: &mut Vec<Named<Books<T>>>,
     saved: &'t [u8],
 ) -> Result<(), LoadFault<'t>>
-    ensures all { OnOk result (LoadsAll answering refusing (table_states tables.old.items) (lines_of saved.now) (table_states tables.new.items)) }
-    ensures fault { IfErr result (λ found. FailsAt answering refusing (table_states tables.old.items) (lines_of saved.now) found.line (seen_fault found.fault) (table_states tables.new.items)) }
+    ensures all { OnOk result (IsLoaded (table_states tables.old.items) saved.now (table_states tables.new.items)) }
+    ensures fault { IfErr result (λ found. IsUnloaded (table_states tables.old.items) saved.now found.line (seen_fault found.fault) (table_states tables.new.items)) }
 {
     match load(alloc, tables.as_mut_slice(), saved) {
         Ok(()) => Ok(()),
