@@ -4,6 +4,7 @@
 
 ghost use Rattle.std.specs.Prelude.{◌≤◌};
 ghost use Rattle.rule_model.specs.Served.{AreTables};
+ghost use Rattle.admit_drive.specs.Tables.{CanOpen};
 
 mod run_plan;
 
@@ -12,7 +13,7 @@ use base_sequence::NoMemory;
 use byte_ports::{StreamSink, StreamSource};
 use clap::ArgMatches;
 use log::Log;
-use rule_model::Config;
+use rule_model::{Config, Setup};
 use run_plan::{BadWord, read_binds, read_drain, read_plan};
 use std::alloc::Global;
 use std::net::{Net, TcpListener, TcpStream};
@@ -22,13 +23,13 @@ use std::rt::{Env, Files};
 use std::sync::Wait;
 use std::thread::Threads;
 use std::time::Clock;
-use std::{env, io, str};
+use std::{env, fs, io, str};
 use stickd_ctl::{Ctl, Stop, Top, ask_running, show_top, stop_running};
 use stickd_input::{
-    Detail, Keeping, STATS, Telling, frontend_name, open_served, open_setup, read_command_line,
-    read_file, read_keeping, read_served,
+    Detail, Keeping, LOAD, STATS, Telling, frontend_name, open_served, open_setup,
+    read_command_line, read_file, read_keeping, read_served,
 };
-use stickd_script::{BadLines, FaultKind, ReplayFault, replay_script};
+use stickd_script::{BadLines, FaultKind, ReplayFault, Stopped, replay_loaded, replay_script};
 use tcp_proxy::{Plan, StartRuntime, run_pooled};
 use tcp_watch::read_surroundings;
 
@@ -115,7 +116,10 @@ fn run_command<R: StartRuntime + RandomSource + Env + Input + Print>(
         Some(("run", arguments)) => return serve(rt, arguments),
         Some(("stop", arguments)) => return stop_named(rt, arguments),
         Some(("top", arguments)) => return show_greatest(rt, arguments),
-        Some((_, arguments)) => replay(rt, arguments.get_str("FILE"), read_keeping(arguments))?,
+        Some((_, arguments)) => {
+            let path = arguments.get_str("FILE");
+            replay(rt, path, arguments.get_str(LOAD), read_keeping(arguments))?
+        }
         None => false,
     };
     Ok(status_of(done))
@@ -233,10 +237,12 @@ fn check<R: Files + Print + Eprint + AllocGlobal>(
     Ok(true)
 }
 
-/// Replays the script on standard input on the tables of a configuration, each kept in this way.
+/// Replays the script on standard input on the tables of a configuration, each kept in this way, into which a saved file is loaded
+/// first, if one is named.
 fn replay<R: Files + Input + Print + Eprint + AllocGlobal>(
     rt: &R,
     path: Option<&str>,
+    load: Option<&str>,
     keeping: Keeping,
 ) -> io::Result<bool>
     requires shards { (1 ≤ keeping.shards) × (keeping.shards ≤ 64) }
@@ -245,15 +251,66 @@ fn replay<R: Files + Input + Print + Eprint + AllocGlobal>(
     let Some(setup) = open_setup(rt, path, keeping)? else {
         return Ok(false);
     };
+    match load {
+        Some(path) => replay_saved(rt, &setup, path),
+        None => replay_new(rt, &setup),
+    }
+}
+
+/// Replays the script on standard input from empty tables.
+fn replay_new<R: Input + Print + Eprint + AllocGlobal>(rt: &R, setup: &Setup) -> io::Result<bool>
+    requires { CanOpen setup.now }
+{
     let mut reader = StreamSource::new(rt.reader());
     let mut writer = StreamSink::new(io::writer(rt));
     let mut bad = BadLines::new();
-    let replayed = replay_script(rt.alloc(), &setup, &mut reader, &mut writer, &mut bad);
+    let replayed = replay_script(rt.alloc(), setup, &mut reader, &mut writer, &mut bad);
     // What the script is answered stands on standard output: whether this can be told changes no status.
     let _ = report_bad_lines(rt, &bad);
     match replayed {
         Ok(()) => Ok(true),
         Err(fault) => {
+            report(rt, fault)?;
+            Ok(false)
+        }
+    }
+}
+
+/// Replays the script on standard input on tables into which the file of a path is loaded first. Where it can't be, that is said on
+/// standard error.
+fn replay_saved<R: Files + Input + Print + Eprint + AllocGlobal>(
+    rt: &R,
+    setup: &Setup,
+    path: &str,
+) -> io::Result<bool>
+    requires { CanOpen setup.now }
+{
+    let saved = match fs::read(rt, path) {
+        Ok(saved) => saved,
+        Err(reason) => {
+            eprintln!(rt; "stickd: {path} can't be read: {reason}")?;
+            return Ok(false);
+        }
+    };
+    let mut reader = StreamSource::new(rt.reader());
+    let mut writer = StreamSink::new(io::writer(rt));
+    let mut bad = BadLines::new();
+    let replayed = replay_loaded(
+        rt.alloc(),
+        setup,
+        saved.as_slice(),
+        &mut reader,
+        &mut writer,
+        &mut bad,
+    );
+    let _ = report_bad_lines(rt, &bad);
+    match replayed {
+        Ok(()) => Ok(true),
+        Err(Stopped::Unloaded(fault)) => {
+            eprintln!(rt; "stickd: {path}: {fault}")?;
+            Ok(false)
+        }
+        Err(Stopped::Replay(fault)) => {
             report(rt, fault)?;
             Ok(false)
         }

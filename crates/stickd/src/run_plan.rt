@@ -8,12 +8,12 @@ use rule_addresses::{Endpoint, read_bind};
 use rule_words::read_time;
 use std::alloc::Global;
 use stickd_input::{
-    BIND, CLIENT, CONNECT, DRAIN, FIN, KEEPALIVE, LOG_REJECTED, METRICS, REPORT, SERVER, SOCKET,
-    STATS, VERSION,
+    BIND, CLIENT, CONNECT, DRAIN, FIN, KEEPALIVE, LOAD, LOG_REJECTED, METRICS, REPORT, SAVE,
+    SERVER, SOCKET, STATS, VERSION,
 };
 use table_socket::read_mode;
 use tcp_link::{Keepalive, Timeouts};
-use tcp_proxy::{About, Plan, SocketPlan, StatsPlan, WatchPlan};
+use tcp_proxy::{About, KeepPlan, Plan, SocketPlan, StatsPlan, WatchPlan};
 use tcp_relay::Limits;
 use tcp_watch::Surroundings;
 
@@ -223,6 +223,10 @@ pub fn read_plan<'a>(
             keepalive: read_timeout(arguments, KEEPALIVE)?.map(Keepalive::of),
         },
         stop_after: arguments.get_one::<u64>("stop-after"),
+        keep: KeepPlan {
+            load: arguments.get_str(LOAD),
+            save: arguments.get_str(SAVE),
+        },
         watch: WatchPlan {
             report: read_timeout(arguments, REPORT)?,
             stats: read_stats(arguments)?,

@@ -5,3 +5,5 @@ pub mod Ranking
 pub mod Marks
 pub mod Json
 pub mod Stopping
+pub mod Saving
+pub mod Names

@@ -4,6 +4,7 @@ use crate::client::{BAD_WORDS, DONE, FAILED, answer_of, is_on_terminal, say_no_m
 use crate::errors::{is_command, is_error};
 use crate::json::push_json;
 use crate::marks::push_marked;
+use crate::saving::save_tables;
 use base_sequence::NoMemory;
 use std::alloc::Global;
 use std::net::Net;
@@ -12,6 +13,9 @@ use std::{io, thread};
 
 /// What the terminal's cursor goes home by, and what all behind it is cleared by.
 pub(crate) const HOME: &[u8] = b"\x1b[H\x1b[J";
+
+/// The word that asks for what tables hold.
+const SAVE: &str = "save";
 
 /// What `stickd ctl` is asked.
 #[derive(Clone, Copy, Drop)]
@@ -114,12 +118,31 @@ fn ask_again<R: Net + Clock + Print + Eprint + AllocGlobal>(
     Ok(DONE)
 }
 
+/// Writes what tables hold to standard output, and answers the status, as `save_tables`; 2 where it is asked as JSON, or again.
+fn save<R: Net + Print + Eprint + AllocGlobal>(
+    rt: &R,
+    asked: &Ctl<'_>,
+    tables: &[&str],
+) -> io::Result<u8> {
+    if asked.json || asked.watch.is_some() {
+        eprintln!(rt; "stickd: save takes no --json and no --watch")?;
+        return Ok(BAD_WORDS);
+    }
+    save_tables(rt, asked.path, tables)
+}
+
 /// Sends commands to a running stickd, shows what it answers, and answers the status: 0; 1 where a command did nothing or
-/// nobody answers, which is said on standard error; 2 where the words are no line of commands.
+/// nobody answers, which is said on standard error; 2 where the words are no line of commands. Where the first word is `save`,
+/// nothing is sent but `show table`, and what the tables of the other words hold is written.
 pub fn ask_running<R: Net + Clock + Print + Eprint + AllocGlobal>(
     rt: &R,
     asked: &Ctl<'_>,
 ) -> io::Result<u8> {
+    if let Some((first, tables)) = asked.words.split_first() {
+        if *first == SAVE {
+            return save(rt, asked, tables);
+        }
+    }
     let Ok(command) = joined(rt.alloc(), asked.words) else {
         return say_no_memory(rt);
     };

@@ -7,9 +7,9 @@ use crate::help::{ADOPT_HELP, CHECK_HELP, CTL_HELP, REPLAY_HELP, RUN_HELP, STOP_
 use crate::options::{
     backlog_option, bind_option, client_option, clients_option, connect_option, connections_option,
     drain_option, fin_option, group_option, ipv4_prefix_option, ipv6_prefix_option,
-    keepalive_option, metrics_option, mode_option, purge_option, rejected_option, report_option,
-    retries_option, roll_option, server_option, shards_option, socket_option, socket_time_option,
-    stats_option, stop_option, stopped_option, threads_option,
+    keepalive_option, load_option, metrics_option, mode_option, purge_option, rejected_option,
+    report_option, retries_option, roll_option, save_option, server_option, shards_option,
+    socket_option, socket_time_option, stats_option, stop_option, stopped_option, threads_option,
 };
 use clap::{Arg, ArgMatches, Command, Error};
 use std::alloc::{AllocError, Global};
@@ -168,7 +168,8 @@ fn replay_command<'a>(alloc: Global) -> Result<Command<'a>, AllocError> {
     let command = add_argument(command, shards_option(alloc));
     let command = add_argument(command, purge_option(alloc));
     let command = add_argument(command, ipv4_prefix_option(alloc));
-    add_argument(command, ipv6_prefix_option(alloc))
+    let command = add_argument(command, ipv6_prefix_option(alloc));
+    add_argument(command, load_option(alloc))
 }
 
 /// `stickd run`.
@@ -187,6 +188,8 @@ fn run_command<'a>(alloc: Global) -> Result<Command<'a>, AllocError> {
     let command = add_argument(command, purge_option(alloc));
     let command = add_argument(command, ipv4_prefix_option(alloc));
     let command = add_argument(command, ipv6_prefix_option(alloc));
+    let command = add_argument(command, load_option(alloc));
+    let command = add_argument(command, save_option(alloc));
     let command = add_argument(command, connections_option(alloc));
     let command = add_argument(command, backlog_option(alloc));
     let command = add_argument(command, connect_option(alloc));

@@ -31,7 +31,9 @@ answers are written to standard output as they come. With --json a table is an o
 with its name, type, size, used and entries, and another answer {\"answer\": \"TEXT\"}.
 With --watch, on a terminal, '* ' stands before each line that wasn't there the last time.
 The status is 1 where a command did nothing, or nobody answers at PATH.
-  stickd ctl --socket /run/stickd.sock show table www data.conn_cur gt 10";
+  stickd ctl --socket /run/stickd.sock show table www data.conn_cur gt 10
+'save' and the names of tables, or none for all, write what they hold, as --load reads it:
+  stickd ctl --socket /run/stickd.sock save > tables.saved";
 
 /// What `stickd top --help` says last.
 pub(crate) const TOP_HELP: &str = "\
@@ -60,7 +62,8 @@ What they are answered is written to standard output, and behind the script's en
 numbers of the first ten lines that were bad to standard error. A connection is accepted
 or rejected by the rules of FILE. Without FILE there is one table, t, which has keys of
 type ip, 100 entries at most, and stores gpc0; each connection is tracked there by its
-client's address, and accepted.";
+client's address, and accepted. With --load entries have the time left that was saved at
+the moment of the longest expire of FILE's tables, 600000 where that is 10m.";
 
 /// What `stickd run --help` says last.
 pub(crate) const RUN_HELP: &str = "\
@@ -69,6 +72,8 @@ accepted or rejected by the section's rules, and relayed to its server. Commands
 'stickd replay --help' lists them, are answered on the socket, each on a line or parted
 by ';':
   echo 'show table' | socat stdio /run/stickd.sock
+With --save FILE and --load FILE entries outlast a restart, with the time that they had
+left, but for their rates and connections. FILE is written once the program stops orderly.
 A connection is closed once a peer has been silent for its TIME. Moments are the
 milliseconds since the start. With --stop-after, once N connections have ended, 'settled
 NAME: C calls, R references' is printed for each table whose record is what its callers

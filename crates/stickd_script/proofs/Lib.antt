@@ -21,3 +21,4 @@ pub mod KeyLemmas
 pub mod ApartLemmas
 pub mod OrderLemmas
 pub mod UnrefusedLemmas
+pub mod LoadedLemmas

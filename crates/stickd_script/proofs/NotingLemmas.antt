@@ -7,10 +7,9 @@ use Rattle.base_lines.specs.Line.{held}
 use Rattle.base_lines.specs.Parts.{parts, is_line_end}
 use Rattle.base_lines.specs.Service.{Serves, ServesAll, StopsAfter}
 use Rattle.table_cli.specs.States.{more}
-use Rattle.stickd_script.specs.BadLines.{Noted, Noting, SaysNoting, StopsNoting, bad_after, bad_among, bad_behind, bad_lines, beginning, is_bad, noted, with_bad}
+use Rattle.stickd_script.specs.BadLines.{Noted, Noting, SaysNoting, StopsNoting, bad_after, bad_among, bad_behind, bad_lines, is_bad, noted, noting_at, with_bad}
 use Rattle.stickd_script.specs.Script.{Says, Stops, line_of}
-use Rattle.stickd_script.specs.Start.{start}
-use Rattle.rule_model.specs.declared.sections.Setup.{Setup}
+use Rattle.stickd_script.specs.Guests.{ScriptState}
 
 -- ---- a chain of noted lines
 
@@ -68,17 +67,17 @@ number_not_kept numbers count after number ten above too =
 -- ---- a script
 
 -- all of it
-pub all_noted : (setup : Setup) (begin new : Noting) (script output : List ℕ) → begin ≡ beginning setup → ServesAll SaysNoting begin script output new
-    → ServesAll Says (start setup) script output new.script × (new.bad ≡ noted (bad_lines script))
-all_noted setup begin new script output is chain =
-    let from : ServesAll SaysNoting (beginning setup) script output new = subst (λ (n : Noting). ServesAll SaysNoting n script output new) is chain in (
-      script_chain (beginning setup) new (parts is_line_end script) output from,
-      noted_chain (beginning setup) new (parts is_line_end script) output from ∙ noted_is (parts is_line_end script) 0 [],
+pub all_noted : (first : ScriptState) (begin new : Noting) (script output : List ℕ) → begin ≡ noting_at first → ServesAll SaysNoting begin script output new
+    → ServesAll Says first script output new.script × (new.bad ≡ noted (bad_lines script))
+all_noted first begin new script output is chain =
+    let from : ServesAll SaysNoting (noting_at first) script output new = subst (λ (n : Noting). ServesAll SaysNoting n script output new) is chain in (
+      script_chain (noting_at first) new (parts is_line_end script) output from,
+      noted_chain (noting_at first) new (parts is_line_end script) output from ∙ noted_is (parts is_line_end script) 0 [],
     )
 
 -- up to where it stopped
-stop_says : (setup : Setup) (new : Noting) (script : List ℕ) (count : ℕ) (output : List ℕ) → StopsAfter SaysNoting StopsNoting (beginning setup) script count output new → StopsAfter Says Stops (start setup) script count output new.script
-stop_says setup new script count output stop = record {
+stop_says : (first : ScriptState) (new : Noting) (script : List ℕ) (count : ℕ) (output : List ℕ) → StopsAfter SaysNoting StopsNoting (noting_at first) script count output new → StopsAfter Says Stops first script count output new.script
+stop_says first new script count output stop = record {
   done = stop.done;
   next = stop.next;
   later = stop.later;
@@ -86,7 +85,7 @@ stop_says setup new script count output stop = record {
   counted = stop.counted;
   done_output = stop.done_output;
   between = stop.between.script;
-  served = script_chain (beginning setup) stop.between stop.done stop.done_output stop.served;
+  served = script_chain (noting_at first) stop.between stop.done stop.done_output stop.served;
   prefix = stop.prefix;
   stopped = elim stop.stopped [
     | inl none ↦ inl (none.0, ap (λ (n : Noting). n.script) none.1)
@@ -99,17 +98,17 @@ stop_says setup new script count output stop = record {
 done_are : (lines done rest : List (List ℕ)) (count : ℕ) → lines ≡ done ++ rest → length done ≡ count → done ≡ take count lines
 done_are lines done rest count are counted = sym (take-append_seam done rest) ∙ (λ i. take (counted i) (sym are i))
 
-stop_noted : (setup : Setup) (new : Noting) (script : List ℕ) (count : ℕ) (output : List ℕ) → StopsAfter SaysNoting StopsNoting (beginning setup) script count output new → new.bad ≡ noted (bad_among count script)
-stop_noted setup new script count output stop =
+stop_noted : (first : ScriptState) (new : Noting) (script : List ℕ) (count : ℕ) (output : List ℕ) → StopsAfter SaysNoting StopsNoting (noting_at first) script count output new → new.bad ≡ noted (bad_among count script)
+stop_noted first new script count output stop =
     let same : new.bad ≡ stop.between.bad = elim stop.stopped [
       | inl none ↦ ap (λ (n : Noting). n.bad) none.1
       | inr part ↦ part.2
     ] in
-    same ∙ noted_chain (beginning setup) stop.between stop.done stop.done_output stop.served ∙ noted_is stop.done 0 []
+    same ∙ noted_chain (noting_at first) stop.between stop.done stop.done_output stop.served ∙ noted_is stop.done 0 []
     ∙ ap (λ lines. noted (bad_behind 0 lines)) (done_are (parts is_line_end script) stop.done (stop.next ∷ stop.later) count stop.lines stop.counted)
 
-pub stopped_noted : (setup : Setup) (begin new : Noting) (script : List ℕ) (count : ℕ) (output : List ℕ) → begin ≡ beginning setup → StopsAfter SaysNoting StopsNoting begin script count output new
-    → StopsAfter Says Stops (start setup) script count output new.script × (new.bad ≡ noted (bad_among count script))
-stopped_noted setup begin new script count output is stop =
-    let from : StopsAfter SaysNoting StopsNoting (beginning setup) script count output new = subst (λ (n : Noting). StopsAfter SaysNoting StopsNoting n script count output new) is stop in
-    (stop_says setup new script count output from, stop_noted setup new script count output from)
+pub stopped_noted : (first : ScriptState) (begin new : Noting) (script : List ℕ) (count : ℕ) (output : List ℕ) → begin ≡ noting_at first → StopsAfter SaysNoting StopsNoting begin script count output new
+    → StopsAfter Says Stops first script count output new.script × (new.bad ≡ noted (bad_among count script))
+stopped_noted first begin new script count output is stop =
+    let from : StopsAfter SaysNoting StopsNoting (noting_at first) script count output new = subst (λ (n : Noting). StopsAfter SaysNoting StopsNoting n script count output new) is stop in
+    (stop_says first new script count output from, stop_noted first new script count output from)

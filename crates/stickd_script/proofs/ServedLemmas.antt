@@ -85,7 +85,7 @@ tables_books setup tables are = each_has tables (λ i table at. (are.each i tabl
     each_has [] each = tt
     each_has (first ∷ rest) each = (each 0 first refl, each_has rest (λ i table at. each (suc i) table at))
 
-commands_served : (moment : ℕ) (commands : List ℕ) (old : ScriptState) (text : List ℕ) (new : ScriptState) → LineSays (Commands moment commands) old text new → IsServed old → IsServed new
+pub commands_served : (moment : ℕ) (commands : List ℕ) (old : ScriptState) (text : List ℕ) (new : ScriptState) → LineSays (Commands moment commands) old text new → IsServed old → IsServed new
 commands_served moment commands old text new says are =
     let same : map kept_in new.tables ≡ map kept_in old.tables = commands_keep (commands_of commands) (at_moment moment old.tables) text (at_moment moment new.tables) says.0 in
     let books : AllByRecursion HasBooks new.tables =

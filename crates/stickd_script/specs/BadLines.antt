@@ -54,8 +54,11 @@ pub record Noting : Type 0 where
   pub bad : Noted
 
 -- before the first line of a script
+abbrev pub noting_at : ScriptState → Noting
+noting_at script = record { script = script; lines = 0; bad = noted [] }
+
 abbrev pub beginning : Setup → Noting
-beginning setup = record { script = start setup; lines = 0; bad = noted [] }
+beginning setup = noting_at (start setup)
 
 -- what is noted behind a line
 abbrev pub bad_after : Option (List ℕ) → ℕ → Noted → Noted

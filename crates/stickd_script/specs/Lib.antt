@@ -7,3 +7,4 @@ pub mod BadLines
 pub mod Seen
 pub mod Laws
 pub mod Unrefused
+pub mod Loaded

@@ -8,6 +8,7 @@ mod built_in;
 mod guests;
 pub mod laws;
 mod line;
+mod loaded;
 mod noting;
 mod replay;
 mod rolling;
@@ -16,5 +17,6 @@ mod short_text;
 
 pub use bad_lines::BadLines;
 pub use built_in::built_in as built_in_setup;
+pub use loaded::{Stopped, replay_loaded};
 pub use replay::{FaultKind, ReplayFault, replay_script};
 pub use rule_model::{LIFE, MAX_REFS, NamedSpec, Setup};

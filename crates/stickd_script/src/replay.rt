@@ -42,7 +42,7 @@ pub struct ReplayFault {
 }
 
 /// What serves a script from empty tables, with nothing noted yet.
-fn open_server<'a>(
+pub(crate) fn open_server<'a>(
     alloc: Global,
     setup: &'a Setup,
 ) -> Result<NotingServer<'a, StickTable>, NoMemory>
@@ -64,7 +64,7 @@ fn open_server<'a>(
 }
 
 /// The fault of a replay whose service stopped.
-fn fault_of(fault: LineFault) -> ReplayFault
+pub(crate) fn fault_of(fault: LineFault) -> ReplayFault
     ensures done { result.done ≡ fault.done }
     ensures read { result.kind ≡ FaultKind.ReadFault → fault.kind ≡ LineFaultKind.Read }
     ensures write { result.kind ≡ FaultKind.WriteFault → fault.kind ≡ LineFaultKind.Write }

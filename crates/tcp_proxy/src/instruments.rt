@@ -138,6 +138,7 @@ impl Instruments {
         rt: &'a R,
         plan: Plan<'a>,
         sockets: &'a Sockets,
+        begins_at: u64,
     ) -> Running<'a, R> {
         Running {
             rt,
@@ -157,6 +158,7 @@ impl Instruments {
             reports: reports_of(plan),
             status: self.status.as_ref(),
             start: sockets.start,
+            begins_at,
         }
     }
 }

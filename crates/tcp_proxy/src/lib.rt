@@ -6,6 +6,8 @@ mod counted;
 mod ending;
 mod housekeeping;
 mod instruments;
+mod keeping;
+mod later;
 mod listeners;
 mod opening;
 mod plan;
@@ -18,6 +20,8 @@ mod shared;
 mod sockets;
 mod timetable;
 
-pub use plan::{About, METRICS_CLIENTS, Plan, STATS_CLIENTS, SocketPlan, StatsPlan, WatchPlan};
+pub use plan::{
+    About, KeepPlan, METRICS_CLIENTS, Plan, STATS_CLIENTS, SocketPlan, StatsPlan, WatchPlan,
+};
 pub use running::{run_pooled, run_proxy};
 pub use shared::{ProxyRuntime, StartRuntime};

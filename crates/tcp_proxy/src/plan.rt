@@ -62,6 +62,15 @@ pub struct WatchPlan<'a> {
     pub about: About<'a>,
 }
 
+/// The files in which what the tables hold outlasts the run.
+#[derive(Clone, Copy, Debug)]
+pub struct KeepPlan<'a> {
+    /// The file of entries that are made before anything listens.
+    pub load: Option<&'a str>,
+    /// The file to which the tables are saved at an orderly end.
+    pub save: Option<&'a str>,
+}
+
 /// What a run of the proxy is asked.
 #[derive(Clone, Copy, Debug)]
 pub struct Plan<'a> {
@@ -81,6 +90,8 @@ pub struct Plan<'a> {
     pub stop_after: Option<u64>,
     /// A shard's record begins again once it has so many calls.
     pub roll_at: u64,
+    /// What is loaded and saved.
+    pub keep: KeepPlan<'a>,
     /// What is told of the run.
     pub watch: WatchPlan<'a>,
     /// How long open connections go on once the proxy drains, in ms.

@@ -6,6 +6,8 @@ ghost use Rattle.tcp_relay.specs.Serving.{AreSeats, AreTablesOf};
 
 use crate::ending::{Left, give_up_all, settle_all};
 use crate::instruments::Instruments;
+use crate::keeping::{load_tables, longest_life, save_all};
+use crate::later::Later;
 use crate::opening::{OpenTables, open_tables};
 use crate::plan::{Duties, Plan};
 use crate::service_threads::{Duty, NOBODY, ServiceThread};
@@ -20,9 +22,10 @@ use rule_warnings::{StartPlan, Warning, allowed_descriptors, warnings_of};
 use shard_book::Seat;
 use shard_locks::Shards;
 use std::alloc::Global;
-use std::io;
 use std::random::RandomSource;
 use std::sync::atomic::AtomicBool;
+use std::time::{Duration, Instant};
+use std::{io, mem};
 use stick_pooled::StickTable;
 use stick_table::Table;
 use tcp_relay::{FaultKind, ServeFault, Served};
@@ -138,6 +141,9 @@ fn start<T: Table + Send, R: StartRuntime + Print>(
         commands,
         keepers,
     } = opened;
+    let Some(keepers) = load_where(alloc, rt, setup, plan, tables.as_slice(), keepers)? else {
+        return Ok(false);
+    };
     let duties = plan.duties(instruments.awaits_signals());
     let Ok(service_threads) = make_service_threads(alloc, setup, duties, commands, keepers) else {
         report(rt, FaultKind::NoMemory)?;
@@ -147,9 +153,10 @@ fn start<T: Table + Send, R: StartRuntime + Print>(
         report(rt, FaultKind::NoMemory)?;
         return Ok(false);
     };
-    let Some(sockets) = bind_sockets(alloc, rt, bind, plan)? else {
+    let Some(mut sockets) = bind_sockets(alloc, rt, bind, plan)? else {
         return Ok(false);
     };
+    sockets.start = earlier(sockets.start, begins_at(setup, plan));
     say_warnings(rt, warnings.as_slice());
     serve_and_settle(
         alloc,
@@ -162,6 +169,56 @@ fn start<T: Table + Send, R: StartRuntime + Print>(
         workers,
         service_threads,
     )
+}
+
+/// The moment at which the run begins, in ms: where entries are loaded, the longest life of all, so that each was refreshed since 0.
+fn begins_at(setup: &Setup, plan: Plan<'_>) -> u64 {
+    match plan.keep.load {
+        Some(_path) => u64::from(longest_life(setup)),
+        None => 0,
+    }
+}
+
+/// An instant so many ms earlier. The clock that the proxy runs by is ahead by as many.
+fn earlier(start: Instant, by: u64) -> Instant {
+    start
+        .checked_sub(Duration::from_millis(by))
+        .unwrap_or(start)
+}
+
+/// Makes the entries of the plan's file, if it names one, by these seats, which come back. None where that can't be done, which is said.
+fn load_where<T: Table, R: StartRuntime>(
+    alloc: Global,
+    rt: &R,
+    setup: &Setup,
+    plan: Plan<'_>,
+    tables: &[Shards<T>],
+    seats: Vec<Seat>,
+) -> io::Result<Option<Vec<Seat>>> {
+    match plan.keep.load {
+        Some(path) => load_tables(alloc, rt, setup, tables, seats, path),
+        None => Ok(Some(seats)),
+    }
+}
+
+/// Writes what the tables hold to the plan's file, if it names one and serving ended well, by the seats of a thread that has ended.
+/// Answers whether nothing is left undone.
+fn save_where<T: Table, R: StartRuntime>(
+    alloc: Global,
+    rt: &R,
+    setup: &Setup,
+    plan: Plan<'_>,
+    tables: &[Shards<T>],
+    service_threads: &mut [ServiceThread],
+    start: Instant,
+) -> io::Result<bool> {
+    let (Some(path), Some(thread)) = (plan.keep.save, service_threads.first_mut()) else {
+        return Ok(true);
+    };
+    let seats = mem::replace(&mut thread.seats, Vec::new(alloc));
+    let (seats, is_saved) = save_all(alloc, rt, setup, tables, seats, start, path)?;
+    thread.seats = seats;
+    Ok(is_saved)
 }
 
 /// Says on standard error what may surprise whoever starts it so, a warning a line. Whether that can be said changes nothing.
@@ -258,7 +315,8 @@ pub fn run_pooled<R: StartRuntime + RandomSource + Print>(
     requires threads { (1 ≤ plan.threads) × (plan.threads ≤ 64) }
     requires clients { (1 ≤ plan.socket.clients) × (plan.socket.clients ≤ 64) }
 {
-    run_proxy::<StickTable, R>(alloc, rt, setup, plan)
+    let later = Later::new(rt, begins_at(setup, plan));
+    run_proxy::<StickTable, Later<'_, R>>(alloc, &later, setup, plan)
 }
 
 /// Serves, removes the sockets' files, and then settles the tables.
@@ -279,7 +337,7 @@ fn serve_and_settle<T: Table + Send, R: StartRuntime + Print>(
     requires threads { (1 ≤ plan.threads) × (plan.threads ≤ 64) }
 {
     let stop = AtomicBool::new(false);
-    let running = instruments.running(rt, plan, sockets);
+    let running = instruments.running(rt, plan, sockets, begins_at(setup, plan));
     running.notify(Notice::Ready.bytes());
     let shared = Shared {
         alloc,
@@ -300,7 +358,21 @@ fn serve_and_settle<T: Table + Send, R: StartRuntime + Print>(
     let ended = end_of(serve_all(&shared, workers, service_threads.as_mut_slice()));
     running.say_stopping();
     sockets.remove_files(rt, plan);
-    settle_where(alloc, rt, setup, tables, ended, service_threads)
+    let saved = if ended.fault.is_some() {
+        Ok(false)
+    } else {
+        save_where(
+            alloc,
+            rt,
+            setup,
+            plan,
+            tables.as_slice(),
+            service_threads.as_mut_slice(),
+            sockets.start,
+        )
+    };
+    let is_settled = settle_where(alloc, rt, setup, tables, ended, service_threads)?;
+    Ok(saved? && is_settled)
 }
 
 /// Says what the clients of the command socket came to, on all threads together.

@@ -142,8 +142,9 @@ pub(crate) struct Running<'a, R> {
     pub reports: Reports,
     /// Where a signal that stops the run may wait, if one may.
     pub status: Option<&'a ProcessStatus>,
-    /// The moment 0.
+    /// The moment 0, and that at which the run began.
     pub start: Instant,
+    pub begins_at: u64,
 }
 
 impl<'a, R: Net + time::Clock> Running<'a, R> {
@@ -196,7 +197,7 @@ impl<'r, R: Net + time::Clock> Program for Running<'r, R> {
             release_date: self.about.release_date,
             pid: u32::try_from(libc::getpid()).unwrap_or(0),
             node: self.node,
-            uptime_ms: self.now(),
+            uptime_ms: self.now().saturating_sub(self.begins_at),
             threads: u64::from(self.threads),
             is_draining: self.control.drain.has_begun(),
             limit: u64::from(self.connections),

@@ -23,7 +23,7 @@ returns-in-Ok-served-clause-whole g c =
     let told = c.in-Ok-served.ensures.whole in
     let left = c.serve_lines-served.new.server in
     let new = noting_of left.server.setup.now left.server.tables.items left.server.guests.entries left.lines left.bad in
-    let all = all_noted c.args.setup.now _ new told.0 told.1 c.in-Ok.ensures told.4 in
+    let all = all_noted (start c.args.setup.now) _ new told.0 told.1 c.in-Ok.ensures told.4 in
     (told.0, told.1, new.script, told.2, told.3, all.0, c.into_bad.ensures ∙ all.1)
 
 pub returns-in-Err-clause-fault : goal.returns-in-Err-clause-fault
@@ -31,7 +31,7 @@ returns-in-Err-clause-fault g c =
     let told = c.in-Err.ensures.fault in
     let left = c.serve_lines-served.new.server in
     let new = noting_of left.server.setup.now left.server.tables.items left.server.guests.entries left.lines left.bad in
-    let all = stopped_noted c.args.setup.now _ new told.0 c.in-Err.fault.done told.1 c.in-Ok.ensures told.4 in (
+    let all = stopped_noted (start c.args.setup.now) _ new told.0 c.in-Err.fault.done told.1 c.in-Ok.ensures told.4 in (
       told.0,
       told.1,
       new.script,

@@ -1,0 +1,11 @@
+-- A word that is sent as the name of a table.
+use Rattle.std.specs.Prelude.{ℕ, Bool, false, not, ◌==◌, ◌&&◌, List, length}
+use Rattle.std.specs.List.{list_all}
+
+-- a byte that parts words, commands or lines
+abbrev pub parts_none : ℕ → Bool
+parts_none byte = not (byte == 32) && not (byte == 9) && not (byte == 10) && not (byte == 59)
+
+-- it is one word of one command
+abbrev pub is_name : List ℕ → Bool
+is_name word = not (length word == 0) && list_all parts_none word

@@ -1,0 +1,181 @@
+//! `stickd ctl save`: what a running stickd's tables hold, as the lines that `--load` reads; `asking` calls `save_tables`.
+
+ghost use Rattle.std.specs.Prelude.{◌≡◌};
+ghost use Rattle.std.specs.List.{list_all};
+ghost use Rattle.stickd_ctl.specs.Names as spec;
+
+use crate::client::{BAD_WORDS, DONE, FAILED, answer_of, say_no_memory, show};
+use crate::errors::is_error;
+use crate::lines::{read_header, split_at_first};
+use crate::saved::Saved;
+use base_lines::Parts;
+use base_sequence::NoMemory;
+use std::alloc::Global;
+use std::net::Net;
+use std::{io, str};
+
+/// What asks for the headers of all tables, and, behind a blank, for the entries of one.
+const SHOW: &[u8] = b"show table";
+
+/// Whether a byte parts no words, commands or lines.
+fn parts_none(byte: u8) -> bool
+    ensures { result ≡ spec.parts_none byte }
+{
+    byte != b' ' && byte != b'\t' && byte != b'\n' && byte != b';'
+}
+
+/// Whether no byte of a text parts words, commands or lines.
+fn is_one_word(word: &[u8]) -> bool
+    ensures { result ≡ list_all spec.parts_none word.now }
+{
+    word.iter().all(|byte| parts_none(*byte))
+}
+
+/// Whether a text can be sent as a table's name: it is one word of one command.
+pub fn is_name(word: &[u8]) -> bool
+    ensures { result ≡ spec.is_name word.now }
+{
+    !word.is_empty() && is_one_word(word)
+}
+
+/// The names of the tables whose lines stand in an answer.
+fn names_in(alloc: Global, answer: &[u8]) -> Result<Vec<&[u8]>, NoMemory> {
+    let mut names = Vec::new(alloc);
+    let mut lines = Parts::new(answer, b'\n');
+    while let Some(line) = lines.next() {
+        if let Some(header) = read_header(line) {
+            names.push(header.name)?;
+        }
+    }
+    Ok(names)
+}
+
+/// The names that words are.
+fn names_of<'a>(alloc: Global, words: &[&'a str]) -> Result<Vec<&'a [u8]>, NoMemory> {
+    let mut names = Vec::new(alloc);
+    for word in words {
+        names.push(word.as_bytes())?;
+    }
+    Ok(names)
+}
+
+/// The command that asks for the entries of a table.
+fn show_command(alloc: Global, table: &[u8]) -> Result<Vec<u8>, NoMemory> {
+    let mut command = Vec::new(alloc);
+    command.extend_from_slice(SHOW)?;
+    command.push(b' ')?;
+    command.extend_from_slice(table)?;
+    Ok(command)
+}
+
+/// Why a table wasn't saved, with the status that this comes to.
+enum Unsaved {
+    /// It is said already.
+    Said(u8),
+    Memory,
+    Output(io::Error),
+}
+
+impl From<NoMemory> for Unsaved {
+    fn from(_refused: NoMemory) -> Unsaved {
+        Unsaved::Memory
+    }
+}
+
+impl From<io::Error> for Unsaved {
+    fn from(reason: io::Error) -> Unsaved {
+        Unsaved::Output(reason)
+    }
+}
+
+/// What a command is answered, where it did something.
+fn asked<R: Net + Eprint + AllocGlobal>(
+    rt: &R,
+    path: &str,
+    command: &[u8],
+) -> Result<Vec<u8>, Unsaved> {
+    let Some(answer) = answer_of(rt, path, command)? else {
+        return Err(Unsaved::Said(FAILED));
+    };
+    if is_error(&answer) {
+        let (said, _rest) = split_at_first(&answer, b'\n');
+        let (command, said) = (str::from_utf8(command), str::from_utf8(said));
+        eprintln!(rt;
+            "stickd: '{}' is answered '{}'",
+            command.unwrap_or("?"),
+            said.unwrap_or("?")
+        )?;
+        return Err(Unsaved::Said(FAILED));
+    }
+    if !answer.ends_with(b"\n\n") {
+        eprintln!(rt; "stickd: {path} was closed before the answer's end")?;
+        return Err(Unsaved::Said(FAILED));
+    }
+    Ok(answer)
+}
+
+/// Adds what each of these tables holds.
+fn save_each<R: Net + Eprint + AllocGlobal>(
+    rt: &R,
+    path: &str,
+    names: &[&[u8]],
+    saved: &mut Saved,
+) -> Result<(), Unsaved> {
+    for name in names {
+        let command = show_command(rt.alloc(), name)?;
+        let listing = asked(rt, path, command.as_slice())?;
+        saved.add(name, listing.as_slice())?;
+    }
+    Ok(())
+}
+
+/// What the tables of these names hold; of all, where none are named.
+fn saved_text<R: Net + Eprint + AllocGlobal>(
+    rt: &R,
+    path: &str,
+    words: &[&str],
+) -> Result<Vec<u8>, Unsaved> {
+    let mut saved = Saved::new(rt.alloc())?;
+    if words.is_empty() {
+        let headers = asked(rt, path, SHOW)?;
+        let names = names_in(rt.alloc(), headers.as_slice())?;
+        save_each(rt, path, names.as_slice(), &mut saved)?;
+    } else {
+        let names = names_of(rt.alloc(), words)?;
+        save_each(rt, path, names.as_slice(), &mut saved)?;
+    }
+    Ok(saved.into_text()?)
+}
+
+/// The first of some words that is no table's name.
+fn first_bad<'a>(words: &[&'a str]) -> Option<&'a str> {
+    for word in words {
+        if !is_name(word.as_bytes()) {
+            return Some(word);
+        }
+    }
+    None
+}
+
+/// Writes what the tables of these names hold, or all tables, to standard output, as lines that `--load` reads. Answers the status:
+/// 0; 1 where nobody answers, or there is no such table, which is said on standard error, and nothing is written; 2 where a word
+/// is no table's name.
+pub(crate) fn save_tables<R: Net + Print + Eprint + AllocGlobal>(
+    rt: &R,
+    path: &str,
+    words: &[&str],
+) -> io::Result<u8> {
+    if let Some(word) = first_bad(words) {
+        eprintln!(rt; "stickd: '{word}' is no table's name")?;
+        return Ok(BAD_WORDS);
+    }
+    match saved_text(rt, path, words) {
+        Ok(text) => {
+            show(rt, text.as_slice())?;
+            Ok(DONE)
+        }
+        Err(Unsaved::Said(status)) => Ok(status),
+        Err(Unsaved::Memory) => say_no_memory(rt),
+        Err(Unsaved::Output(reason)) => Err(reason),
+    }
+}

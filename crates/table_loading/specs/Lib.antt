@@ -1,0 +1,4 @@
+pub mod Lives
+pub mod Lines
+pub mod Loading
+pub mod Seen

@@ -1,0 +1,218 @@
+//! The tables of a run, asked by one seat each before its threads start and behind them: loaded from a file, and saved to one;
+//! `running` calls it.
+
+ghost use Rattle.std.specs.Prelude.{◌≡◌, ◌<◌, ◌^◌, map};
+ghost use Rattle.rule_model.specs.declared.sections.NamedSpec.{NamedSpec as ItsSpec};
+ghost use Rattle.table_loading.specs.Lives as spec;
+
+use crate::service_threads::SeatedTable;
+use crate::shared::StartRuntime;
+use base_clock::{Clock, RunningClock, StoppedClock};
+use base_sequence::NoMemory;
+use byte_ports::MemorySink;
+use log::{Log, info};
+use rule_model::Setup;
+use shard_book::{Named, Seat};
+use shard_locks::{Seated, Shards};
+use std::alloc::Global;
+use std::fs::{self, OpenFile, OpenOptions};
+use std::io::{self, Write};
+use std::os::unix::fs::OpenOptionsExt;
+use std::time::Instant;
+use stick_table::Table;
+use stickd_ctl::{Saved, is_error};
+use table_cli::answer;
+use table_loading::{life_of, load};
+
+/// The permissions of a saved file: its owner's alone, since it names clients.
+const SAVED_MODE: u32 = 0o600;
+
+/// The longest life that a setup's tables give, in ms: the moment at which they go on once they are loaded.
+pub(crate) fn longest_life(setup: &Setup) -> u32
+    ensures { result ≡ spec.longest_life (map (λ (named : ItsSpec). named.spec) setup.now.tables) }
+{
+    let mut longest = 0u32;
+    for named in setup.tables.as_slice() {
+        longest = longest.max(life_of(&named.spec));
+    }
+    longest
+}
+
+/// Tables, each asked by one of these seats, under the names of the setup.
+fn seat_all<'a, T: Table, R>(
+    alloc: Global,
+    rt: &'a R,
+    setup: &Setup,
+    tables: &'a [Shards<T>],
+    seats: Vec<Seat>,
+) -> Result<Vec<SeatedTable<'a, T, R>>, NoMemory> {
+    let mut seated = Vec::with_capacity(alloc, tables.len())?;
+    for (place, seat) in seats.into_iter().enumerate() {
+        let (Some(table), Some(named)) = (tables.get(place), setup.tables.as_slice().get(place))
+        else {
+            break;
+        };
+        let name = named.name.copy()?;
+        let keeper = Seated::new(table, rt, seat);
+        seated.push(Named { name, keeper })?;
+    }
+    Ok(seated)
+}
+
+/// The seats of tables that are asked no more.
+fn seats_of<T: Table, R>(
+    alloc: Global,
+    tables: Vec<SeatedTable<'_, T, R>>,
+) -> Result<Vec<Seat>, NoMemory> {
+    let mut seats = Vec::with_capacity(alloc, tables.len())?;
+    for named in tables {
+        seats.push(named.keeper.into_seat())?;
+    }
+    Ok(seats)
+}
+
+/// Says that there is no memory.
+fn say_no_memory<R: Eprint>(rt: &R) -> io::Result<()> {
+    eprintln!(rt; "stickd: out of memory")
+}
+
+/// Makes the entries that a file keeps, by one seat of each table, which come back. None where the file can't be read or isn't what
+/// was saved, which is said on standard error.
+pub(crate) fn load_tables<T: Table, R: StartRuntime>(
+    alloc: Global,
+    rt: &R,
+    setup: &Setup,
+    tables: &[Shards<T>],
+    seats: Vec<Seat>,
+    path: &str,
+) -> io::Result<Option<Vec<Seat>>> {
+    let text = match fs::read(rt, path) {
+        Ok(text) => text,
+        Err(reason) => {
+            eprintln!(rt; "stickd: {path} can't be read: {reason}")?;
+            return Ok(None);
+        }
+    };
+    let Ok(mut seated) = seat_all(alloc, rt, setup, tables, seats) else {
+        say_no_memory(rt)?;
+        return Ok(None);
+    };
+    if let Err(fault) = load(alloc, seated.as_mut_slice(), text.as_slice()) {
+        eprintln!(rt; "stickd: {path}: {fault}")?;
+        return Ok(None);
+    }
+    match seats_of(alloc, seated) {
+        Ok(seats) => Ok(Some(seats)),
+        Err(_) => {
+            say_no_memory(rt)?;
+            Ok(None)
+        }
+    }
+}
+
+/// What a table is asked that is saved.
+fn show_command(alloc: Global, name: &[u8]) -> Result<Vec<u8>, NoMemory> {
+    let mut command = Vec::new(alloc);
+    command.extend_from_slice(b"show table ")?;
+    command.extend_from_slice(name)?;
+    Ok(command)
+}
+
+/// Adds what the table of a place holds, at a moment.
+fn save_one<T: Table, R: StartRuntime>(
+    alloc: Global,
+    tables: &mut [SeatedTable<'_, T, R>],
+    place: usize,
+    moment: u64,
+    saved: &mut Saved,
+) -> Result<(), NoMemory>
+    requires { moment < 2 ^ 62 }
+{
+    let Some(named) = tables.get(place) else {
+        return Ok(());
+    };
+    let name = named.name.copy()?;
+    let command = show_command(alloc, name.as_slice())?;
+    let mut clock = StoppedClock::at(moment);
+    let mut sink = MemorySink::new(alloc, usize::MAX, None);
+    match answer(alloc, tables, &mut clock, command.as_slice(), &mut sink) {
+        Ok(_) if !is_error(sink.written()) => saved.add(name.as_slice(), sink.written()),
+        _ => Err(NoMemory),
+    }
+}
+
+/// What tables hold at a moment.
+fn text_of<T: Table, R: StartRuntime>(
+    alloc: Global,
+    tables: &mut [SeatedTable<'_, T, R>],
+    moment: u64,
+) -> Result<Vec<u8>, NoMemory>
+    requires { moment < 2 ^ 62 }
+{
+    let mut saved = Saved::new(alloc)?;
+    for place in 0..tables.len() {
+        save_one(alloc, tables, place, moment, &mut saved)?;
+    }
+    saved.into_text()
+}
+
+/// Writes a file anew, whole, as it is to lie on the disk.
+fn write_whole<R: StartRuntime>(rt: &R, path: &str, text: &[u8]) -> io::Result<()> {
+    let mut options = OpenOptions::new();
+    options
+        .write(true)
+        .create(true)
+        .truncate(true)
+        .mode(SAVED_MODE);
+    let mut file = options.open(rt, path)?;
+    file.write_all(text)?;
+    file.sync_all()
+}
+
+/// Writes a text to a new file beside one of this path, whose place it then takes. Where that fails, the old one stays.
+fn replace_file<R: StartRuntime>(alloc: Global, rt: &R, path: &str, text: &[u8]) -> io::Result<()> {
+    let beside = format!(in alloc; "{path}.new")?;
+    match write_whole(rt, &beside, text) {
+        Ok(()) => fs::rename(rt, &beside, path),
+        Err(reason) => {
+            let _ = fs::remove_file(rt, &beside);
+            Err(reason)
+        }
+    }
+}
+
+/// Writes what the tables hold to a file, by one seat of each table. The seats that come back, and whether the file is written; where
+/// it isn't, that is said on standard error. Where memory was short for the seats, none come back.
+pub(crate) fn save_all<T: Table, R: StartRuntime>(
+    alloc: Global,
+    rt: &R,
+    setup: &Setup,
+    tables: &[Shards<T>],
+    seats: Vec<Seat>,
+    start: Instant,
+    path: &str,
+) -> io::Result<(Vec<Seat>, bool)> {
+    let moment = RunningClock::new(rt, start).now();
+    let Ok(mut seated) = seat_all(alloc, rt, setup, tables, seats) else {
+        say_no_memory(rt)?;
+        return Ok((Vec::new(alloc), false));
+    };
+    let is_saved = match text_of(alloc, seated.as_mut_slice(), moment) {
+        Ok(text) => match replace_file(alloc, rt, path, text.as_slice()) {
+            Ok(()) => {
+                info!(rt; "saved to {path}");
+                true
+            }
+            Err(reason) => {
+                eprintln!(rt; "stickd: {path} can't be written: {reason}")?;
+                false
+            }
+        },
+        Err(_) => {
+            say_no_memory(rt)?;
+            false
+        }
+    };
+    let seats = seats_of(alloc, seated).unwrap_or(Vec::new(alloc));
+    Ok((seats, is_saved))
+}
