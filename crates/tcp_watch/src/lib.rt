@@ -31,6 +31,7 @@ pub use handed::{FIRST_HANDED, Handed, read_handed};
 pub use metrics::MetricsService;
 pub use notifier::Notifier;
 pub use notify_address::{NotifyAddress, read_address};
+pub use pending::{is_stop_blocked, is_stop_pending};
 pub use process_status::ProcessStatus;
 pub use program::{Program, Shutdown};
 pub use rhythm::Rhythm;

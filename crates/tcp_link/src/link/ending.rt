@@ -56,7 +56,7 @@ impl Link {
     pub fn connect_error(&self) -> Option<u32>
         ensures accepted { must_be_accepted self.now ≡ true → IsNone result }
     {
-        if self.is_accepted || self.has_passed() {
+        if self.has_passed() || self.is_accepted {
             return None;
         }
         self.server.error()
