@@ -38,6 +38,7 @@ complete -c stickd -n '__stickd_at replay' -l shards -x -d 'In how many parts ea
 complete -c stickd -n '__stickd_at replay' -l purge -x -d 'How many of its oldest entries a full table removes for a new one, 1 to 1024 [default: 1]'
 complete -c stickd -n '__stickd_at replay' -l ipv4-prefix -x -d 'How many of an IPv4 source\'s first bits count where it is a key, 1 to 32 [default: 32]'
 complete -c stickd -n '__stickd_at replay' -l ipv6-prefix -x -d 'How many of an IPv6 source\'s first bits count where it is a key, 1 to 128 [default: 128]'
+complete -c stickd -n '__stickd_at replay' -l load -r -F -d 'First make the entries of FILE, as \'stickd ctl save\' and --save write them'
 complete -c stickd -n '__stickd_at replay' -s h -l help -d 'Print help'
 complete -c stickd -n '__stickd_at replay' -F
 
@@ -48,6 +49,8 @@ complete -c stickd -n '__stickd_at run' -l shards -x -d 'In how many parts each 
 complete -c stickd -n '__stickd_at run' -l purge -x -d 'How many of its oldest entries a full table removes for a new one, 1 to 1024 [default: 1]'
 complete -c stickd -n '__stickd_at run' -l ipv4-prefix -x -d 'How many of an IPv4 source\'s first bits count where it is a key, 1 to 32 [default: 32]'
 complete -c stickd -n '__stickd_at run' -l ipv6-prefix -x -d 'How many of an IPv6 source\'s first bits count where it is a key, 1 to 128 [default: 128]'
+complete -c stickd -n '__stickd_at run' -l load -r -F -d 'First make the entries of FILE, as \'stickd ctl save\' and --save write them'
+complete -c stickd -n '__stickd_at run' -l save -r -F -d 'Write what the tables hold to FILE at an orderly end [default: nowhere]'
 complete -c stickd -n '__stickd_at run' -l connections -x -d 'How many connections are open at once at most, on all threads together [default: 10000]'
 complete -c stickd -n '__stickd_at run' -l backlog -x -d 'How many connections may wait to be accepted [default: as --connections]'
 complete -c stickd -n '__stickd_at run' -l timeout-connect -x -d 'How long a server may take to accept a connection, as 1500ms, 5s or 10m [default: 5s]'

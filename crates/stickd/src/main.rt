@@ -30,13 +30,14 @@ use stickd_input::{
     read_command_line, read_file, read_keeping, read_served,
 };
 use stickd_script::{BadLines, FaultKind, ReplayFault, Stopped, replay_loaded, replay_script};
-use tcp_proxy::{Plan, StartRuntime, run_pooled};
+use tcp_proxy::{Ahead, Later, Plan, StartRuntime, run_pooled};
 use tcp_watch::read_surroundings;
 
 /// The status of a bad command line.
 const BAD_COMMAND_LINE: u8 = 2;
 
 fn main(rt: HostRuntime) -> ExitCode {
+    let rt = Later::new(rt);
     let words = collect_words(&rt);
     match run(&rt, words) {
         Ok(status) => status,
@@ -56,7 +57,7 @@ enum WordsFault {
 }
 
 /// The words of the command line, the program's name first.
-fn collect_words(rt: &HostRuntime) -> Result<Vec<String>, WordsFault> {
+fn collect_words(rt: &Later<HostRuntime>) -> Result<Vec<String>, WordsFault> {
     match env::args(rt) {
         Ok(words) => match words.collect(rt.alloc()) {
             Ok(words) => Ok(words),
@@ -76,6 +77,7 @@ fn run<
         + Clock
         + Log
         + Sync
+        + Ahead
         + RandomSource
         + Files
         + Env

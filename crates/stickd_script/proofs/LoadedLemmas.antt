@@ -2,7 +2,7 @@
 use Rattle.std.proofs.Common.{◌≡◌, ℕ, refl, sym, ap, subst, Some, None, List, [], ◌∷◌, inl, inr}
 use Rattle.rule_model.specs.declared.sections.Setup.{Setup}
 use Rattle.admit_drive.specs.Tables.{CanOpen, TableState}
-use Rattle.table_loading.specs.Lines.{Fault, Line, Passed, Makes, Wrong, line_of}
+use Rattle.table_loading.specs.Lines.{Fault, NoMemory, Line, Passed, Makes, Wrong, line_of}
 use Rattle.table_loading.specs.Loading.{Commands as Made, FailsAt, IsAnswered, Loads, LoadsAll, lines_of, moment_of}
 use Rattle.stickd_script.specs.BadLines.{Noting, beginning, noting_at}
 use Rattle.stickd_script.specs.Guests.{IsServed, ScriptState}
@@ -20,14 +20,21 @@ said : (moment : ℕ) (command text : List ℕ) (state : ScriptState) (tables : 
     → LineSays (Commands moment command) state text (record state { tables = tables })
 said moment command text state tables answered = (answered, refl)
 
+answered_served : (moment : ℕ) (command text : List ℕ) (state : ScriptState) (tables : List TableState) → IsAnswered answering refusing moment state.tables command text tables → IsServed state → IsServed (record state { tables = tables })
+answered_served moment command text state tables answered are = commands_served moment command state text (record state { tables = tables }) (said moment command text state tables answered) are
+
+no_fault : {X : Type 0} (fault : Fault) → None ≡ Some fault → X
+no_fault fault is = cc
+
 made_served : (moment : ℕ) (command : List ℕ) (state : ScriptState) (tables : List TableState) → Made answering refusing moment state.tables command None tables → IsServed state → IsServed (record state { tables = tables })
-made_served moment command state tables (inl answered) are =
-    commands_served moment command state answered.0 (record state { tables = tables }) (said moment command answered.0 state tables answered.1) are
-made_served moment command state tables (inr stopped) are = cc
+made_served moment command state tables made are = elim made [
+  | inl answered ↦ answered_served moment command answered.0 state tables answered.1 are
+  | inr stopped ↦ no_fault NoMemory stopped.1
+]
 
 line_loaded : (line : Line) (state : ScriptState) (tables : List TableState) → Loads answering refusing state.tables line None tables → IsServed state → IsServed (record state { tables = tables })
 line_loaded Passed state tables loads are = same_tables state tables loads.1 are
-line_loaded (Wrong fault) state tables loads are = cc
+line_loaded (Wrong fault) state tables loads are = no_fault fault loads.0
 line_loaded (Makes left name command) state tables loads are = made_served (moment_of left name state.tables) command state tables loads are
 
 all_loaded : (lines : List (List ℕ)) (state : ScriptState) (tables : List TableState) → LoadsAll answering refusing state.tables lines tables → IsServed state → IsServed (record state { tables = tables })

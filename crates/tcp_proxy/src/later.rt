@@ -1,44 +1,58 @@
-//! A runtime whose clock is ahead of the system's, so that an entry may be older than that; `running` runs the proxy by it.
-
-ghost use Rattle.std.specs.Prelude.{◌≤◌, IfOk, length};
+//! A runtime whose clock is ahead of the system's, so that an entry may be older than that; `stickd` makes it, and `running` sets it.
 
 use log::kv::Source;
 use log::span::Spans;
 use log::{Log, Metadata as LogMetadata, Record};
 use std::alloc::{Allocator, Global};
+use std::env::FillError;
 use std::fmt::Display;
 use std::fs::{Metadata, OpenOptions, Permissions};
 use std::io;
+use std::io::Lines;
 use std::net::{Net, SocketAddr, UdpSocket};
 use std::os::fd::{BorrowedFd, OwnedFd};
 use std::os::unix::net::{self, UnixStream};
 use std::path::PathBuf;
 use std::random::RandomSource;
-use std::rt::Files;
+use std::rt::{Env, Files};
 use std::sync::Wait;
+use std::sync::atomic::{AtomicU64, Ordering};
 use std::thread::Threads;
 use std::time::{Clock, Duration};
 
-/// A runtime whose monotonic clock is so much ahead of the system's. All else is the runtime's own.
-#[derive(Drop)]
-pub(crate) struct Later<'a, R> {
-    rt: &'a R,
-    ahead: Duration,
+/// A clock that can be set ahead of the system's.
+pub trait Ahead {
+    /// Sets it so many ms ahead of the system's.
+    fn set_ahead(&self, ahead: u64);
 }
 
-impl<'a, R> Later<'a, R> {
-    /// The runtime, so many ms ahead.
-    pub fn new(rt: &'a R, ahead: u64) -> Later<'a, R> {
+/// A runtime whose monotonic clock can be set ahead of the system's. All else is the runtime's own.
+#[derive(Drop)]
+pub struct Later<R> {
+    rt: R,
+    ahead: AtomicU64,
+}
+
+impl<R> Later<R> {
+    /// The runtime, its clock not ahead yet.
+    pub fn new(rt: R) -> Later<R> {
         Later {
             rt,
-            ahead: Duration::from_millis(ahead),
+            ahead: AtomicU64::new(0),
         }
     }
 }
 
-impl<'a, R: Clock> Clock for Later<'a, R> {
+impl<R> Ahead for Later<R> {
+    fn set_ahead(&self, ahead: u64) {
+        self.ahead.store(ahead, Ordering::SeqCst);
+    }
+}
+
+impl<R: Clock> Clock for Later<R> {
     fn monotonic(&self) -> io::Result<Duration> {
-        Ok(self.rt.monotonic()?.saturating_add(self.ahead))
+        let ahead = Duration::from_millis(self.ahead.load(Ordering::SeqCst));
+        Ok(self.rt.monotonic()?.saturating_add(ahead))
     }
 
     fn since_1970(&self) -> io::Result<Duration> {
@@ -50,11 +64,11 @@ impl<'a, R: Clock> Clock for Later<'a, R> {
     }
 }
 
-impl<'a, R: Wait> Wait for Later<'a, R> {}
+impl<R: Wait> Wait for Later<R> {}
 
-impl<'a, R: Threads> Threads for Later<'a, R> {}
+impl<R: Threads> Threads for Later<R> {}
 
-impl<'a, R: AllocGlobal> Alloc for Later<'a, R> {
+impl<R: AllocGlobal> Alloc for Later<R> {
     type A = Global;
 
     fn alloc(&self) -> Global {
@@ -62,7 +76,7 @@ impl<'a, R: AllocGlobal> Alloc for Later<'a, R> {
     }
 }
 
-impl<'a, R: Print> Print for Later<'a, R> {
+impl<R: Print> Print for Later<R> {
     fn print<D: Display + Drop>(&self, value: D) -> io::Result<()> {
         self.rt.print(value)
     }
@@ -76,7 +90,7 @@ impl<'a, R: Print> Print for Later<'a, R> {
     }
 }
 
-impl<'a, R: Eprint> Eprint for Later<'a, R> {
+impl<R: Eprint> Eprint for Later<R> {
     fn eprint<D: Display + Drop>(&self, value: D) -> io::Result<()> {
         self.rt.eprint(value)
     }
@@ -86,7 +100,41 @@ impl<'a, R: Eprint> Eprint for Later<'a, R> {
     }
 }
 
-impl<'a, R: Log> Log for Later<'a, R> {
+impl<R: Input> Input for Later<R> {
+    type Reader = R::Reader;
+
+    fn read_line<A: Allocator + Clone>(&self, buf: &mut String<A>) -> io::Result<usize> {
+        self.rt.read_line(buf)
+    }
+
+    fn lines<A: Allocator>(&self, alloc: A) -> Lines<R::Reader, A> {
+        self.rt.lines(alloc)
+    }
+
+    fn reader(&self) -> R::Reader {
+        self.rt.reader()
+    }
+}
+
+impl<R: Env> Env for Later<R> {
+    fn arg(&self, i: usize, buf: &mut [u8]) -> Result<usize, FillError> {
+        self.rt.arg(i, buf)
+    }
+
+    fn var(&self, name: &str, buf: &mut [u8]) -> Result<usize, FillError> {
+        self.rt.var(name, buf)
+    }
+
+    fn var_at(&self, i: usize, buf: &mut [u8]) -> Result<usize, FillError> {
+        self.rt.var_at(i, buf)
+    }
+
+    fn current_dir(&self, buf: &mut [u8]) -> io::Result<usize> {
+        self.rt.current_dir(buf)
+    }
+}
+
+impl<R: Log> Log for Later<R> {
     fn enabled(&self, metadata: &LogMetadata<'_>) -> bool {
         self.rt.enabled(metadata)
     }
@@ -104,13 +152,13 @@ impl<'a, R: Log> Log for Later<'a, R> {
     }
 }
 
-impl<'a, R: RandomSource> RandomSource for Later<'a, R> {
+impl<R: RandomSource> RandomSource for Later<R> {
     fn fill_bytes(&self, buf: &mut [u8]) -> io::Result<()> {
         self.rt.fill_bytes(buf)
     }
 }
 
-impl<'a, R: Files> Files for Later<'a, R> {
+impl<R: Files> Files for Later<R> {
     type File = R::File;
 
     type Dir = R::Dir;
@@ -192,7 +240,7 @@ impl<'a, R: Files> Files for Later<'a, R> {
     }
 }
 
-impl<'a, R: Net> Net for Later<'a, R> {
+impl<R: Net> Net for Later<R> {
     type Stream = R::Stream;
 
     type Listener = R::Listener;

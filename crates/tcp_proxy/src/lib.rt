@@ -20,6 +20,7 @@ mod shared;
 mod sockets;
 mod timetable;
 
+pub use later::{Ahead, Later};
 pub use plan::{
     About, KeepPlan, METRICS_CLIENTS, Plan, STATS_CLIENTS, SocketPlan, StatsPlan, WatchPlan,
 };

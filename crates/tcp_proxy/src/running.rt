@@ -7,7 +7,7 @@ ghost use Rattle.tcp_relay.specs.Serving.{AreSeats, AreTablesOf};
 use crate::ending::{Left, give_up_all, settle_all};
 use crate::instruments::Instruments;
 use crate::keeping::{load_tables, longest_life, save_all};
-use crate::later::Later;
+use crate::later::Ahead;
 use crate::opening::{OpenTables, open_tables};
 use crate::plan::{Duties, Plan};
 use crate::service_threads::{Duty, NOBODY, ServiceThread};
@@ -153,6 +153,7 @@ fn start<T: Table + Send, R: StartRuntime + Print>(
         report(rt, FaultKind::NoMemory)?;
         return Ok(false);
     };
+    rt.set_ahead(begins_at(setup, plan));
     let Some(mut sockets) = bind_sockets(alloc, rt, bind, plan)? else {
         return Ok(false);
     };
@@ -315,8 +316,7 @@ pub fn run_pooled<R: StartRuntime + RandomSource + Print>(
     requires threads { (1 ≤ plan.threads) × (plan.threads ≤ 64) }
     requires clients { (1 ≤ plan.socket.clients) × (plan.socket.clients ≤ 64) }
 {
-    let later = Later::new(rt, begins_at(setup, plan));
-    run_proxy::<StickTable, Later<'_, R>>(alloc, &later, setup, plan)
+    run_proxy::<StickTable, R>(alloc, rt, setup, plan)
 }
 
 /// Serves, removes the sockets' files, and then settles the tables.

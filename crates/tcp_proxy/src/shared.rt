@@ -3,6 +3,7 @@
 ghost use Rattle.std.specs.Prelude.{◌≡◌, ◌≤◌, is_some, true};
 ghost use Rattle.tcp_relay.specs.Serving.{AreTablesOf};
 
+use crate::later::Ahead;
 use crate::running_program::Running;
 use log::Log;
 use rule_model::Setup;
@@ -30,10 +31,11 @@ impl<
     R: Net<Listener = TcpListener, Stream = TcpStream> + Threads + Wait + Clock + Log + Sync,
 > ProxyRuntime for R {}
 
-/// What the proxy asks of the system while it starts and ends, beside what its threads ask: files, memory and standard error.
-pub trait StartRuntime: ProxyRuntime + Files + AllocGlobal + Eprint {}
+/// What the proxy asks of the system while it starts and ends, beside what its threads ask: files, memory and standard error, and
+/// that the clock can be set ahead.
+pub trait StartRuntime: ProxyRuntime + Ahead + Files + AllocGlobal + Eprint {}
 
-impl<R: ProxyRuntime + Files + AllocGlobal + Eprint> StartRuntime for R {}
+impl<R: ProxyRuntime + Ahead + Files + AllocGlobal + Eprint> StartRuntime for R {}
 
 /// What the threads of the proxy share, each by reference: the tables of its setup, its sockets, and whether it stops.
 #[derive(Drop)]

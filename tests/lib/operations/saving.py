@@ -103,8 +103,8 @@ def stopped(proxy):
 
 
 def a_restart_keeps_entries():
-    """Entries are there behind a stop and a start, with less time left than before and more than a minute less, in two shards each
-    way; the file is the program's user's alone; what a connection held is there too."""
+    """Entries in two shards are there behind a stop and a start, one that a connection held among them, with the time that they had
+    left, but for a minute at most. The file is its owner's alone, and the uptime begins anew."""
     with tempfile.TemporaryDirectory() as room, Server(greets) as server:
         path = os.path.join(room, 'saved')
         open(path, 'w', encoding='utf-8').close()
@@ -177,9 +177,8 @@ def listings_of(text):
 
 
 def random_tables_are_the_same():
-    """Of 600 random tables what was saved and loaded shows the same rows, but for rates, with the same time left; and then the same
-    entries go first as each is filled: with expire, entries refreshed in the same ms aside, and in one shard or three, purging 1, 2
-    or 8 at once."""
+    """Of 600 random tables with expire, no two entries of which were refreshed in the same ms, what was saved and loaded shows the
+    same rows with the same time left. As each is then filled, in one shard or three, purging 1, 2 or 8 at once, the same entries go."""
     seed = random.randrange(1 << 30)
     draw = random.Random(seed)
     for turn in range(20):

@@ -21,7 +21,7 @@ def unit_of(root, prefix):
     unit = content(root, prefix, 'lib/systemd/system/stickd.service').decode().replace('\\\n', ' ')
     program = os.path.join('/', prefix, 'bin/stickd')
     started = re.findall(r'^(?:ExecStart|ExecStartPre|ExecStop)=(\S+)', unit, re.MULTILINE)
-    same('programs of the unit', started, [program, program, program])
+    same('programs of the unit', started, [program, '/usr/bin/touch', program, program])
     same('paths of the unit', set(re.findall(r'/\S*bin/stickd\b', unit)), {program})
     assert re.search(r'^DynamicUser=yes$', unit, re.MULTILINE), 'the unit has no user of its own'
     return [re.search(rf'^{name}=(.*)', unit, re.MULTILINE)[1].split() for name in ('ExecStart', 'ExecStop')]
@@ -91,11 +91,14 @@ def serves_one(root, prefix):
     words, stop = unit_of(root, prefix)
     same('what the unit starts', words[1:5], ['run', f'/{CONFIGURATION}', '--socket', '/run/stickd/stickd.sock'])
     # A socket's path has at most 107 bytes.
-    address, stats = os.path.join(room, 's'), os.path.join(room, 't')
-    words, stop = ([word.replace('/run/stickd/stats.sock', stats) for word in of] for of in (words, stop))
+    address, stats, saved = (os.path.join(room, name) for name in 'stv')
+    put(saved, '')
+    words, stop = ([word.replace('/run/stickd/stats.sock', stats).replace('/var/lib/stickd/tables.saved', saved) for word in of]
+                   for of in (words, stop))
     other = {'user': NOBODY, 'group': NOBODY, 'extra_groups': []} if os.geteuid() == 0 else {}
     if other:
         os.chown(room, NOBODY, NOBODY)
+        os.chown(saved, NOBODY, NOBODY)
     proxy = subprocess.Popen([os.path.join(root, words[0][1:]), 'run', os.path.join(root, CONFIGURATION), '--socket', address,
                               *words[5:]], stdin=subprocess.DEVNULL, stdout=subprocess.PIPE, stderr=subprocess.PIPE, text=True,
                              umask=0o077, **other)
@@ -115,6 +118,7 @@ def serves_one(root, prefix):
         proxy.kill()
         proxy.communicate(timeout=PATIENCE)
     same('status', proxy.returncode, 0)
+    assert re.search(r'^\d+ cmd set table www key 127\.0\.0\.1$', content(saved).decode(), re.MULTILINE), content(saved)
     assert re.fullmatch(r'settled www: \d+ calls, 0 references\n', written), (written, said)
 
 
