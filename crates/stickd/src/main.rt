@@ -14,7 +14,7 @@ use byte_ports::{StreamSink, StreamSource};
 use clap::ArgMatches;
 use log::Log;
 use rule_model::{Config, Setup};
-use run_plan::{BadWord, read_binds, read_drain, read_plan};
+use run_plan::{BadWord, read_binds, read_drain, read_plan, with_frontend};
 use std::alloc::Global;
 use std::net::{Net, TcpListener, TcpStream};
 use std::process::ExitCode;
@@ -357,7 +357,7 @@ fn serve_config<'a, R: StartRuntime + RandomSource + Print>(
     rt: &R,
     config: &'a Config,
     keeping: Keeping,
-    mut plan: Plan<'a>,
+    plan: Plan<'a>,
 ) -> io::Result<ExitCode>
     requires tables { AreTables config.now.sections }
     requires shards { (1 ≤ keeping.shards) × (keeping.shards ≤ 64) }
@@ -369,7 +369,8 @@ fn serve_config<'a, R: StartRuntime + RandomSource + Print>(
         return Ok(ExitCode::FAILURE);
     };
     // A name is made of ASCII letters, digits and a few signs.
-    plan.watch.about.frontend = str::from_utf8(frontend_name(config)).unwrap_or("");
+    let frontend = str::from_utf8(frontend_name(config)).unwrap_or("");
+    let plan = with_frontend(plan, frontend);
     let is_done = run_pooled(rt.alloc(), rt, &setup, plan)?;
     Ok(status_of(is_done))
 }

@@ -243,3 +243,20 @@ pub fn read_plan<'a>(
         roll_at: u64::from(arguments.get_one::<u32>("roll-at").unwrap_or(65_536)),
     })
 }
+
+/// The plan of a run that is told of as a frontend of this name.
+pub(crate) fn with_frontend<'a>(plan: Plan<'a>, frontend: &'a str) -> Plan<'a>
+    ensures frontend { result.watch.about.frontend.now ≡ frontend.now }
+    ensures threads { result.threads ≡ plan.entry.threads }
+    ensures socket { result.socket ≡ plan.entry.socket }
+{
+    let about = About {
+        frontend,
+        ..plan.watch.about
+    };
+    let watch = WatchPlan {
+        about,
+        ..plan.watch
+    };
+    Plan { watch, ..plan }
+}
