@@ -30,7 +30,7 @@ use stickd_input::{
     read_command_line, read_file, read_keeping, read_served,
 };
 use stickd_script::{BadLines, FaultKind, ReplayFault, Stopped, replay_loaded, replay_script};
-use tcp_proxy::{Ahead, Later, Plan, StartRuntime, run_pooled};
+use tcp_proxy::{Ahead, Later, Plan, ProxyRuntime, run_pooled};
 use tcp_watch::read_surroundings;
 
 /// The status of a bad command line.
@@ -68,7 +68,7 @@ fn collect_words(rt: &Later<HostRuntime>) -> Result<Vec<String>, WordsFault> {
     }
 }
 
-/// Does what the command line asks, and answers the status. An error is one of writing. The bounds are a `StartRuntime`'s and
+/// Does what the command line asks, and answers the status. An error is one of writing. The bounds are a `ProxyRuntime`'s and
 /// more, one by one: no proof covers that trait at the runtime itself.
 fn run<
     R: Net<Listener = TcpListener, Stream = TcpStream>
@@ -107,10 +107,9 @@ fn run<
 }
 
 /// Does what a command asks. The status is 1 where that fails, which is then said on standard error.
-fn run_command<R: StartRuntime + RandomSource + Env + Input + Print>(
-    rt: &R,
-    matches: &ArgMatches<'_>,
-) -> io::Result<ExitCode> {
+fn run_command<
+    R: ProxyRuntime + Ahead + Files + AllocGlobal + Eprint + RandomSource + Env + Input + Print,
+>(rt: &R, matches: &ArgMatches<'_>) -> io::Result<ExitCode> {
     let done = match matches.subcommand() {
         Some(("adopt", arguments)) => return adopt_named(rt, arguments),
         Some(("check", arguments)) => check(rt, arguments)?,
@@ -333,7 +332,7 @@ fn report_bad_lines<R: Eprint>(rt: &R, bad: &BadLines) -> io::Result<()> {
 }
 
 /// Runs the proxy of a configuration, each of its tables kept as the command line says.
-fn serve<R: StartRuntime + RandomSource + Env + Print>(
+fn serve<R: ProxyRuntime + Ahead + Files + AllocGlobal + Eprint + RandomSource + Env + Print>(
     rt: &R,
     arguments: &ArgMatches<'_>,
 ) -> io::Result<ExitCode> {
@@ -353,7 +352,7 @@ fn serve<R: StartRuntime + RandomSource + Env + Print>(
 }
 
 /// Runs the proxy of a configuration that was read.
-fn serve_config<'a, R: StartRuntime + RandomSource + Print>(
+fn serve_config<'a, R: ProxyRuntime + Ahead + Files + AllocGlobal + Eprint + RandomSource + Print>(
     rt: &R,
     config: &'a Config,
     keeping: Keeping,

@@ -1,14 +1,16 @@
 //! What a run counts by, is drained by, and tells others by; `running` makes it before the threads start.
 
+use crate::later::Ahead;
 use crate::plan::Plan;
 use crate::reporting::Reports;
 use crate::running_program::{Board, Running};
-use crate::shared::StartRuntime;
+use crate::shared::ProxyRuntime;
 use crate::sockets::Sockets;
 use base_sequence::NoMemory;
 use log::{Log, warn};
 use rule_model::Setup;
 use std::alloc::Global;
+use std::rt::Files;
 use std::{fs, str};
 use tcp_relay::{Control, Drain, socket_address};
 use tcp_stats::{Cells, Gauge, LastTimes};
@@ -54,7 +56,10 @@ fn lasts_where(is_watched: bool) -> Option<LastTimes> {
 }
 
 /// The socket to the service manager, where it takes messages. Where there is none to be had, that is said.
-fn open_notifier<R: StartRuntime>(rt: &R, plan: Plan<'_>) -> Option<Notifier> {
+fn open_notifier<R: ProxyRuntime + Ahead + Files + AllocGlobal + Eprint>(
+    rt: &R,
+    plan: Plan<'_>,
+) -> Option<Notifier> {
     match Notifier::open(plan.manager.notify?) {
         Ok(notifier) => Some(notifier),
         Err(reason) => {
@@ -75,7 +80,10 @@ fn open_status() -> Option<ProcessStatus> {
 }
 
 /// The name of the machine. Empty where the system doesn't say it.
-fn read_node<R: StartRuntime>(alloc: Global, rt: &R) -> Vec<u8> {
+fn read_node<R: ProxyRuntime + Ahead + Files + AllocGlobal + Eprint>(
+    alloc: Global,
+    rt: &R,
+) -> Vec<u8> {
     match fs::read(rt, HOSTNAME) {
         Ok(name) => name,
         Err(_) => Vec::new(alloc),
@@ -95,7 +103,7 @@ fn server_text(alloc: Global, setup: &Setup) -> Result<String, NoMemory> {
 
 impl Instruments {
     /// Those of a run.
-    pub fn new<R: StartRuntime>(
+    pub fn new<R: ProxyRuntime + Ahead + Files + AllocGlobal + Eprint>(
         alloc: Global,
         rt: &R,
         setup: &Setup,

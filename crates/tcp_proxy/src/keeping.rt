@@ -5,8 +5,9 @@ ghost use Rattle.std.specs.Prelude.{◌≡◌, ◌<◌, ◌^◌, map};
 ghost use Rattle.rule_model.specs.declared.sections.NamedSpec.{NamedSpec as ItsSpec};
 ghost use Rattle.table_loading.specs.Lives as spec;
 
+use crate::later::Ahead;
 use crate::service_threads::SeatedTable;
-use crate::shared::StartRuntime;
+use crate::shared::ProxyRuntime;
 use base_clock::{Clock, RunningClock, StoppedClock};
 use base_sequence::NoMemory;
 use byte_ports::MemorySink;
@@ -18,6 +19,7 @@ use std::alloc::Global;
 use std::fs::{self, OpenFile, OpenOptions};
 use std::io::{self, Write};
 use std::os::unix::fs::OpenOptionsExt;
+use std::rt::Files;
 use std::time::Instant;
 use stick_table::Table;
 use stickd_ctl::{Saved, is_error};
@@ -78,7 +80,7 @@ fn say_no_memory<R: Eprint>(rt: &R) -> io::Result<()> {
 
 /// Makes the entries that a file keeps, by one seat of each table, which come back. None where the file can't be read or isn't what
 /// was saved, which is said on standard error.
-pub(crate) fn load_tables<T: Table, R: StartRuntime>(
+pub(crate) fn load_tables<T: Table, R: ProxyRuntime + Ahead + Files + AllocGlobal + Eprint>(
     alloc: Global,
     rt: &R,
     setup: &Setup,
@@ -119,7 +121,7 @@ fn show_command(alloc: Global, name: &[u8]) -> Result<Vec<u8>, NoMemory> {
 }
 
 /// Adds what the table of a place holds, at a moment.
-fn save_one<T: Table, R: StartRuntime>(
+fn save_one<T: Table, R: ProxyRuntime + Ahead + Files + AllocGlobal + Eprint>(
     alloc: Global,
     tables: &mut [SeatedTable<'_, T, R>],
     place: usize,
@@ -142,7 +144,7 @@ fn save_one<T: Table, R: StartRuntime>(
 }
 
 /// What tables hold at a moment.
-fn text_of<T: Table, R: StartRuntime>(
+fn text_of<T: Table, R: ProxyRuntime + Ahead + Files + AllocGlobal + Eprint>(
     alloc: Global,
     tables: &mut [SeatedTable<'_, T, R>],
     moment: u64,
@@ -157,7 +159,11 @@ fn text_of<T: Table, R: StartRuntime>(
 }
 
 /// Writes a file anew, whole, as it is to lie on the disk.
-fn write_whole<R: StartRuntime>(rt: &R, path: &str, text: &[u8]) -> io::Result<()> {
+fn write_whole<R: ProxyRuntime + Ahead + Files + AllocGlobal + Eprint>(
+    rt: &R,
+    path: &str,
+    text: &[u8],
+) -> io::Result<()> {
     let mut options = OpenOptions::new();
     options
         .write(true)
@@ -170,7 +176,12 @@ fn write_whole<R: StartRuntime>(rt: &R, path: &str, text: &[u8]) -> io::Result<(
 }
 
 /// Writes a text to a new file beside one of this path, whose place it then takes. Where that fails, the old one stays.
-fn replace_file<R: StartRuntime>(alloc: Global, rt: &R, path: &str, text: &[u8]) -> io::Result<()> {
+fn replace_file<R: ProxyRuntime + Ahead + Files + AllocGlobal + Eprint>(
+    alloc: Global,
+    rt: &R,
+    path: &str,
+    text: &[u8],
+) -> io::Result<()> {
     let beside = format!(in alloc; "{path}.new")?;
     match write_whole(rt, &beside, text) {
         Ok(()) => fs::rename(rt, &beside, path),
@@ -183,7 +194,7 @@ fn replace_file<R: StartRuntime>(alloc: Global, rt: &R, path: &str, text: &[u8])
 
 /// Writes what the tables hold to a file, by one seat of each table. The seats that come back, and whether the file is written; where
 /// it isn't, that is said on standard error. Where memory was short for the seats, none come back.
-pub(crate) fn save_all<T: Table, R: StartRuntime>(
+pub(crate) fn save_all<T: Table, R: ProxyRuntime + Ahead + Files + AllocGlobal + Eprint>(
     alloc: Global,
     rt: &R,
     setup: &Setup,

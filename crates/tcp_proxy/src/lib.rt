@@ -25,4 +25,4 @@ pub use plan::{
     About, KeepPlan, METRICS_CLIENTS, Plan, STATS_CLIENTS, SocketPlan, StatsPlan, WatchPlan,
 };
 pub use running::{run_pooled, run_proxy};
-pub use shared::{ProxyRuntime, StartRuntime};
+pub use shared::ProxyRuntime;

@@ -4,14 +4,16 @@ ghost use Rattle.std.specs.Prelude.{◌≡◌};
 ghost use Rattle.tcp_proxy.specs.Backlog.{fewer_than};
 
 use crate::binding::{BindFault, say_no_memory, say_unbound};
+use crate::later::Ahead;
 use crate::plan::Plan;
-use crate::shared::StartRuntime;
+use crate::shared::ProxyRuntime;
 use base_lines::read_number;
 use log::{Log, warn};
 use rule_addresses::Endpoint;
 use std::alloc::Global;
 use std::net::TcpListener;
 use std::os::fd::AsRawFd;
+use std::rt::Files;
 use std::{fs, io};
 use tcp_relay::{Listener, socket_address};
 use tcp_watch::take_tcp;
@@ -20,7 +22,7 @@ use tcp_watch::take_tcp;
 const MOST_WAITING: &str = "/proc/sys/net/core/somaxconn";
 
 /// The listeners of a `bind` and of those that the plan has besides. That of the `bind` may be handed over.
-pub(crate) fn bind_listeners<R: StartRuntime>(
+pub(crate) fn bind_listeners<R: ProxyRuntime + Ahead + Files + AllocGlobal + Eprint>(
     alloc: Global,
     rt: &R,
     bind: Endpoint,
@@ -50,7 +52,7 @@ pub(crate) fn bind_listeners<R: StartRuntime>(
 }
 
 /// Binds a listener.
-fn bind_one<R: StartRuntime>(
+fn bind_one<R: ProxyRuntime + Ahead + Files + AllocGlobal + Eprint>(
     rt: &R,
     bind: Endpoint,
     plan: Plan<'_>,
@@ -62,7 +64,7 @@ fn bind_one<R: StartRuntime>(
 }
 
 /// Takes the listener that the service manager hands over. A warning where it listens elsewhere than the `bind` says.
-fn take_handed<R: StartRuntime>(
+fn take_handed<R: ProxyRuntime + Ahead + Files + AllocGlobal + Eprint>(
     rt: &R,
     number: u32,
     bind: Endpoint,
@@ -83,7 +85,11 @@ fn take_handed<R: StartRuntime>(
 }
 
 /// The listener of a number that was handed over, whose clients are asked as the plan says whether they are still there.
-fn take_listener<R: StartRuntime>(rt: &R, number: u32, plan: Plan<'_>) -> io::Result<TcpListener> {
+fn take_listener<R: ProxyRuntime + Ahead + Files + AllocGlobal + Eprint>(
+    rt: &R,
+    number: u32,
+    plan: Plan<'_>,
+) -> io::Result<TcpListener> {
     let listener = take_tcp(number)?;
     if let Some(keepalive) = plan.limits.keepalive {
         keepalive.apply(rt, &listener)?;
@@ -103,7 +109,7 @@ fn listener_of(socket: TcpListener, bind: Endpoint) -> Listener
 
 /// A socket that listens, of whose clients so many may wait to be accepted as the plan says, and are asked as it says whether they are
 /// still there. std's own queue has 128 places; listening once more widens it.
-fn bind_listener<R: StartRuntime>(
+fn bind_listener<R: ProxyRuntime + Ahead + Files + AllocGlobal + Eprint>(
     rt: &R,
     bind: Endpoint,
     plan: Plan<'_>,
@@ -130,13 +136,15 @@ pub(crate) fn fewer_places(asked: u32, most: Option<u64>) -> Option<u64>
 }
 
 /// What the system says of how many connections wait at most. None where that can't be read.
-fn read_most_waiting<R: StartRuntime>(rt: &R) -> Option<u64> {
+fn read_most_waiting<R: ProxyRuntime + Ahead + Files + AllocGlobal + Eprint>(
+    rt: &R,
+) -> Option<u64> {
     let text = fs::read(rt, MOST_WAITING).ok()?;
     read_number(text.as_slice().trim_ascii())
 }
 
 /// Warns where the system lets fewer connections wait than were asked for.
-fn warn_of_backlog<R: StartRuntime>(rt: &R, backlog: u32) {
+fn warn_of_backlog<R: ProxyRuntime + Ahead + Files + AllocGlobal + Eprint>(rt: &R, backlog: u32) {
     if let Some(most) = fewer_places(backlog, read_most_waiting(rt)) {
         warn!(rt; "--backlog {backlog} is more than the system allows, which is {most}: sysctl net.core.somaxconn={backlog} allows it");
     }

@@ -12,7 +12,7 @@ use crate::opening::{OpenTables, open_tables};
 use crate::plan::{Duties, Plan};
 use crate::service_threads::{Duty, NOBODY, ServiceThread};
 use crate::serving::serve_all;
-use crate::shared::{Shared, StartRuntime};
+use crate::shared::{ProxyRuntime, Shared};
 use crate::sockets::{Sockets, bind_sockets};
 use base_sequence::NoMemory;
 use log::{Log, info};
@@ -23,6 +23,7 @@ use shard_book::Seat;
 use shard_locks::Shards;
 use std::alloc::Global;
 use std::random::RandomSource;
+use std::rt::Files;
 use std::sync::atomic::AtomicBool;
 use std::time::{Duration, Instant};
 use std::{io, mem};
@@ -85,12 +86,10 @@ fn report<R: Eprint>(rt: &R, kind: FaultKind) -> io::Result<()> {
 /// the connections of the plan have ended, or those that are open as it drains, and then settles the tables and prints what they come
 /// to; or where a thread can't wait for connections. Answers whether all went well; what didn't is said on standard
 /// error. An error is one of printing.
-pub fn run_proxy<T: Table + Send, R: StartRuntime + RandomSource + Print>(
-    alloc: Global,
-    rt: &R,
-    setup: &Setup,
-    plan: Plan<'_>,
-) -> io::Result<bool>
+pub fn run_proxy<
+    T: Table + Send,
+    R: ProxyRuntime + Ahead + Files + AllocGlobal + Eprint + RandomSource + Print,
+>(alloc: Global, rt: &R, setup: &Setup, plan: Plan<'_>) -> io::Result<bool>
     requires can_open { CanOpen setup.now }
     requires threads { (1 ≤ plan.threads) × (plan.threads ≤ 64) }
     requires clients { (1 ≤ plan.socket.clients) × (plan.socket.clients ≤ 64) }
@@ -120,7 +119,7 @@ pub fn run_proxy<T: Table + Send, R: StartRuntime + RandomSource + Print>(
 }
 
 /// Binds the sockets, says what may surprise, and serves by the tables that were opened.
-fn start<T: Table + Send, R: StartRuntime + Print>(
+fn start<T: Table + Send, R: ProxyRuntime + Ahead + Files + AllocGlobal + Eprint + Print>(
     alloc: Global,
     rt: &R,
     setup: &Setup,
@@ -188,7 +187,7 @@ fn earlier(start: Instant, by: u64) -> Instant {
 }
 
 /// Makes the entries of the plan's file, if it names one, by these seats, which come back. None where that can't be done, which is said.
-fn load_where<T: Table, R: StartRuntime>(
+fn load_where<T: Table, R: ProxyRuntime + Ahead + Files + AllocGlobal + Eprint>(
     alloc: Global,
     rt: &R,
     setup: &Setup,
@@ -204,7 +203,7 @@ fn load_where<T: Table, R: StartRuntime>(
 
 /// Writes what the tables hold to the plan's file, if it names one and serving ended well, by the seats of a thread that has ended.
 /// Answers whether nothing is left undone.
-fn save_where<T: Table, R: StartRuntime>(
+fn save_where<T: Table, R: ProxyRuntime + Ahead + Files + AllocGlobal + Eprint>(
     alloc: Global,
     rt: &R,
     setup: &Setup,
@@ -306,7 +305,7 @@ fn make_service_threads(
 }
 
 /// The same on pooled tables, of which an event costs the same whatever their size.
-pub fn run_pooled<R: StartRuntime + RandomSource + Print>(
+pub fn run_pooled<R: ProxyRuntime + Ahead + Files + AllocGlobal + Eprint + RandomSource + Print>(
     alloc: Global,
     rt: &R,
     setup: &Setup,
@@ -320,7 +319,10 @@ pub fn run_pooled<R: StartRuntime + RandomSource + Print>(
 }
 
 /// Serves, removes the sockets' files, and then settles the tables.
-fn serve_and_settle<T: Table + Send, R: StartRuntime + Print>(
+fn serve_and_settle<
+    T: Table + Send,
+    R: ProxyRuntime + Ahead + Files + AllocGlobal + Eprint + Print,
+>(
     alloc: Global,
     rt: &R,
     setup: &Setup,
@@ -387,7 +389,7 @@ fn log_clients<R: Log>(rt: &R, service_threads: &[ServiceThread]) {
 
 /// Says how serving ended, and settles the tables where it ended well: by their receipts where those were kept, else by counts and
 /// references.
-fn settle_where<T: Table, R: StartRuntime + Print>(
+fn settle_where<T: Table, R: ProxyRuntime + Ahead + Files + AllocGlobal + Eprint + Print>(
     alloc: Global,
     rt: &R,
     setup: &Setup,

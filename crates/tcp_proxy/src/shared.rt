@@ -3,7 +3,6 @@
 ghost use Rattle.std.specs.Prelude.{◌≡◌, ◌≤◌, is_some, true};
 ghost use Rattle.tcp_relay.specs.Serving.{AreTablesOf};
 
-use crate::later::Ahead;
 use crate::running_program::Running;
 use log::Log;
 use rule_model::Setup;
@@ -11,7 +10,6 @@ use shard_locks::Shards;
 use std::alloc::Global;
 use std::net::{Net, TcpListener, TcpStream};
 use std::os::unix::net::UnixListener;
-use std::rt::Files;
 use std::sync::Wait;
 use std::sync::atomic::AtomicBool;
 use std::thread::Threads;
@@ -19,7 +17,8 @@ use std::time::{Clock, Instant};
 use stick_table::Table;
 use tcp_relay::{Limits, Listener};
 
-/// What the threads of the proxy ask of the system: sockets, threads, locks, a clock and a log.
+/// What the threads of the proxy ask of the system: sockets, threads, locks, a clock and a log. What the proxy asks beside that while
+/// it starts and ends stands in each bound apart: a bound that holds both isn't known to be safe to send to a thread.
 pub trait ProxyRuntime: Net<Listener = TcpListener, Stream = TcpStream>
     + Threads
     + Wait
@@ -30,12 +29,6 @@ pub trait ProxyRuntime: Net<Listener = TcpListener, Stream = TcpStream>
 impl<
     R: Net<Listener = TcpListener, Stream = TcpStream> + Threads + Wait + Clock + Log + Sync,
 > ProxyRuntime for R {}
-
-/// What the proxy asks of the system while it starts and ends, beside what its threads ask: files, memory and standard error, and
-/// that the clock can be set ahead.
-pub trait StartRuntime: ProxyRuntime + Ahead + Files + AllocGlobal + Eprint {}
-
-impl<R: ProxyRuntime + Ahead + Files + AllocGlobal + Eprint> StartRuntime for R {}
 
 /// What the threads of the proxy share, each by reference: the tables of its setup, its sockets, and whether it stops.
 #[derive(Drop)]

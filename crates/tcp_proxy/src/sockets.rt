@@ -1,9 +1,10 @@
 //! Where connections and commands come in, and those that look at the proxy; `running` binds all by it.
 
 use crate::binding::{BindFault, say_unbound};
+use crate::later::Ahead;
 use crate::listeners::bind_listeners;
 use crate::plan::{Plan, SocketPlan, StatsPlan};
-use crate::shared::StartRuntime;
+use crate::shared::ProxyRuntime;
 use base_lines::read_number;
 use log::{Log, info};
 use rule_addresses::Endpoint;
@@ -11,6 +12,7 @@ use std::alloc::Global;
 use std::net::TcpListener;
 use std::os::fd::OwnedFd;
 use std::os::unix::net::UnixListener;
+use std::rt::Files;
 use std::time::Instant;
 use std::{fs, io};
 use table_socket::{
@@ -39,7 +41,7 @@ pub(crate) struct Sockets {
 }
 
 /// Binds all, or takes what is handed over. None where one can't be bound, which is said on standard error.
-pub(crate) fn bind_sockets<R: StartRuntime>(
+pub(crate) fn bind_sockets<R: ProxyRuntime + Ahead + Files + AllocGlobal + Eprint>(
     alloc: Global,
     rt: &R,
     bind: Endpoint,
@@ -53,7 +55,7 @@ pub(crate) fn bind_sockets<R: StartRuntime>(
 }
 
 /// Binds all. Where one can't be bound, the files of those before it stay, and the next start replaces them.
-fn bind_all<R: StartRuntime>(
+fn bind_all<R: ProxyRuntime + Ahead + Files + AllocGlobal + Eprint>(
     alloc: Global,
     rt: &R,
     bind: Endpoint,
@@ -87,7 +89,11 @@ fn bind_all<R: StartRuntime>(
 }
 
 /// Says where clients come in.
-fn say_places<R: StartRuntime>(rt: &R, bind: Endpoint, plan: Plan<'_>) {
+fn say_places<R: ProxyRuntime + Ahead + Files + AllocGlobal + Eprint>(
+    rt: &R,
+    bind: Endpoint,
+    plan: Plan<'_>,
+) {
     for further in plan.more_binds {
         let address = socket_address(*further);
         info!(rt; "listening on {address}");
@@ -106,7 +112,11 @@ fn say_places<R: StartRuntime>(rt: &R, bind: Endpoint, plan: Plan<'_>) {
 }
 
 /// Binds a Unix socket at a path.
-fn bind_unix<R: StartRuntime>(rt: &R, path: &str, access: Access) -> Result<Socket, BindFault> {
+fn bind_unix<R: ProxyRuntime + Ahead + Files + AllocGlobal + Eprint>(
+    rt: &R,
+    path: &str,
+    access: Access,
+) -> Result<Socket, BindFault> {
     match bind_socket(rt, path, access) {
         Ok(BoundSocket { listener, file }) => Ok(Socket {
             listener,
@@ -117,7 +127,10 @@ fn bind_unix<R: StartRuntime>(rt: &R, path: &str, access: Access) -> Result<Sock
 }
 
 /// Binds the stats socket.
-fn bind_stats<R: StartRuntime>(rt: &R, stats: StatsPlan<'_>) -> Result<Socket, BindFault> {
+fn bind_stats<R: ProxyRuntime + Ahead + Files + AllocGlobal + Eprint>(
+    rt: &R,
+    stats: StatsPlan<'_>,
+) -> Result<Socket, BindFault> {
     let access = Access {
         mode: stats.mode,
         group: None,
@@ -126,7 +139,10 @@ fn bind_stats<R: StartRuntime>(rt: &R, stats: StatsPlan<'_>) -> Result<Socket, B
 }
 
 /// Takes a Unix socket that the service manager hands over, whose file is the manager's own.
-fn take_socket<R: StartRuntime>(rt: &R, number: u32) -> Result<Socket, BindFault> {
+fn take_socket<R: ProxyRuntime + Ahead + Files + AllocGlobal + Eprint>(
+    rt: &R,
+    number: u32,
+) -> Result<Socket, BindFault> {
     match take_patient(number) {
         Ok(listener) => Ok(Socket {
             listener,
@@ -142,7 +158,10 @@ fn take_patient(number: u32) -> io::Result<UnixListener> {
 }
 
 /// Binds the listener at which metrics are scraped.
-fn bind_metrics<R: StartRuntime>(rt: &R, place: Endpoint) -> Result<TcpListener, BindFault> {
+fn bind_metrics<R: ProxyRuntime + Ahead + Files + AllocGlobal + Eprint>(
+    rt: &R,
+    place: Endpoint,
+) -> Result<TcpListener, BindFault> {
     match bind_patient(rt, place) {
         Ok(listener) => Ok(listener),
         Err(reason) => Err(say_unbound(rt, socket_address(place), reason)),
@@ -150,13 +169,20 @@ fn bind_metrics<R: StartRuntime>(rt: &R, place: Endpoint) -> Result<TcpListener,
 }
 
 /// A TCP listener at which clients are waited for no longer than a patience each time.
-fn bind_patient<R: StartRuntime>(rt: &R, place: Endpoint) -> io::Result<TcpListener> {
+fn bind_patient<R: ProxyRuntime + Ahead + Files + AllocGlobal + Eprint>(
+    rt: &R,
+    place: Endpoint,
+) -> io::Result<TcpListener> {
     patient_tcp(OwnedFd::from(TcpListener::bind(rt, socket_address(place))?))
 }
 
 impl Socket {
     /// Removes the file that was made for the socket at this path.
-    fn remove_file<R: StartRuntime>(&self, rt: &R, path: &str) {
+    fn remove_file<R: ProxyRuntime + Ahead + Files + AllocGlobal + Eprint>(
+        &self,
+        rt: &R,
+        path: &str,
+    ) {
         if let Some(file) = self.file {
             remove_own(rt, path, file);
         }
@@ -165,7 +191,11 @@ impl Socket {
 
 impl Sockets {
     /// Removes the files that were made.
-    pub fn remove_files<R: StartRuntime>(&self, rt: &R, plan: Plan<'_>) {
+    pub fn remove_files<R: ProxyRuntime + Ahead + Files + AllocGlobal + Eprint>(
+        &self,
+        rt: &R,
+        plan: Plan<'_>,
+    ) {
         self.socket.remove_file(rt, plan.socket.path);
         if let (Some(socket), Some(stats)) = (&self.stats, plan.watch.stats) {
             socket.remove_file(rt, stats.path);
@@ -174,7 +204,10 @@ impl Sockets {
 }
 
 /// Who may connect to the command socket.
-fn access_of<R: StartRuntime>(rt: &R, socket: SocketPlan<'_>) -> Result<Access, BindFault> {
+fn access_of<R: ProxyRuntime + Ahead + Files + AllocGlobal + Eprint>(
+    rt: &R,
+    socket: SocketPlan<'_>,
+) -> Result<Access, BindFault> {
     let mode = socket.mode;
     let Some(word) = socket.group else {
         return Ok(Access { mode, group: None });
@@ -192,7 +225,10 @@ fn access_of<R: StartRuntime>(rt: &R, socket: SocketPlan<'_>) -> Result<Access, 
 }
 
 /// The number of a group that is named by its number, or else by its name in /etc/group.
-fn find_group<R: StartRuntime>(rt: &R, word: &str) -> Option<u32> {
+fn find_group<R: ProxyRuntime + Ahead + Files + AllocGlobal + Eprint>(
+    rt: &R,
+    word: &str,
+) -> Option<u32> {
     if let Some(number) = read_number(word.as_bytes()) {
         return u32::try_from(number).ok();
     }
