@@ -1,0 +1,55 @@
+-- What a seat knows of the record, and what comes of a call for it.
+use Rattle.std.proofs.Common.{◌≡◌, ℕ, ◌+◌, ◌<◌, List, [], ◌∷◌, sym, ap, ◌∙◌, subst, refl}
+use Rattle.stick_model.specs.Key.{Key}
+use Rattle.stick_model.specs.Laws.{tickets_told}
+use Rattle.stick_model.specs.declared.rows.Ticket.{Ticket}
+use Rattle.stick_model.specs.declared.events.Event.{Event}
+use Rattle.stick_model.specs.declared.events.Event.TheVariants.{Get, Track, Look, Count, Release, Put, Clear, ClearWhere, List as ListRows, Expire}
+use Rattle.stick_model.specs.declared.replies.Reply.{Reply}
+use Rattle.stick_model.specs.declared.replies.Reply.TheVariants as replies
+use Rattle.shard_record.specs.declared.view.Call.{Call}
+use Rattle.shard_record.specs.declared.view.Part.{Part}
+use Rattle.shard_record.specs.Calls.{Held}
+use Rattle.shard_record.specs.Parts.{holder}
+use Rattle.shard_record.specs.Views.{View, at, only}
+use Rattle.shard_record.specs.Telling.{IsNoRelease, IsReference, IsTold, key_in, ticket_at, ticket_in}
+use Rattle.shard_record.proofs.Views.{at_put}
+use Rattle.shard_book.specs.Keeping.{MayAsk}
+use Rattle.shard_locks.specs.Shared.{HasMade, IsGiven}
+use Rattle.shard_locks.specs.Tracking.{IsTracking}
+
+-- who may be asked without a ticket is asked no release
+pub no_release : (shards shard : ℕ) (event : Event) → MayAsk shards shard event → IsNoRelease event
+no_release shards shard (Get now key) may = tt
+no_release shards shard (Put now key pairs) may = tt
+no_release shards shard (Clear now key) may = tt
+no_release shards shard (ClearWhere now choice) may = tt
+no_release shards shard (ListRows now choice) may = tt
+no_release shards shard (Expire now) may = tt
+no_release shards shard (Track now key) may = absurd may
+no_release shards shard (Look now ticket) may = absurd may
+no_release shards shard (Count now ticket act) may = absurd may
+no_release shards shard (Release now ticket) may = absurd may
+
+pub has_made : (book : ℕ) (event : Event) (reply : Reply) (old new : View) → IsTold book event reply old new → HasMade book event reply old new
+has_made book event reply old new told = told.theirs ∙ told.mine
+
+-- ---- references
+
+-- a token that has one ticket of a book is that of a reference
+pub reference_is : (book : ℕ) (log : List Call) (ticket : Ticket) (key : Key) (token : View) → token ≡ only book (holder log ((ticket, key) ∷ [])) → IsReference book token × (ticket ≡ ticket_at book token)
+reference_is book log ticket key token is =
+    let part : Part = holder log ((ticket, key) ∷ []) in
+    let there : at book token ≡ part = ap (at book) is ∙ at_put book part [] in
+    (is ∙ ap (λ (p : Part). only book (holder p.log ((ticket_in p.held, key_in p.held) ∷ []))) (sym there), ap (λ (p : Part). ticket_in p.held) (sym there))
+
+-- what comes with the reply to a track
+pub track_given : (book : ℕ) (log : List Call) (now : ℕ) (key : Key) (reply : Reply) (token : View) → token ≡ only book (holder log (tickets_told (Track now key) reply [])) → IsGiven book reply token
+track_given book log now key (replies.Tracked ticket row) token is = reference_is book log ticket row.key token is
+track_given book log now key replies.Absent token is = tt
+track_given book log now key (replies.Row row) token is = tt
+track_given book log now key replies.Full token is = tt
+track_given book log now key replies.NoRefs token is = tt
+track_given book log now key (replies.Value value) token is = tt
+track_given book log now key replies.Released token is = tt
+track_given book log now key _ token is = tt
