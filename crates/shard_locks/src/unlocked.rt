@@ -63,10 +63,10 @@ impl<T: Table, J: Naming> Unlocked<T, J> {
         &self.books
     }
 
-    /// The books alone. Each was kept beside the record of its calls.
-    pub fn into_books(self) -> Vec<Book<T>>
-        ensures books { result.items ≡ self.books }
-        ensures kept { AreKept self.books self.keepers }
+    /// The books, and what keeps the record of each.
+    pub fn into_books(self) -> (Vec<Book<T>>, Vec<Keeper<J>>)
+        ensures books { result.0.items ≡ self.books }
+        ensures kept { AreKept result.0.items result.1.items }
     {
         let Unlocked {
             spec: _,
@@ -75,10 +75,10 @@ impl<T: Table, J: Naming> Unlocked<T, J> {
             records: _,
             first: _,
             books,
-            keepers: _,
+            keepers,
             room: _,
         } = self;
-        books
+        (books, keepers)
     }
 }
 
