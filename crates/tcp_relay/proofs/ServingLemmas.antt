@@ -3,7 +3,7 @@ use Rattle.std.proofs.Common.{◌≡◌, ℕ, Bool, true, false, sym, subst, Res
 use Rattle.std.specs.Prelude.{IfOk, IfErr}
 use Rattle.std.specs.declared.vec.Vec.{Vec}
 use Rattle.std.specs.declared.alloc.Global.{Global}
-use Rattle.shard_book.specs.SeatState.{SeatState}
+use Rattle.shard_locks.specs.Shared.{SharedSeatState}
 use Rattle.tcp_relay.specs.Serving.{AreLeft, AreSeats, IsCause, IsFault, IsFaultOf, IsServed}
 use Rattle.tcp_relay.specs.declared.served.FaultKind.{FaultKind}
 use Rattle.tcp_relay.specs.declared.served.FaultKind.TheVariants.{Waiting, Thread, NoMemory}
@@ -15,12 +15,12 @@ module _ (tables threads most : ℕ) (served : Served) (is : IsServed tables thr
   told_ok (Ok kept) same = subst (IsServed tables threads most) (sym same.0) is
   told_ok (Err fault) same = tt
 
-  caused : (seats : Vec (Vec SeatState Global) Global) (kind : FaultKind) (kept : Served) → kept ≡ served → IsCause all failed kind → IsFaultOf tables threads most seats kind kept
+  caused : (seats : Vec (Vec SharedSeatState Global) Global) (kind : FaultKind) (kept : Served) → kept ≡ served → IsCause all failed kind → IsFaultOf tables threads most seats kind kept
   caused seats Waiting kept same cause = subst (IsServed tables threads most) (sym same) is
   caused seats Thread kept same cause = subst (IsServed tables threads most) (sym same) is
   caused seats NoMemory kept same cause = absurd cause
 
-  pub told_err : (seats : Vec (Vec SeatState Global) Global) (result : Result Served ServeFault) → IfErr result (λ fault. (fault.served ≡ served) × IsCause all failed fault.kind) → IfErr result (IsFault tables threads most seats)
+  pub told_err : (seats : Vec (Vec SharedSeatState Global) Global) (result : Result Served ServeFault) → IfErr result (λ fault. (fault.served ≡ served) × IsCause all failed fault.kind) → IfErr result (IsFault tables threads most seats)
   told_err seats (Ok kept) told = tt
   told_err seats (Err fault) told = caused seats fault.kind fault.served told.0 told.1
 
