@@ -1,5 +1,7 @@
 -- What a seat knows of the record, and what comes of a call for it.
-use Rattle.std.proofs.Common.{◌≡◌, ℕ, ◌+◌, ◌<◌, List, [], ◌∷◌, sym, ap, ◌∙◌, subst, refl}
+use Rattle.std.proofs.Common.{◌≡◌, ℕ, ◌+◌, ◌<◌, Bool, List, [], ◌∷◌, ◌++◌, sym, ap, ◌∙◌, subst, refl}
+use Rattle.std.proofs.lemmas.List.{map-append}
+use Rattle.stick_model.specs.declared.specification.Spec.{Spec}
 use Rattle.stick_model.specs.Key.{Key}
 use Rattle.stick_model.specs.Laws.{tickets_told}
 use Rattle.stick_model.specs.declared.rows.Ticket.{Ticket}
@@ -14,8 +16,12 @@ use Rattle.shard_record.specs.Parts.{holder}
 use Rattle.shard_record.specs.Views.{View, at, only}
 use Rattle.shard_record.specs.Telling.{IsNoRelease, IsReference, IsTold, key_in, ticket_at, ticket_in}
 use Rattle.shard_record.proofs.Views.{at_put}
+use Rattle.shard_book.specs.BookState.{BookState, opened}
 use Rattle.shard_book.specs.Keeping.{MayAsk}
-use Rattle.shard_locks.specs.Shared.{HasMade, IsGiven}
+use Rattle.shard_book.specs.SeatState.{SeatState, fresh}
+use Rattle.shard_locks.specs.Shared.{HasMade, IsGiven, SharedSeatState, seats_of}
+use Rattle.shard_locks.specs.ShardsState.{fresh_seats}
+use Rattle.shard_locks.proofs.ShardsLemmas.{fresh_seats_more}
 use Rattle.shard_locks.specs.Tracking.{IsTracking}
 
 -- who may be asked without a ticket is asked no release
@@ -53,3 +59,15 @@ track_given book log now key replies.NoRefs token is = tt
 track_given book log now key (replies.Value value) token is = tt
 track_given book log now key replies.Released token is = tt
 track_given book log now key _ token is = tt
+
+-- ---- what a table begins with
+
+-- one seat more
+pub seats_more : (n : ℕ) (keeps : Bool) (old new : List SharedSeatState) (seat : SeatState) (known : View) (shared : SharedSeatState) → seats_of old ≡ fresh_seats n keeps → seat ≡ fresh n keeps → shared ≡ record { seat = seat; known = known } → new ≡ old ++ shared ∷ []
+    → seats_of new ≡ fresh_seats (n + 1) keeps
+seats_more n keeps old new seat known shared were fresh_is is more =
+    ap seats_of more ∙ (map-append (λ (s : SharedSeatState). s.seat) old (shared ∷ []) ∙ ((λ i. were i ++ (ap (λ (s : SharedSeatState). s.seat) is ∙ fresh_is) i ∷ []) ∙ sym (fresh_seats_more n keeps)))
+
+-- the book of an empty table is that of one with its own specification
+pub opened_is : (book : BookState) (spec : Spec) → book ≡ opened spec → book ≡ opened book.base.spec
+opened_is book spec is = is ∙ ap (λ (b : BookState). opened b.base.spec) (sym is)

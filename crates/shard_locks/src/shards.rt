@@ -213,7 +213,10 @@ impl<T: Table, J: Naming> Shards<T, J> {
         let book = self.book_of(shard);
         let mut kept = self.books[shard as usize].lock(rt);
         insist(rt, kept.is_of(book));
-        seat.ask(&mut kept, &self.records, shard, event)
+        match seat.ask(&mut kept, &self.records, shard, event) {
+            Ok(told) => Ok(told),
+            Err(refusal) => Err(refusal),
+        }
     }
 
     /// Asks a shard an event that names no ticket, and of a key only where the key lies on it. A refusal changes nothing:

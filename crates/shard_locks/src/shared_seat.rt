@@ -79,7 +79,10 @@ impl<J: Naming> SharedSeat<J> {
         ensures err { OnErr result ((kept.new ≡ kept.old) × (self.new ≡ self.old)) }
     {
         let SharedSeat { seat, token } = self;
-        kept.serve(records, seat, token, shard, event)
+        match kept.serve(records, seat, token, shard, event) {
+            Ok(told) => Ok(told),
+            Err(refusal) => Err(refusal),
+        }
     }
 
     /// Has a book release a reference, as `Kept::release` does: what is done under the shard's lock.
@@ -109,6 +112,9 @@ impl<J: Naming> SharedSeat<J> {
         ensures err { OnErr result ((kept.new ≡ kept.old) × (self.new ≡ self.old)) }
     {
         let SharedSeat { seat, token } = self;
-        kept.release(records, seat, token, reference, shard, now, ticket)
+        match kept.release(records, seat, token, reference, shard, now, ticket) {
+            Ok(()) => Ok(()),
+            Err(refused) => Err(refused),
+        }
     }
 }

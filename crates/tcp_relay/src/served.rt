@@ -1,6 +1,7 @@
+//! What serving comes to; `serve` answers it, and `tcp_proxy` prints it and settles by it.
+
 use shard_locks::{SharedRef, SharedSeat};
 use shard_record::Naming;
-//! What serving comes to; `serve` answers it, and `tcp_proxy` prints it and settles by it.
 
 /// What was served: how many connections were admitted, rejected, and not accepted as the system hadn't what that takes, each
 /// count stopping at 2^64 - 1; the seats of each table, with their calls; and the references of each table that couldn't be
