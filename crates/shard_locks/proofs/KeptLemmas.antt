@@ -1,5 +1,6 @@
 -- Books beside what keeps their records, in lists.
-use Rattle.std.proofs.Common.{◌≡◌, ℕ, zero, suc, List, [], ◌∷◌, ◌++◌, length, reverse, sym, ap, subst, refl}
+use Rattle.std.proofs.Common.{◌≡◌, suc, List, [], ◌∷◌, ◌++◌, length, reverse, sym, ap, subst, refl}
+use Rattle.std.proofs.lemmas.List.{reverse-append}
 use Rattle.shard_record.specs.Telling.{KeeperState}
 use Rattle.shard_book.specs.BookState.{BookState}
 use Rattle.shard_book.specs.Kept.{IsKept}
@@ -30,4 +31,21 @@ pub kept_reverse : (books : List BookState) (keepers : List KeeperState) → Are
 kept_reverse [] [] are = tt
 kept_reverse [] (k ∷ keepers) are = absurd are
 kept_reverse (b ∷ books) [] are = absurd are
-kept_reverse (b ∷ books) (k ∷ keepers) are = kept_more (reverse books) (reverse keepers) b k (kept_reverse books keepers are.1) are.0
+kept_reverse (b ∷ books) (k ∷ keepers) are =
+    subst (λ bs. AreKept bs (reverse (k ∷ keepers))) (sym (reverse-append (b ∷ []) books))
+    (subst (AreKept (reverse books ++ b ∷ [])) (sym (reverse-append (k ∷ []) keepers)) (kept_more (reverse books) (reverse keepers) b k (kept_reverse books keepers are.1) are.0))
+
+-- one more is put behind them
+pub kept_next : (books more : List BookState) (keepers others : List KeeperState) (book : BookState) (keeper : KeeperState) → AreKept books keepers → IsKept book keeper.log → more ≡ books ++ book ∷ [] → others ≡ keepers ++ keeper ∷ [] → AreKept more others
+kept_next books more keepers others book keeper are is grown longer =
+    subst (λ bs. AreKept bs others) (sym grown) (subst (AreKept (books ++ book ∷ [])) (sym longer) (kept_more books keepers book keeper are is))
+
+-- they are turned
+pub kept_turned : (books turned : List BookState) (keepers others : List KeeperState) → AreKept books keepers → turned ≡ reverse books → others ≡ reverse keepers → AreKept turned others
+kept_turned books turned keepers others are back too =
+    subst (λ bs. AreKept bs others) (sym back) (subst (AreKept (reverse books)) (sym too) (kept_reverse books keepers are))
+
+-- the last of each is taken
+pub kept_pair : (books fewer : List BookState) (keepers less : List KeeperState) (book : BookState) (keeper : KeeperState) → AreKept books keepers → books ≡ fewer ++ book ∷ [] → keepers ≡ less ++ keeper ∷ [] → AreKept fewer less × IsKept book keeper.log
+kept_pair books fewer keepers less book keeper are is too =
+    kept_last fewer less book keeper (subst (λ bs. AreKept bs (less ++ keeper ∷ [])) is (subst (AreKept books) too are))

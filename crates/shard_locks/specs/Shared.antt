@@ -31,7 +31,7 @@ IsGiven book reply token = Unit {0}
 -- a table's books have the numbers from `first` on, in a record of so many
 pub record AreNumbered (first shards books : ℕ) : Type 0 where
   pub within : first + shards ≤ books
-  pub few : books < 2 ^ 32
+  pub few : first + shards < 2 ^ 32
 
 -- each book and what keeps its record
 abbrev pub AreKept : List BookState → List KeeperState → Type 0

@@ -22,7 +22,7 @@ use crate::insisting::insist;
 use crate::opening::{Locks, open_locks, open_seats, specs_of_shards};
 use crate::rolling::roll_long;
 use crate::tracking::tracking_of;
-use crate::unlocked::{lock_all, unlock_all};
+use crate::unlocked::{lock_all, room_for, unlock_all};
 use crate::{SharedRef, SharedSeat, Tracking, Unlocked};
 use base_sequence::NoMemory;
 use shard_port::{counted_value, shown_row};
@@ -85,6 +85,10 @@ impl<T: Table, J: Naming> Shards<T, J> {
         let specs = specs_of_shards(alloc, &spec, shards)?;
         let records = dealer.records()?;
         let first = dealer.kept();
+        let room = u32::MAX - shards;
+        if room < first {
+            return Err(NoMemory);
+        }
         let books = open_locks(alloc, dealer, &spec, shards)?;
         let seats = open_seats(alloc, dealer, seats, keep)?;
         let table = Shards {
@@ -105,11 +109,9 @@ impl<T: Table, J: Naming> Shards<T, J> {
         ensures err { IfErr result (λ table. table ≡ self) }
     {
         let count = self.books.as_slice().len();
-        let mut books = Vec::new(alloc);
-        let mut keepers = Vec::new(alloc);
-        if books.reserve(count).is_err() || keepers.reserve(count).is_err() {
+        let Some((mut books, mut keepers)) = room_for(alloc, count) else {
             return Err(self);
-        }
+        };
         let Shards {
             spec,
             specs,

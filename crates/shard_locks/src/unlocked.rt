@@ -1,6 +1,6 @@
 //! The books of a table in shards, taken out of their locks; `Shards` makes it for settling, which gives it back on a fault.
 
-ghost use Rattle.std.specs.Prelude.{◌≡◌, ◌+◌, ◌≤◌, [], length, vec_len, vec_capacity};
+ghost use Rattle.std.specs.Prelude.{◌≡◌, ◌+◌, ◌≤◌, [], length, vec_len, vec_capacity, IfSome};
 ghost use Rattle.shard_locks.specs.Shared.{AreKept};
 
 use crate::opening::Locks;
@@ -80,6 +80,26 @@ impl<T: Table, J: Naming> Unlocked<T, J> {
         } = self;
         (books, keepers)
     }
+}
+
+/// Empty lists for so many books, and for what keeps their records, where there is memory for them.
+pub(crate) fn room_for<T: Table, J: Naming>(
+    alloc: Global,
+    count: usize,
+) -> Option<(Vec<Book<T>>, Vec<Keeper<J>>)>
+    ensures empty { IfSome result (λ room. (room.0.items ≡ []) × (room.1.items ≡ [])) }
+    ensures books { IfSome result (λ room. vec_len room.0 + count ≤ vec_capacity room.0) }
+    ensures keepers { IfSome result (λ room. vec_len room.1 + count ≤ vec_capacity room.1) }
+{
+    let mut books = Vec::new(alloc);
+    let mut keepers = Vec::new(alloc);
+    if books.reserve(count).is_err() {
+        return None;
+    }
+    if keepers.reserve(count).is_err() {
+        return None;
+    }
+    Some((books, keepers))
 }
 
 /// Takes the books, and what keeps their records, out of their locks, in their order. The emptied list keeps its room.
