@@ -79,7 +79,7 @@ module _ {C : Type 0} (shows : C → ℕ → C → Type 0) where
 
   -- some number of rounds, from seats for which nothing was counted yet; the clock is looked at once for each shard, and
   -- at no other time
-  pub record KeepsRounds (tables : List ShardsState) (seats : List SharedSeatState) (old : C) (kept : Kept) (new : C) : Type 0 where
+  pub record KeepsRounds {J : Type 0} (tables : List ShardsState) (seats : List SharedSeatState) (old : C) (kept : Kept J) (new : C) : Type 0 where
     pub count : ℕ
     pub rounds : kept.rounds ≡ min count (2 ^ 64 - 1)
     pub each : ByFirst (λ round. KeepsRound tables) count (record { seats = seats; clock = old; counts = record { rolled = 0; refused = 0 } }) (record { seats = kept.seats.items; clock = new; counts = record { rolled = kept.rolled; refused = kept.refused } })

@@ -7,7 +7,7 @@ ghost use Rattle.shard_housekeeping.specs.Keeping.{Expires, KeepsRound, KeepsRou
 use crate::counts::Counts;
 use crate::{Kept, Pace};
 use base_clock::Clock;
-use shard_locks::{SharedSeat, Shards};
+use shard_locks::{Shards, SharedSeat};
 use shard_record::Naming;
 use std::sync::Wait;
 use stick_table::{Event, Table};
@@ -33,7 +33,13 @@ fn expire<T: Table, J: Naming>(
 }
 
 /// Has a shard's record begin again where it has so many calls, and counts it. A refusal is counted, and changes nothing.
-fn roll<T: Table, J: Naming>(rt: &impl Wait, table: &Shards<T, J>, shard: u32, roll_at: u64, counts: &mut Counts)
+fn roll<T: Table, J: Naming>(
+    rt: &impl Wait,
+    table: &Shards<T, J>,
+    shard: u32,
+    roll_at: u64,
+    counts: &mut Counts,
+)
     requires shard { shard < table.now.shards }
     ensures { Rolls table.now.keep counts.old counts.new }
 {

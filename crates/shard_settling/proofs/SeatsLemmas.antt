@@ -1,19 +1,18 @@
 -- What is counted and told of seats, by the seats that threads share.
-use Rattle.std.proofs.Common.{◌≡◌, ◌↔◌, ℕ, ◌+◌, Bool, IsTrue, List, [], ◌∷◌, All, sum_by, refl, ap, sym, subst}
+use Rattle.std.proofs.Common.{◌≡◌, ◌↔◌, ℕ, ◌+◌, Bool, IsTrue, List, [], ◌∷◌, All, refl, ap, ◌∙◌, sym, subst}
 use Rattle.std.proofs.lemmas.List.Elements.{All-cons, All-head, All-map, All-nil, All-tail}
+use Rattle.std.proofs.lemmas.List.Sums.{sum_by-cons}
 use Rattle.stick_model.specs.declared.replies.Reply.{Reply}
 use Rattle.shard_book.specs.declared.recorded.Recorded.{Recorded}
 use Rattle.shard_book.specs.SeatState.{SeatState, calls_of, receipts_at}
 use Rattle.shard_locks.specs.Shared.{SharedSeatState, seats_of}
-use Rattle.shard_settling.specs.Settled.{AreTold, calls_made, told_to}
-
--- how many calls of a shard they made
-abbrev pub made_by : List SharedSeatState → ℕ → ℕ
-made_by seats shard = sum_by (λ (shared : SharedSeatState). calls_of shared.seat shard) seats
+use Rattle.shard_settling.specs.Settled.{AreTold, calls_made, made_by, told_to}
 
 made_is : (seats : List SharedSeatState) (shard : ℕ) → made_by seats shard ≡ calls_made (seats_of seats) shard
 made_is [] shard = refl
-made_is (shared ∷ seats) shard = ap (λ n. calls_of shared.seat shard + n) (made_is seats shard)
+made_is (shared ∷ seats) shard =
+    sum_by-cons (λ (one : SharedSeatState). calls_of one.seat shard) shared seats
+    ∙ (ap (λ n. calls_of shared.seat shard + n) (made_is seats shard) ∙ sym (sum_by-cons (λ (seat : SeatState). calls_of seat shard) shared.seat (seats_of seats)))
 
 pub made_iff : (b : Bool) (count : ℕ) (seats : List SharedSeatState) (shard : ℕ) → (IsTrue b ↔ (count ≡ made_by seats shard)) → IsTrue b ↔ (count ≡ calls_made (seats_of seats) shard)
 made_iff b count seats shard = subst (λ n. IsTrue b ↔ (count ≡ n)) (made_is seats shard)

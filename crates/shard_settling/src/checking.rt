@@ -94,7 +94,11 @@ fn check_count<T: Table, J: Naming>(
 }
 
 /// Whether nothing is shown of shards but so many, the first ones: no calls, and no references.
-fn check_others<J: Naming>(shards: u32, seats: &[SharedSeat<J>], refs: &[SharedRef<J>]) -> Result<(), Fault>
+fn check_others<J: Naming>(
+    shards: u32,
+    seats: &[SharedSeat<J>],
+    refs: &[SharedRef<J>],
+) -> Result<(), Fault>
     requires few { shards ≤ 64 }
     ensures calls { OnOk result (CallNoOther shards (seats_of seats.now)) }
     ensures refs { OnOk result (AreOfShards shards refs.now) }

@@ -2,7 +2,7 @@
 
 ghost use Rattle.std.specs.Prelude.{◌≡◌, ◌≢◌, ◌≤◌, ◌<◌, ◌↔◌, IsTrue, [], None, IfOk, IfSome, IsPermutation};
 ghost use Rattle.shard_locks.specs.Shared.{seats_of};
-ghost use Rattle.shard_settling.specs.Settled.{AreOfShards, CallNoOther, calls_made, shown};
+ghost use Rattle.shard_settling.specs.Settled.{AreOfShards, CallNoOther, calls_made, made_by, shown};
 
 use crate::tickets::are_same;
 use base_sequence::NoMemory;
@@ -16,6 +16,14 @@ pub(crate) fn adds_up<J: Naming>(count: u64, seats: &[SharedSeat<J>], shard: u32
     requires { shard < 64 }
     ensures { IsTrue result ↔ (count ≡ calls_made (seats_of seats.now) shard) }
 {
+    is_sum(count, seats, shard)
+}
+
+/// The same, seat by seat as threads share them.
+fn is_sum<J: Naming>(count: u64, seats: &[SharedSeat<J>], shard: u32) -> bool
+    requires { shard < 64 }
+    ensures { IsTrue result ↔ (count ≡ made_by seats.now shard) }
+{
     let mut left = count;
     for seat in seats {
         let calls = seat.seat().calls(shard);
@@ -28,7 +36,11 @@ pub(crate) fn adds_up<J: Naming>(count: u64, seats: &[SharedSeat<J>], shard: u32
 }
 
 /// The tickets of the references to a shard.
-fn shown_tickets<J: Naming>(alloc: Global, refs: &[SharedRef<J>], shard: u32) -> Result<Vec<Ticket>, NoMemory>
+fn shown_tickets<J: Naming>(
+    alloc: Global,
+    refs: &[SharedRef<J>],
+    shard: u32,
+) -> Result<Vec<Ticket>, NoMemory>
     ensures { IfOk result (λ tickets. tickets.items ≡ shown shard refs.now) }
 {
     let mut tickets = Vec::new(alloc);

@@ -63,12 +63,23 @@ fn next_at(receipts: &[Receipt], shard: u32, from: usize) -> usize
 }
 
 /// Whether each seat was told what it keeps of a shard, and keeps what it was told.
-pub(crate) fn are_told<J: Naming>(seats: &[SharedSeat<J>], shard: u32, calls: &[Recorded], replies: &[Reply]) -> bool
+pub(crate) fn are_told<J: Naming>(
+    seats: &[SharedSeat<J>],
+    shard: u32,
+    calls: &[Recorded],
+    replies: &[Reply],
+) -> bool
     requires { length replies.now ≡ length calls.now }
     ensures { IsTrue result ↔ AreTold shard (seats_of seats.now) calls.now replies.now }
 {
     for seat in seats {
-        if !is_told(seat.seat().number(), shard, seat.seat().receipts(), calls, replies) {
+        if !is_told(
+            seat.seat().number(),
+            shard,
+            seat.seat().receipts(),
+            calls,
+            replies,
+        ) {
             return false;
         }
     }

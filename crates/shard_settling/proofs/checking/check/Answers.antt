@@ -1,8 +1,6 @@
-use Rattle.std.proofs.Common.{◌≡◌, ◌<◌, ℕ, Some, List, length, refl, sym, subst, rules, arith}
-use Rattle.std.specs.Prelude.{slice_get}
+use Rattle.std.proofs.Common.{List, length, refl, rules}
 use Rattle.shard_book.specs.BookState.{BookState}
 use Rattle.shard_locks.specs.Shared.{seats_of}
-use Rattle.shard_settling.specs.Settled.{AreOfShards, CallNoOther}
 use Rattle.shard_settling.specs.Faults.{AllCounted, AreCounted, IsFault}
 use Rattle.shard_settling.proofs.checking.check.Goals as goal
 
