@@ -1,9 +1,9 @@
 //! The references that a caller of a table in shards holds, so that they can be dropped.
 
+use crate::Held;
 use shard_locks::SharedRef;
 use shard_record::Naming;
 use std::alloc::Global;
-use stick_table::Ticket;
 
 /// References. Where it is dropped, they are given up.
 pub struct Purse<J: Naming> {
@@ -12,7 +12,8 @@ pub struct Purse<J: Naming> {
 
 impl<J: Naming> Drop for Purse<J> {
     fn drop(self) {
-        abandon_all(self.refs);
+        let Purse { refs } = self;
+        abandon_all(refs);
     }
 }
 
@@ -31,15 +32,15 @@ impl<J: Naming> Purse<J> {
         }
     }
 
-    /// The reference of a shard by a ticket, if it is there.
-    pub fn find(&self, shard: u32, ticket: Ticket) -> Option<&SharedRef<J>> {
-        let place = self.place(shard, ticket)?;
+    /// A reference by its shard and its ticket, if it is there.
+    pub fn find(&self, held: Held) -> Option<&SharedRef<J>> {
+        let place = self.place(held)?;
         self.refs.get(place)
     }
 
     /// The same, taken out.
-    pub fn take(&mut self, shard: u32, ticket: Ticket) -> Option<SharedRef<J>> {
-        let place = self.place(shard, ticket)?;
+    pub fn take(&mut self, held: Held) -> Option<SharedRef<J>> {
+        let place = self.place(held)?;
         if place < self.refs.as_slice().len() {
             Some(self.refs.swap_remove(place))
         } else {
@@ -53,15 +54,31 @@ impl<J: Naming> Purse<J> {
         refs
     }
 
-    fn place(&self, shard: u32, ticket: Ticket) -> Option<usize> {
+    fn place(&self, held: Held) -> Option<usize> {
         let refs = self.refs.as_slice();
         for place in 0..refs.len() {
-            if refs[place].shard() == shard && refs[place].ticket() == ticket {
+            if refs[place].shard() == held.shard && refs[place].ticket() == held.ticket {
                 return Some(place);
             }
         }
         None
     }
+}
+
+/// The references that are named, in their order, taken out of a purse; fewer where some aren't there, or where there is no memory
+/// for them.
+pub fn references_of<J: Naming>(
+    alloc: Global,
+    purse: &mut Purse<J>,
+    held: &[Held],
+) -> Vec<SharedRef<J>> {
+    let mut named = Purse::new(alloc);
+    for one in held {
+        if let Some(reference) = purse.take(*one) {
+            named.put(reference);
+        }
+    }
+    named.into_refs()
 }
 
 /// Gives references up.
