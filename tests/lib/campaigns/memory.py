@@ -2,6 +2,7 @@
 as it settles."""
 import concurrent.futures
 import contextlib
+import glob
 import os
 import re
 import tempfile
@@ -19,8 +20,8 @@ REFUSED = 'Out of memory.\n\n'
 SAID = b'request'
 # How many runs on end have to meet no refusal.
 UNMET = 10
-# The house is kept each second from the start on; and how often a run is made again that took as long.
-ROUND, HASTES = 1, 10
+# How many times on end each thread has to be seen waiting, and the seconds between two looks.
+LOOKS, LOOK = 5, 0.01
 # What is done before each command.
 PREPARED = ''.join(f'set table www key 10.0.0.{n} data.gpc0 {n}\n' for n in range(1, 6))
 LISTING = 'show table www\n'
@@ -33,6 +34,25 @@ SHORT = re.compile(r"(?:\[INFO .*\n|stickd: warning: .*\n)*(?:stickd: (?:line \d
 SETTLED = re.compile(r'settled www: \d+ calls, ([01]) references\n')
 
 
+def all_wait(process):
+    """Whether each thread of a process waits. One that has just begun may still take its first memory, which would be the allocation
+    of a number that another was meant to have."""
+    states = []
+    for path in glob.glob(f'/proc/{process}/task/*/stat'):
+        with open(path, encoding='ascii') as file:
+            states.append(file.read().rpartition(')')[2].split()[0])
+    return all(state == 'S' for state in states)
+
+
+def stays(holds):
+    """Whether something holds at each of some looks on end."""
+    for _ in range(LOOKS):
+        if not holds():
+            return False
+        time.sleep(LOOK)
+    return True
+
+
 class Refused:
     """A proxy of which single allocations are refused, on one thread beside those for commands and for the house."""
 
@@ -42,6 +62,7 @@ class Refused:
         self.server = Server(echoes)
         self.proxy = Proxy(self.server.port, [TABLE, TRACK], *words, threads=1, environment=self.refusals.environment(shim))
         wait_for_rest(self.proxy, 1)
+        wait_for('each thread waits', lambda: stays(lambda: all_wait(self.proxy.program.pid)))
 
     def __enter__(self):
         return self
@@ -136,18 +157,11 @@ def is_end(status, written, said):
 
 
 def settle_refused(shim, number):
-    """A proxy that stops behind its first connection, with this allocation refused as that comes: its status, and what it wrote. A run
-    in which the house was kept meanwhile is made again, a few times: that takes memory too, and so another allocation is the one of
-    this number."""
-    for _ in range(HASTES):
-        began = time.monotonic()
-        with Refused(shim, '--stop-after', '1', '--shards', '2') as refused:
-            refused.refusals.refuse(number)
-            visit(refused.proxy)
-            came = (*refused.proxy.ended(), refused.refusals.were_met())
-        if time.monotonic() - began < ROUND:
-            break
-    return came
+    """A proxy that stops behind its first connection, with this allocation refused as that comes: its status, and what it wrote."""
+    with Refused(shim, '--stop-after', '1', '--shards', '2') as refused:
+        refused.refusals.refuse(number)
+        visit(refused.proxy)
+        return (*refused.proxy.ended(), refused.refusals.were_met())
 
 
 def start_refused(shim, number):
