@@ -1,5 +1,5 @@
 """What trials of the running proxy share: the program at work on a configuration, servers behind it, and clients before it. All
-of them are on 127.0.0.0/8 alone, and every wait has an end."""
+of them are on the loopback device alone, and every wait has an end."""
 import contextlib
 import os
 import random
