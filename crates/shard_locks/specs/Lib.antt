@@ -1,4 +1,5 @@
 pub mod ShardsState
+pub mod Shared
 pub mod Tracking
 pub mod Listing
 pub mod Ported

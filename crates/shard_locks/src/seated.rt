@@ -2,39 +2,40 @@
 
 ghost use Rattle.std.specs.Prelude.{◌≡◌};
 
-use crate::Shards;
-use shard_book::{Keeper, Seat};
+use crate::{Shards, SharedSeat};
+use shard_book::Keeper;
+use shard_record::Naming;
 use std::marker::Model;
 use std::sync::Wait;
 use stick_table::{Event, Refusal, Reply, Spec, Table};
 
 /// A table in shards that threads share, asked by one seat: what commands ask, as those of a socket.
 #[derive(Drop)]
-pub struct Seated<'a, T: Table, R> {
-    pub(crate) shards: &'a Shards<T>,
+pub struct Seated<'a, T: Table, J: Naming, R> {
+    pub(crate) shards: &'a Shards<T, J>,
     pub(crate) rt: &'a R,
-    pub(crate) seat: Seat,
+    pub(crate) seat: SharedSeat<J>,
 }
 
-impl<'a, T: Table, R> Model for Seated<'a, T, R> {
+impl<'a, T: Table, J: Naming, R> Model for Seated<'a, T, J, R> {
     ghost use Rattle.shard_locks.specs.ShardsState.{SeatedState};
 
     ghost Value = { SeatedState };
 
-    ghost view = { λ seated. record { table = seated.shards.now; seat = seated.seat } };
+    ghost view = { λ seated. record { table = seated.shards.now; seat = seated.seat.seat; known = seated.seat.known } };
 }
 
-impl<'a, T: Table, R> Seated<'a, T, R> {
+impl<'a, T: Table, J: Naming, R> Seated<'a, T, J, R> {
     /// The table, asked by this seat.
-    pub fn new(shards: &'a Shards<T>, rt: &'a R, seat: Seat) -> Seated<'a, T, R>
-        ensures { result ≡ record { table = shards.now; seat = seat } }
+    pub fn new(shards: &'a Shards<T, J>, rt: &'a R, seat: SharedSeat<J>) -> Seated<'a, T, J, R>
+        ensures { result ≡ record { table = shards.now; seat = seat.seat; known = seat.known } }
     {
         Seated { shards, rt, seat }
     }
 
     /// The seat, with its calls.
-    pub fn into_seat(self) -> Seat
-        ensures { result ≡ self.entry.seat }
+    pub fn into_seat(self) -> SharedSeat<J>
+        ensures { result ≡ record { seat = self.entry.seat; known = self.entry.known } }
     {
         let Seated {
             shards: _,
@@ -45,7 +46,7 @@ impl<'a, T: Table, R> Seated<'a, T, R> {
     }
 }
 
-impl<'a, T: Table, R: Wait> Keeper for Seated<'a, T, R> {
+impl<'a, T: Table, J: Naming, R: Wait> Keeper for Seated<'a, T, J, R> {
     ghost use Rattle.shard_book.specs.SeatState.{SeatState};
     ghost use Rattle.shard_book.specs.Told.{Told, IsRefusedTo};
 

@@ -15,7 +15,7 @@ mod telling;
 mod token;
 mod view;
 
-pub use dealing::{deal_keeper, deal_seat};
+pub use dealing::Dealer;
 pub use keeper::Keeper;
 pub use naming::Naming;
 pub use record::{Opened, Record};

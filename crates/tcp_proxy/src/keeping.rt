@@ -13,8 +13,9 @@ use base_sequence::NoMemory;
 use byte_ports::MemorySink;
 use log::{Log, info};
 use rule_model::Setup;
-use shard_book::{Named, Seat};
-use shard_locks::{Seated, Shards};
+use shard_book::Named;
+use shard_locks::{Seated, Shards, SharedSeat};
+use shard_record::Naming;
 use std::alloc::Global;
 use std::fs::{self, OpenFile, OpenOptions};
 use std::io::{self, Write};
@@ -41,13 +42,13 @@ pub(crate) fn longest_life(setup: &Setup) -> u32
 }
 
 /// Tables, each asked by one of these seats, under the names of the setup.
-fn seat_all<'a, T: Table, R>(
+fn seat_all<'a, T: Table, J: Naming, R>(
     alloc: Global,
     rt: &'a R,
     setup: &Setup,
-    tables: &'a [Shards<T>],
-    seats: Vec<Seat>,
-) -> Result<Vec<SeatedTable<'a, T, R>>, NoMemory> {
+    tables: &'a [Shards<T, J>],
+    seats: Vec<SharedSeat<J>>,
+) -> Result<Vec<SeatedTable<'a, T, J, R>>, NoMemory> {
     let mut seated = Vec::with_capacity(alloc, tables.len())?;
     for (place, seat) in seats.into_iter().enumerate() {
         let (Some(table), Some(named)) = (tables.get(place), setup.tables.as_slice().get(place))
@@ -62,10 +63,10 @@ fn seat_all<'a, T: Table, R>(
 }
 
 /// The seats of tables that are asked no more.
-fn seats_of<T: Table, R>(
+fn seats_of<T: Table, J: Naming, R>(
     alloc: Global,
-    tables: Vec<SeatedTable<'_, T, R>>,
-) -> Result<Vec<Seat>, NoMemory> {
+    tables: Vec<SeatedTable<'_, T, J, R>>,
+) -> Result<Vec<SharedSeat<J>>, NoMemory> {
     let mut seats = Vec::with_capacity(alloc, tables.len())?;
     for named in tables {
         seats.push(named.keeper.into_seat())?;
@@ -80,14 +81,18 @@ fn say_no_memory<R: Eprint>(rt: &R) -> io::Result<()> {
 
 /// Makes the entries that a file keeps, by one seat of each table, which come back. None where the file can't be read or isn't what
 /// was saved, which is said on standard error.
-pub(crate) fn load_tables<T: Table, R: ProxyRuntime + Ahead + Files + AllocGlobal + Eprint>(
+pub(crate) fn load_tables<
+    T: Table,
+    J: Naming,
+    R: ProxyRuntime + Ahead + Files + AllocGlobal + Eprint,
+>(
     alloc: Global,
     rt: &R,
     setup: &Setup,
-    tables: &[Shards<T>],
-    seats: Vec<Seat>,
+    tables: &[Shards<T, J>],
+    seats: Vec<SharedSeat<J>>,
     path: &str,
-) -> io::Result<Option<Vec<Seat>>> {
+) -> io::Result<Option<Vec<SharedSeat<J>>>> {
     let text = match fs::read(rt, path) {
         Ok(text) => text,
         Err(reason) => {
@@ -121,9 +126,13 @@ fn show_command(alloc: Global, name: &[u8]) -> Result<Vec<u8>, NoMemory> {
 }
 
 /// Adds what the table of a place holds, at a moment.
-fn save_one<T: Table, R: ProxyRuntime + Ahead + Files + AllocGlobal + Eprint>(
+fn save_one<
+    T: Table,
+    J: Naming,
+    R: ProxyRuntime + Ahead + Files + AllocGlobal + Eprint,
+>(
     alloc: Global,
-    tables: &mut [SeatedTable<'_, T, R>],
+    tables: &mut [SeatedTable<'_, T, J, R>],
     place: usize,
     moment: u64,
     saved: &mut Saved,
@@ -144,9 +153,13 @@ fn save_one<T: Table, R: ProxyRuntime + Ahead + Files + AllocGlobal + Eprint>(
 }
 
 /// What tables hold at a moment.
-fn text_of<T: Table, R: ProxyRuntime + Ahead + Files + AllocGlobal + Eprint>(
+fn text_of<
+    T: Table,
+    J: Naming,
+    R: ProxyRuntime + Ahead + Files + AllocGlobal + Eprint,
+>(
     alloc: Global,
-    tables: &mut [SeatedTable<'_, T, R>],
+    tables: &mut [SeatedTable<'_, T, J, R>],
     moment: u64,
 ) -> Result<Vec<u8>, NoMemory>
     requires { moment < 2 ^ 62 }
@@ -194,15 +207,19 @@ fn replace_file<R: ProxyRuntime + Ahead + Files + AllocGlobal + Eprint>(
 
 /// Writes what the tables hold to a file, by one seat of each table. The seats that come back, and whether the file is written; where
 /// it isn't, that is said on standard error. Where memory was short for the seats, none come back.
-pub(crate) fn save_all<T: Table, R: ProxyRuntime + Ahead + Files + AllocGlobal + Eprint>(
+pub(crate) fn save_all<
+    T: Table,
+    J: Naming,
+    R: ProxyRuntime + Ahead + Files + AllocGlobal + Eprint,
+>(
     alloc: Global,
     rt: &R,
     setup: &Setup,
-    tables: &[Shards<T>],
-    seats: Vec<Seat>,
+    tables: &[Shards<T, J>],
+    seats: Vec<SharedSeat<J>>,
     start: Instant,
     path: &str,
-) -> io::Result<(Vec<Seat>, bool)> {
+) -> io::Result<(Vec<SharedSeat<J>>, bool)> {
     let moment = RunningClock::new(rt, start).now();
     let Ok(mut seated) = seat_all(alloc, rt, setup, tables, seats) else {
         say_no_memory(rt)?;

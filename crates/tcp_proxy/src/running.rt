@@ -1,6 +1,6 @@
 //! A run of the proxy: tables opened, sockets bound, threads started, and in the end tables settled; `stickd` calls `run_pooled`.
 
-ghost use Rattle.std.specs.Prelude.{◌≡◌, ◌≤◌, length, is_some, true};
+ghost use Rattle.std.specs.Prelude.{◌≡◌, ◌≤◌, ◌+◌, ◌*◌, length, is_some, true, IfSome};
 ghost use Rattle.admit_drive.specs.Tables.{CanOpen};
 ghost use Rattle.tcp_relay.specs.Serving.{AreSeats, AreTablesOf};
 
@@ -19,9 +19,10 @@ use log::{Log, info};
 use rule_addresses::Endpoint;
 use rule_model::{Name, Setup};
 use rule_warnings::{StartPlan, Warning, allowed_descriptors, warnings_of};
-use shard_book::Seat;
-use shard_locks::Shards;
+use shard_locks::{Shards, SharedSeat};
+use shard_record::{Dealer, Naming, Opened};
 use std::alloc::Global;
+use std::marker::Brand;
 use std::random::RandomSource;
 use std::rt::Files;
 use std::sync::atomic::AtomicBool;
@@ -42,7 +43,10 @@ fn names_of(alloc: Global, setup: &Setup) -> Result<Vec<Name>, NoMemory> {
 }
 
 /// The seats of each table, and one more of each.
-fn with_more(mut seats: Vec<Vec<Seat>>, more: Vec<Seat>) -> Result<Vec<Vec<Seat>>, NoMemory> {
+fn with_more<J: Naming>(
+    mut seats: Vec<Vec<SharedSeat<J>>>,
+    more: Vec<SharedSeat<J>>,
+) -> Result<Vec<Vec<SharedSeat<J>>>, NoMemory> {
     for (place, seat) in more.into_iter().enumerate() {
         if let Some(of_table) = seats.get_mut(place) {
             of_table.push(seat)?;
@@ -52,10 +56,10 @@ fn with_more(mut seats: Vec<Vec<Seat>>, more: Vec<Seat>) -> Result<Vec<Vec<Seat>
 }
 
 /// All seats of each table, with those of the threads beside the listener.
-fn all_seats(
-    mut seats: Vec<Vec<Seat>>,
-    service_threads: Vec<ServiceThread>,
-) -> Result<Vec<Vec<Seat>>, NoMemory> {
+fn all_seats<J: Naming>(
+    mut seats: Vec<Vec<SharedSeat<J>>>,
+    service_threads: Vec<ServiceThread<J>>,
+) -> Result<Vec<Vec<SharedSeat<J>>>, NoMemory> {
     for service_thread in service_threads {
         seats = with_more(seats, service_thread.seats)?;
     }
@@ -63,7 +67,10 @@ fn all_seats(
 }
 
 /// The last seat of each table, which is taken out of its list.
-fn take_one_of_each(alloc: Global, seats: &mut Vec<Vec<Seat>>) -> Result<Vec<Seat>, NoMemory> {
+fn take_one_of_each<J: Naming>(
+    alloc: Global,
+    seats: &mut Vec<Vec<SharedSeat<J>>>,
+) -> Result<Vec<SharedSeat<J>>, NoMemory> {
     let mut taken = Vec::new(alloc);
     for of_table in seats.iter_mut() {
         if let Some(seat) = of_table.pop() {
@@ -106,27 +113,84 @@ pub fn run_proxy<
         report(rt, FaultKind::NoMemory)?;
         return Ok(false);
     };
-    let duties = plan.duties(instruments.awaits_signals());
-    let keep = plan.stop_after.is_some();
-    let opened = match open_tables::<T>(alloc, rt, setup, plan.threads, duties.sum(), keep) {
-        Ok(opened) => opened,
-        Err(fault) => {
-            eprintln!(rt; "stickd: {fault}")?;
-            return Ok(false);
-        }
+    let clients = plan.duties(instruments.awaits_signals()).sum();
+    let Some(opened) = open_record(alloc, setup, plan.threads + clients + 1) else {
+        report(rt, FaultKind::NoMemory)?;
+        return Ok(false);
     };
-    start(alloc, rt, setup, bind, plan, &instruments, opened)
+    run_recorded::<Brand, T, R>(alloc, rt, setup, bind, plan, &instruments, clients, opened)
 }
 
-/// Binds the sockets, says what may surprise, and serves by the tables that were opened.
-fn start<T: Table + Send, R: ProxyRuntime + Ahead + Files + AllocGlobal + Eprint + Print>(
+/// The record of the calls of all tables of a setup, each of which has so many callers.
+fn open_record(alloc: Global, setup: &Setup, callers: u32) -> Option<Opened>
+    ensures books { IfSome result (λ opened. opened.books ≡ setup.now.shards * length setup.now.tables) }
+    ensures seats { IfSome result (λ opened. opened.seats ≡ callers * length setup.now.tables) }
+{
+    let tables = u32::try_from(setup.tables.as_slice().len()).ok()?;
+    let books = setup.shards.checked_mul(tables)?;
+    let seats = callers.checked_mul(tables)?;
+    Opened::new(alloc, books, seats).ok()
+}
+
+/// Opens the tables, whose calls one record keeps, binds the sockets, and serves.
+fn run_recorded<
+    J: Naming + Send + Sync,
+    T: Table + Send,
+    R: ProxyRuntime + Ahead + Files + AllocGlobal + Eprint + RandomSource + Print,
+>(
     alloc: Global,
     rt: &R,
     setup: &Setup,
     bind: Endpoint,
     plan: Plan<'_>,
     instruments: &Instruments,
-    opened: OpenTables<T>,
+    clients: u32,
+    opened: Opened,
+) -> io::Result<bool>
+    requires can_open { CanOpen setup.now }
+    requires server { is_some setup.now.server ≡ true }
+    requires threads { (1 ≤ plan.threads) × (plan.threads ≤ 64) }
+    requires clients { (1 ≤ clients) × (clients ≤ 128) }
+    requires record { (opened.first.table_id ≡ J.record_id) × (opened.books ≡ J.books) }
+    requires books { opened.books ≡ setup.now.shards * length setup.now.tables }
+    requires seats { opened.seats ≡ (plan.threads + clients + 1) * length setup.now.tables }
+{
+    let keep = plan.stop_after.is_some();
+    let Ok(mut dealer) = Dealer::<J>::new(alloc, opened) else {
+        report(rt, FaultKind::NoMemory)?;
+        return Ok(false);
+    };
+    let tables = match open_tables::<T, J>(
+        alloc,
+        rt,
+        &mut dealer,
+        setup,
+        plan.threads,
+        clients,
+        keep,
+    ) {
+        Ok(tables) => tables,
+        Err(fault) => {
+            eprintln!(rt; "stickd: {fault}")?;
+            return Ok(false);
+        }
+    };
+    start(alloc, rt, setup, bind, plan, instruments, tables)
+}
+
+/// Binds the sockets, says what may surprise, and serves by the tables that were opened.
+fn start<
+    T: Table + Send,
+    J: Naming + Send + Sync,
+    R: ProxyRuntime + Ahead + Files + AllocGlobal + Eprint + Print,
+>(
+    alloc: Global,
+    rt: &R,
+    setup: &Setup,
+    bind: Endpoint,
+    plan: Plan<'_>,
+    instruments: &Instruments,
+    opened: OpenTables<T, J>,
 ) -> io::Result<bool>
     requires can_open { CanOpen setup.now }
     requires server { is_some setup.now.server ≡ true }
@@ -187,14 +251,18 @@ fn earlier(start: Instant, by: u64) -> Instant {
 }
 
 /// Makes the entries of the plan's file, if it names one, by these seats, which come back. None where that can't be done, which is said.
-fn load_where<T: Table, R: ProxyRuntime + Ahead + Files + AllocGlobal + Eprint>(
+fn load_where<
+    T: Table,
+    J: Naming,
+    R: ProxyRuntime + Ahead + Files + AllocGlobal + Eprint,
+>(
     alloc: Global,
     rt: &R,
     setup: &Setup,
     plan: Plan<'_>,
-    tables: &[Shards<T>],
-    seats: Vec<Seat>,
-) -> io::Result<Option<Vec<Seat>>> {
+    tables: &[Shards<T, J>],
+    seats: Vec<SharedSeat<J>>,
+) -> io::Result<Option<Vec<SharedSeat<J>>>> {
     match plan.keep.load {
         Some(path) => load_tables(alloc, rt, setup, tables, seats, path),
         None => Ok(Some(seats)),
@@ -203,13 +271,17 @@ fn load_where<T: Table, R: ProxyRuntime + Ahead + Files + AllocGlobal + Eprint>(
 
 /// Writes what the tables hold to the plan's file, if it names one and serving ended well, by the seats of a thread that has ended.
 /// Answers whether nothing is left undone.
-fn save_where<T: Table, R: ProxyRuntime + Ahead + Files + AllocGlobal + Eprint>(
+fn save_where<
+    T: Table,
+    J: Naming,
+    R: ProxyRuntime + Ahead + Files + AllocGlobal + Eprint,
+>(
     alloc: Global,
     rt: &R,
     setup: &Setup,
     plan: Plan<'_>,
-    tables: &[Shards<T>],
-    service_threads: &mut [ServiceThread],
+    tables: &[Shards<T, J>],
+    service_threads: &mut [ServiceThread<J>],
     start: Instant,
 ) -> io::Result<bool> {
     let (Some(path), Some(thread)) = (plan.keep.save, service_threads.first_mut()) else {
@@ -247,16 +319,16 @@ fn start_plan(plan: Plan<'_>, descriptors: Option<u64>) -> StartPlan
 
 /// How serving ended: the fault, if any; how many connections were admitted, rejected, and not accepted; and what the threads
 /// that served them have left.
-struct Ended {
+struct Ended<J: Naming> {
     fault: Option<FaultKind>,
     admitted: u64,
     rejected: u64,
     unaccepted: u64,
-    left: Left,
+    left: Left<J>,
 }
 
 /// How serving ended.
-fn end_of(served: Result<Served, ServeFault>) -> Ended {
+fn end_of<J: Naming>(served: Result<Served<J>, ServeFault<J>>) -> Ended<J> {
     let (fault, served) = match served {
         Ok(served) => (None, served),
         Err(ServeFault { kind, served }) => (Some(kind), served),
@@ -278,13 +350,13 @@ fn end_of(served: Result<Served, ServeFault>) -> Ended {
 }
 
 /// The threads beside the listener, by their duties, and the one that does the housekeeping. All have their memory.
-fn make_service_threads(
+fn make_service_threads<J: Naming>(
     alloc: Global,
     setup: &Setup,
     duties: Duties,
-    mut seats: Vec<Vec<Seat>>,
-    keepers: Vec<Seat>,
-) -> Result<Vec<ServiceThread>, NoMemory> {
+    mut seats: Vec<Vec<SharedSeat<J>>>,
+    keepers: Vec<SharedSeat<J>>,
+) -> Result<Vec<ServiceThread<J>>, NoMemory> {
     let mut service_threads = Vec::new(alloc);
     let counts = [
         (Duty::Commands, duties.commands),
@@ -321,6 +393,7 @@ pub fn run_pooled<R: ProxyRuntime + Ahead + Files + AllocGlobal + Eprint + Rando
 /// Serves, removes the sockets' files, and then settles the tables.
 fn serve_and_settle<
     T: Table + Send,
+    J: Naming + Send + Sync,
     R: ProxyRuntime + Ahead + Files + AllocGlobal + Eprint + Print,
 >(
     alloc: Global,
@@ -329,9 +402,9 @@ fn serve_and_settle<
     plan: Plan<'_>,
     sockets: &Sockets,
     instruments: &Instruments,
-    tables: Vec<Shards<T>>,
-    workers: Vec<Vec<Seat>>,
-    mut service_threads: Vec<ServiceThread>,
+    tables: Vec<Shards<T, J>>,
+    workers: Vec<Vec<SharedSeat<J>>>,
+    mut service_threads: Vec<ServiceThread<J>>,
 ) -> io::Result<bool>
     requires server { is_some setup.now.server ≡ true }
     requires tables { AreTablesOf setup.now tables.items }
@@ -378,7 +451,7 @@ fn serve_and_settle<
 }
 
 /// Says what the clients of the command socket came to, on all threads together.
-fn log_clients<R: Log>(rt: &R, service_threads: &[ServiceThread]) {
+fn log_clients<J: Naming, R: Log>(rt: &R, service_threads: &[ServiceThread<J>]) {
     let mut all = NOBODY;
     for service_thread in service_threads {
         all = all.with(service_thread.served);
@@ -389,13 +462,17 @@ fn log_clients<R: Log>(rt: &R, service_threads: &[ServiceThread]) {
 
 /// Says how serving ended, and settles the tables where it ended well: by their receipts where those were kept, else by counts and
 /// references.
-fn settle_where<T: Table, R: ProxyRuntime + Ahead + Files + AllocGlobal + Eprint + Print>(
+fn settle_where<
+    T: Table,
+    J: Naming,
+    R: ProxyRuntime + Ahead + Files + AllocGlobal + Eprint + Print,
+>(
     alloc: Global,
     rt: &R,
     setup: &Setup,
-    tables: Vec<Shards<T>>,
-    ended: Ended,
-    service_threads: Vec<ServiceThread>,
+    tables: Vec<Shards<T, J>>,
+    ended: Ended<J>,
+    service_threads: Vec<ServiceThread<J>>,
 ) -> io::Result<bool> {
     let Ended {
         fault,

@@ -8,8 +8,9 @@ use crate::running_program::{Running, ServiceCounts};
 use crate::shared::{ProxyRuntime, Shared};
 use base_clock::{Clock, RunningClock};
 use rule_model::Name;
-use shard_book::{Keeper, Named, Seat};
-use shard_locks::Seated;
+use shard_book::{Keeper, Named};
+use shard_locks::{Seated, SharedSeat};
+use shard_record::Naming;
 use std::alloc::Global;
 use std::net::TcpListener;
 use std::os::unix::net::UnixListener;
@@ -56,16 +57,16 @@ pub(crate) enum Duty {
 /// A thread beside the listener: its seat of each table, the tables' names where it asks them by name, and what it has counted of
 /// clients that sent commands once it ends.
 #[derive(Drop)]
-pub(crate) struct ServiceThread {
+pub(crate) struct ServiceThread<J: Naming> {
     pub duty: Duty,
     pub names: Vec<Name>,
-    pub seats: Vec<Seat>,
+    pub seats: Vec<SharedSeat<J>>,
     pub served: Served,
 }
 
-impl ServiceThread {
+impl<J: Naming> ServiceThread<J> {
     /// A thread with this duty.
-    pub fn new(duty: Duty, names: Vec<Name>, seats: Vec<Seat>) -> ServiceThread {
+    pub fn new(duty: Duty, names: Vec<Name>, seats: Vec<SharedSeat<J>>) -> ServiceThread<J> {
         ServiceThread {
             duty,
             names,
@@ -75,7 +76,7 @@ impl ServiceThread {
     }
 
     /// Does its duty until the proxy stops. Its seats come back with their calls.
-    pub fn run<T: Table, R: ProxyRuntime>(&mut self, shared: &Shared<'_, T, R>) {
+    pub fn run<T: Table, R: ProxyRuntime>(&mut self, shared: &Shared<'_, T, J, R>) {
         let seats = mem::replace(&mut self.seats, Vec::new(shared.alloc));
         let names = mem::replace(&mut self.names, Vec::new(shared.alloc));
         self.seats = match self.duty {
@@ -89,19 +90,19 @@ impl ServiceThread {
 }
 
 /// A table as a thread asks it, by its seat.
-pub(crate) type SeatedTable<'a, T, R> = Named<Seated<'a, T, R>>;
+pub(crate) type SeatedTable<'a, T, J, R> = Named<Seated<'a, T, J, R>>;
 
 /// Tables that are asked, and a place for each of their seats.
-struct Asked<'a, T: Table, R> {
-    tables: Vec<SeatedTable<'a, T, R>>,
-    back: Vec<Seat>,
+struct Asked<'a, T: Table, J: Naming, R> {
+    tables: Vec<SeatedTable<'a, T, J, R>>,
+    back: Vec<SharedSeat<J>>,
 }
 
 /// Empty lists for so many, once there is memory for them. None where the proxy stops before.
-fn await_memory<'a, T: Table, R: ProxyRuntime>(
-    shared: &Shared<'a, T, R>,
+fn await_memory<'a, T: Table, J: Naming, R: ProxyRuntime>(
+    shared: &Shared<'a, T, J, R>,
     count: usize,
-) -> Option<Asked<'a, T, R>> {
+) -> Option<Asked<'a, T, J, R>> {
     for _try in shared.rt.forever() {
         let tables = Vec::with_capacity(shared.alloc, count);
         let back = Vec::with_capacity(shared.alloc, count);
@@ -117,11 +118,11 @@ fn await_memory<'a, T: Table, R: ProxyRuntime>(
 }
 
 /// Seats a thread at the tables. Its seats come back where the proxy stops before there is memory for it.
-fn seat<'a, T: Table, R: ProxyRuntime>(
-    shared: &Shared<'a, T, R>,
+fn seat<'a, T: Table, J: Naming, R: ProxyRuntime>(
+    shared: &Shared<'a, T, J, R>,
     names: Vec<Name>,
-    seats: Vec<Seat>,
-) -> Result<Asked<'a, T, R>, Vec<Seat>> {
+    seats: Vec<SharedSeat<J>>,
+) -> Result<Asked<'a, T, J, R>, Vec<SharedSeat<J>>> {
     let count = seats.as_slice().len();
     let Some(mut asked) = await_memory(shared, count) else {
         return Err(seats);
@@ -138,10 +139,10 @@ fn seat<'a, T: Table, R: ProxyRuntime>(
 }
 
 /// The seats of tables that are asked no more.
-fn seats_of<T: Table, R: ProxyRuntime>(
-    tables: Vec<SeatedTable<'_, T, R>>,
-    mut back: Vec<Seat>,
-) -> Vec<Seat> {
+fn seats_of<T: Table, J: Naming, R: ProxyRuntime>(
+    tables: Vec<SeatedTable<'_, T, J, R>>,
+    mut back: Vec<SharedSeat<J>>,
+) -> Vec<SharedSeat<J>> {
     for named in tables {
         // The place is there.
         let _ = back.push(named.keeper.into_seat());
@@ -189,12 +190,12 @@ fn serve_scrapes<K: Keeper, C: Clock + Drop, P: Program, R: Wait + time::Clock>(
 }
 
 /// Answers the commands of the command socket's clients, and counts them.
-fn answer_commands<T: Table, R: ProxyRuntime>(
-    shared: &Shared<'_, T, R>,
+fn answer_commands<T: Table, J: Naming, R: ProxyRuntime>(
+    shared: &Shared<'_, T, J, R>,
     names: Vec<Name>,
-    seats: Vec<Seat>,
+    seats: Vec<SharedSeat<J>>,
     served: &mut Served,
-) -> Vec<Seat> {
+) -> Vec<SharedSeat<J>> {
     let Asked { tables, back } = match seat(shared, names, seats) {
         Ok(asked) => asked,
         Err(seats) => return seats,
@@ -215,10 +216,10 @@ fn answer_commands<T: Table, R: ProxyRuntime>(
 }
 
 /// What tells of the running proxy by these tables.
-fn teller_of<'a, T: Table, R: ProxyRuntime>(
-    shared: &Shared<'a, T, R>,
-    tables: Vec<SeatedTable<'a, T, R>>,
-) -> Teller<'a, Seated<'a, T, R>, RunningClock<'a, R>, Running<'a, R>> {
+fn teller_of<'a, T: Table, J: Naming, R: ProxyRuntime>(
+    shared: &Shared<'a, T, J, R>,
+    tables: Vec<SeatedTable<'a, T, J, R>>,
+) -> Teller<'a, Seated<'a, T, J, R>, RunningClock<'a, R>, Running<'a, R>> {
     Teller {
         alloc: shared.alloc,
         tables,
@@ -228,11 +229,11 @@ fn teller_of<'a, T: Table, R: ProxyRuntime>(
 }
 
 /// Answers the clients of the stats socket.
-fn answer_stats<T: Table, R: ProxyRuntime>(
-    shared: &Shared<'_, T, R>,
+fn answer_stats<T: Table, J: Naming, R: ProxyRuntime>(
+    shared: &Shared<'_, T, J, R>,
     names: Vec<Name>,
-    seats: Vec<Seat>,
-) -> Vec<Seat> {
+    seats: Vec<SharedSeat<J>>,
+) -> Vec<SharedSeat<J>> {
     let Some(listener) = shared.running.stats else {
         return seats;
     };
@@ -251,11 +252,11 @@ fn answer_stats<T: Table, R: ProxyRuntime>(
 }
 
 /// Answers the clients that scrape metrics.
-fn answer_scrapes<T: Table, R: ProxyRuntime>(
-    shared: &Shared<'_, T, R>,
+fn answer_scrapes<T: Table, J: Naming, R: ProxyRuntime>(
+    shared: &Shared<'_, T, J, R>,
     names: Vec<Name>,
-    seats: Vec<Seat>,
-) -> Vec<Seat> {
+    seats: Vec<SharedSeat<J>>,
+) -> Vec<SharedSeat<J>> {
     let Some(listener) = shared.running.metrics else {
         return seats;
     };
@@ -268,11 +269,11 @@ fn answer_scrapes<T: Table, R: ProxyRuntime>(
 }
 
 /// Reports until the proxy stops.
-fn report_seated<T: Table, R: ProxyRuntime>(
-    shared: &Shared<'_, T, R>,
+fn report_seated<T: Table, J: Naming, R: ProxyRuntime>(
+    shared: &Shared<'_, T, J, R>,
     names: Vec<Name>,
-    seats: Vec<Seat>,
-) -> Vec<Seat> {
+    seats: Vec<SharedSeat<J>>,
+) -> Vec<SharedSeat<J>> {
     let Asked { tables, back } = match seat(shared, names, seats) {
         Ok(asked) => asked,
         Err(seats) => return seats,

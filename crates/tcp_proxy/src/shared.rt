@@ -7,6 +7,7 @@ use crate::running_program::Running;
 use log::Log;
 use rule_model::Setup;
 use shard_locks::Shards;
+use shard_record::Naming;
 use std::alloc::Global;
 use std::net::{Net, TcpListener, TcpStream};
 use std::os::unix::net::UnixListener;
@@ -32,11 +33,11 @@ impl<
 
 /// What the threads of the proxy share, each by reference: the tables of its setup, its sockets, and whether it stops.
 #[derive(Drop)]
-pub(crate) struct Shared<'a, T: Table, R> {
+pub(crate) struct Shared<'a, T: Table, J: Naming, R> {
     pub alloc: Global,
     pub rt: &'a R,
     pub setup: &'a Setup,
-    pub tables: &'a [Shards<T>],
+    pub tables: &'a [Shards<T, J>],
     pub listeners: &'a [Listener],
     pub socket: &'a UnixListener,
     /// How long a client of the socket may send or take nothing, in ms.

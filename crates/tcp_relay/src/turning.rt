@@ -20,6 +20,7 @@ use crate::worker::Worker;
 use crate::{Gate, ServeRuntime};
 use base_clock::{Clock, RunningClock};
 use mio::{Events, net};
+use shard_record::Naming;
 use std::thread;
 use std::time::Duration;
 use stick_table::Table;
@@ -45,9 +46,9 @@ pub(crate) struct EventLoop<'r, R> {
 }
 
 /// Takes a client in: it is judged, and carried to the server if it is admitted.
-fn take_in<'a, T: Table, R: ServeRuntime, G: Gate, W: Width>(
+fn take_in<'a, T: Table, J: Naming, R: ServeRuntime, G: Gate, W: Width>(
     shared: &Shared<'a, R, G, W>,
-    worker: &mut Worker<'a, T, R, W>,
+    worker: &mut Worker<'a, T, J, R, W>,
     event_loop: &mut EventLoop<'_, R>,
     buffer: &mut Buffer,
     number: u64,
@@ -125,8 +126,8 @@ fn start<R: ServeRuntime, G, W: Width>(
 }
 
 /// What becomes of a client that couldn't be accepted.
-fn note_fault<T: Table, R, W: Width>(
-    worker: &mut Worker<'_, T, R, W>,
+fn note_fault<T: Table, J: Naming, R, W: Width>(
+    worker: &mut Worker<'_, T, J, R, W>,
     acceptor: &mut Acceptor,
     fault: AcceptFault,
 ) {
@@ -140,9 +141,9 @@ fn note_fault<T: Table, R, W: Width>(
 }
 
 /// Accepts a client, if there is one, for the number that is drawn and a place that is free.
-fn accept_one<'a, T: Table, R: ServeRuntime, G: Gate, W: Width>(
+fn accept_one<'a, T: Table, J: Naming, R: ServeRuntime, G: Gate, W: Width>(
     shared: &Shared<'a, R, G, W>,
-    worker: &mut Worker<'a, T, R, W>,
+    worker: &mut Worker<'a, T, J, R, W>,
     event_loop: &mut EventLoop<'_, R>,
     buffer: &mut Buffer,
     number: u64,
@@ -169,9 +170,9 @@ fn accept_one<'a, T: Table, R: ServeRuntime, G: Gate, W: Width>(
 }
 
 /// Tries to accept a client. First a socket for its server is had: one that is accepted can be carried.
-fn try_to_accept<'a, T: Table, R: ServeRuntime, G: Gate, W: Width>(
+fn try_to_accept<'a, T: Table, J: Naming, R: ServeRuntime, G: Gate, W: Width>(
     shared: &Shared<'a, R, G, W>,
-    worker: &mut Worker<'a, T, R, W>,
+    worker: &mut Worker<'a, T, J, R, W>,
     event_loop: &mut EventLoop<'_, R>,
     buffer: &mut Buffer,
     number: u64,
@@ -192,9 +193,9 @@ fn try_to_accept<'a, T: Table, R: ServeRuntime, G: Gate, W: Width>(
 }
 
 /// Accepts the clients that wait, as far as this worker can. Whether none waits now.
-fn accept_some<'a, T: Table, R: ServeRuntime, G: Gate, W: Width>(
+fn accept_some<'a, T: Table, J: Naming, R: ServeRuntime, G: Gate, W: Width>(
     shared: &Shared<'a, R, G, W>,
-    worker: &mut Worker<'a, T, R, W>,
+    worker: &mut Worker<'a, T, J, R, W>,
     event_loop: &mut EventLoop<'_, R>,
     buffer: &mut Buffer,
 ) -> bool {
@@ -214,9 +215,9 @@ fn accept_some<'a, T: Table, R: ServeRuntime, G: Gate, W: Width>(
 }
 
 /// Gives a connection its turn, of which a socket is ready.
-fn turn<'a, T: Table, R: ServeRuntime, G, W: Width>(
+fn turn<'a, T: Table, J: Naming, R: ServeRuntime, G, W: Width>(
     shared: &Shared<'a, R, G, W>,
-    worker: &mut Worker<'a, T, R, W>,
+    worker: &mut Worker<'a, T, J, R, W>,
     event_loop: &mut EventLoop<'_, R>,
     buffer: &mut Buffer,
     ready: Ready,
@@ -252,9 +253,9 @@ fn tells_of_connections(events: &Events) -> bool {
 }
 
 /// Gives each that is ready its turn, the listener first. Whether that was the listener alone, where no client waits now.
-fn turn_each<'a, T: Table, R: ServeRuntime, G: Gate, W: Width>(
+fn turn_each<'a, T: Table, J: Naming, R: ServeRuntime, G: Gate, W: Width>(
     shared: &Shared<'a, R, G, W>,
-    worker: &mut Worker<'a, T, R, W>,
+    worker: &mut Worker<'a, T, J, R, W>,
     event_loop: &mut EventLoop<'_, R>,
     events: &Events,
     buffer: &mut Buffer,
@@ -276,9 +277,9 @@ fn turn_each<'a, T: Table, R: ServeRuntime, G: Gate, W: Width>(
 }
 
 /// Waits until something is ready, for no longer than it may. False where that failed.
-fn wait<'a, T: Table, R: ServeRuntime, G: Gate, W: Width>(
+fn wait<'a, T: Table, J: Naming, R: ServeRuntime, G: Gate, W: Width>(
     shared: &Shared<'a, R, G, W>,
-    worker: &Worker<'a, T, R, W>,
+    worker: &Worker<'a, T, J, R, W>,
     event_loop: &mut EventLoop<'_, R>,
     events: &mut Events,
 ) -> bool {
@@ -304,9 +305,9 @@ fn wait<'a, T: Table, R: ServeRuntime, G: Gate, W: Width>(
 /// Waits until something is ready, and gives each its turn. Then, where that is due, silent peers are looked for, and servers
 /// that refused are tried again; at the end of a drain all are closed. What was counted is published. Where each client that came
 /// was rejected, and that was all, it rests a moment before the next. False where waiting failed.
-pub(crate) fn turn_all<'a, T: Table, R: ServeRuntime, G: Gate, W: Width>(
+pub(crate) fn turn_all<'a, T: Table, J: Naming, R: ServeRuntime, G: Gate, W: Width>(
     shared: &Shared<'a, R, G, W>,
-    worker: &mut Worker<'a, T, R, W>,
+    worker: &mut Worker<'a, T, J, R, W>,
     event_loop: &mut EventLoop<'_, R>,
     buffers: &mut Buffers,
 ) -> bool {
