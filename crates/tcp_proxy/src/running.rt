@@ -7,13 +7,13 @@ ghost use Rattle.tcp_relay.specs.Serving.{AreSeats, AreTablesOf};
 use crate::ending::{Left, give_up_all, settle_all};
 use crate::instruments::Instruments;
 use crate::keeping::{load_tables, longest_life, save_all};
-use crate::later::Ahead;
 use crate::opening::{OpenTables, open_tables};
 use crate::plan::{Duties, Plan};
 use crate::service_threads::{Duty, NOBODY, ServiceThread};
 use crate::serving::serve_all;
 use crate::shared::{ProxyRuntime, Shared};
 use crate::sockets::{Sockets, bind_sockets};
+use base_clock::Start;
 use base_sequence::NoMemory;
 use log::{Log, info};
 use rule_addresses::Endpoint;
@@ -26,7 +26,6 @@ use std::marker::Brand;
 use std::random::RandomSource;
 use std::rt::Files;
 use std::sync::atomic::AtomicBool;
-use std::time::{Duration, Instant};
 use std::{io, mem};
 use stick_pooled::StickTable;
 use stick_table::Table;
@@ -81,7 +80,7 @@ fn take_one_of_each<J: Naming>(
 }
 
 /// Says why serving ended with a fault.
-fn report<R: Eprint>(rt: &R, kind: FaultKind) -> io::Result<()> {
+pub(crate) fn report<R: Eprint>(rt: &R, kind: FaultKind) -> io::Result<()> {
     match kind {
         FaultKind::Waiting => eprintln!(rt; "stickd: a thread can't wait for connections"),
         FaultKind::Thread => eprintln!(rt; "stickd: a thread can't be started"),
@@ -95,7 +94,7 @@ fn report<R: Eprint>(rt: &R, kind: FaultKind) -> io::Result<()> {
 /// error. An error is one of printing.
 pub fn run_proxy<
     T: Table + Send,
-    R: ProxyRuntime + Ahead + Files + AllocGlobal + Eprint + RandomSource + Print,
+    R: ProxyRuntime + Files + AllocGlobal + Eprint + RandomSource + Print,
 >(alloc: Global, rt: &R, setup: &Setup, plan: Plan<'_>) -> io::Result<bool>
     requires can_open { CanOpen setup.now }
     requires threads { (1 ≤ plan.threads) × (plan.threads ≤ 64) }
@@ -136,7 +135,7 @@ fn open_record(alloc: Global, setup: &Setup, callers: u32) -> Option<Opened>
 fn run_recorded<
     J: Naming + Send + Sync,
     T: Table + Send,
-    R: ProxyRuntime + Ahead + Files + AllocGlobal + Eprint + RandomSource + Print,
+    R: ProxyRuntime + Files + AllocGlobal + Eprint + RandomSource + Print,
 >(
     alloc: Global,
     rt: &R,
@@ -182,7 +181,7 @@ fn run_recorded<
 fn start<
     T: Table + Send,
     J: Naming + Send + Sync,
-    R: ProxyRuntime + Ahead + Files + AllocGlobal + Eprint + Print,
+    R: ProxyRuntime + Files + AllocGlobal + Eprint + Print,
 >(
     alloc: Global,
     rt: &R,
@@ -216,11 +215,10 @@ fn start<
         report(rt, FaultKind::NoMemory)?;
         return Ok(false);
     };
-    rt.set_ahead(begins_at(setup, plan));
     let Some(mut sockets) = bind_sockets(alloc, rt, bind, plan)? else {
         return Ok(false);
     };
-    sockets.start = earlier(sockets.start, begins_at(setup, plan));
+    sockets.start.moment = begins_at(setup, plan);
     say_warnings(rt, warnings.as_slice());
     serve_and_settle(
         alloc,
@@ -236,26 +234,15 @@ fn start<
 }
 
 /// The moment at which the run begins, in ms: where entries are loaded, the longest life of all, so that each was refreshed since 0.
-fn begins_at(setup: &Setup, plan: Plan<'_>) -> u64 {
+fn begins_at(setup: &Setup, plan: Plan<'_>) -> u32 {
     match plan.keep.load {
-        Some(_path) => u64::from(longest_life(setup)),
+        Some(_path) => longest_life(setup),
         None => 0,
     }
 }
 
-/// An instant so many ms earlier. The clock that the proxy runs by is ahead by as many.
-fn earlier(start: Instant, by: u64) -> Instant {
-    start
-        .checked_sub(Duration::from_millis(by))
-        .unwrap_or(start)
-}
-
 /// Makes the entries of the plan's file, if it names one, by these seats, which come back. None where that can't be done, which is said.
-fn load_where<
-    T: Table,
-    J: Naming,
-    R: ProxyRuntime + Ahead + Files + AllocGlobal + Eprint,
->(
+fn load_where<T: Table, J: Naming, R: ProxyRuntime + Files + AllocGlobal + Eprint>(
     alloc: Global,
     rt: &R,
     setup: &Setup,
@@ -271,18 +258,14 @@ fn load_where<
 
 /// Writes what the tables hold to the plan's file, if it names one and serving ended well, by the seats of a thread that has ended.
 /// Answers whether nothing is left undone.
-fn save_where<
-    T: Table,
-    J: Naming,
-    R: ProxyRuntime + Ahead + Files + AllocGlobal + Eprint,
->(
+fn save_where<T: Table, J: Naming, R: ProxyRuntime + Files + AllocGlobal + Eprint>(
     alloc: Global,
     rt: &R,
     setup: &Setup,
     plan: Plan<'_>,
     tables: &[Shards<T, J>],
     service_threads: &mut [ServiceThread<J>],
-    start: Instant,
+    start: Start,
 ) -> io::Result<bool> {
     let (Some(path), Some(thread)) = (plan.keep.save, service_threads.first_mut()) else {
         return Ok(true);
@@ -377,7 +360,7 @@ fn make_service_threads<J: Naming>(
 }
 
 /// The same on pooled tables, of which an event costs the same whatever their size.
-pub fn run_pooled<R: ProxyRuntime + Ahead + Files + AllocGlobal + Eprint + RandomSource + Print>(
+pub fn run_pooled<R: ProxyRuntime + Files + AllocGlobal + Eprint + RandomSource + Print>(
     alloc: Global,
     rt: &R,
     setup: &Setup,
@@ -394,7 +377,7 @@ pub fn run_pooled<R: ProxyRuntime + Ahead + Files + AllocGlobal + Eprint + Rando
 fn serve_and_settle<
     T: Table + Send,
     J: Naming + Send + Sync,
-    R: ProxyRuntime + Ahead + Files + AllocGlobal + Eprint + Print,
+    R: ProxyRuntime + Files + AllocGlobal + Eprint + Print,
 >(
     alloc: Global,
     rt: &R,
@@ -412,7 +395,7 @@ fn serve_and_settle<
     requires threads { (1 ≤ plan.threads) × (plan.threads ≤ 64) }
 {
     let stop = AtomicBool::new(false);
-    let running = instruments.running(rt, plan, sockets, begins_at(setup, plan));
+    let running = instruments.running(rt, plan, sockets);
     running.notify(Notice::Ready.bytes());
     let shared = Shared {
         alloc,
@@ -462,11 +445,7 @@ fn log_clients<J: Naming, R: Log>(rt: &R, service_threads: &[ServiceThread<J>]) 
 
 /// Says how serving ended, and settles the tables where it ended well: by their receipts where those were kept, else by counts and
 /// references.
-fn settle_where<
-    T: Table,
-    J: Naming,
-    R: ProxyRuntime + Ahead + Files + AllocGlobal + Eprint + Print,
->(
+fn settle_where<T: Table, J: Naming, R: ProxyRuntime + Files + AllocGlobal + Eprint + Print>(
     alloc: Global,
     rt: &R,
     setup: &Setup,

@@ -93,9 +93,10 @@ impl<J: Naming> ServiceThread<J> {
 pub(crate) type SeatedTable<'a, T, J, R> = Named<Seated<'a, T, J, R>>;
 
 /// Tables that are asked, and a place for each of their seats.
-struct Asked<'a, T: Table, J: Naming, R> {
-    tables: Vec<SeatedTable<'a, T, J, R>>,
-    back: Vec<SharedSeat<J>>,
+#[derive(Drop)]
+pub(crate) struct Asked<'a, T: Table, J: Naming, R> {
+    pub tables: Vec<SeatedTable<'a, T, J, R>>,
+    pub back: Vec<SharedSeat<J>>,
 }
 
 /// Empty lists for so many, once there is memory for them. None where the proxy stops before.
@@ -139,7 +140,7 @@ fn seat<'a, T: Table, J: Naming, R: ProxyRuntime>(
 }
 
 /// The seats of tables that are asked no more.
-fn seats_of<T: Table, J: Naming, R: ProxyRuntime>(
+pub(crate) fn seats_of<T: Table, J: Naming, R>(
     tables: Vec<SeatedTable<'_, T, J, R>>,
     mut back: Vec<SharedSeat<J>>,
 ) -> Vec<SharedSeat<J>> {
