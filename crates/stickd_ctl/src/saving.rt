@@ -8,7 +8,7 @@ use crate::client::{BAD_WORDS, DONE, FAILED, answer_of, say_no_memory, show};
 use crate::errors::is_error;
 use crate::lines::{read_header, split_at_first};
 use crate::saved::Saved;
-use crate::show_command::show_command;
+use crate::show_table::show_command;
 use base_lines::Parts;
 use base_sequence::NoMemory;
 use std::alloc::Global;

@@ -6,7 +6,7 @@ use crate::columns::{Texts, columns};
 use crate::errors::is_error;
 use crate::lines::{bare_name, is_row, key_of, name_of, number_of_word, read_header, value_of};
 use crate::ranking::greatest;
-use crate::show_command::show_command;
+use crate::show_table::show_command;
 use base_lines::{Parts, before_parenthesis, push_decimal, read_number};
 use base_sequence::NoMemory;
 use std::alloc::Global;
