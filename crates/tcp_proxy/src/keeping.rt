@@ -6,7 +6,8 @@ ghost use Rattle.rule_model.specs.declared.sections.NamedSpec.{NamedSpec as ItsS
 ghost use Rattle.table_loading.specs.Lives as spec;
 
 use crate::later::Ahead;
-use crate::service_threads::SeatedTable;
+use crate::plan::Plan;
+use crate::service_threads::{SeatedTable, ServiceThread};
 use crate::shared::ProxyRuntime;
 use base_clock::{Clock, RunningClock, StoppedClock};
 use base_sequence::NoMemory;
@@ -19,6 +20,7 @@ use shard_record::Naming;
 use std::alloc::Global;
 use std::fs::{self, OpenFile, OpenOptions};
 use std::io::{self, Write};
+use std::mem;
 use std::os::unix::fs::OpenOptionsExt;
 use std::rt::Files;
 use std::time::Instant;
@@ -81,11 +83,7 @@ fn say_no_memory<R: Eprint>(rt: &R) -> io::Result<()> {
 
 /// Makes the entries that a file keeps, by one seat of each table, which come back. None where the file can't be read or isn't what
 /// was saved, which is said on standard error.
-pub(crate) fn load_tables<
-    T: Table,
-    J: Naming,
-    R: ProxyRuntime + Ahead + Files + AllocGlobal + Eprint,
->(
+fn load_tables<T: Table, J: Naming, R: ProxyRuntime + Ahead + Files + AllocGlobal + Eprint>(
     alloc: Global,
     rt: &R,
     setup: &Setup,
@@ -126,11 +124,7 @@ fn show_command(alloc: Global, name: &[u8]) -> Result<Vec<u8>, NoMemory> {
 }
 
 /// Adds what the table of a place holds, at a moment.
-fn save_one<
-    T: Table,
-    J: Naming,
-    R: ProxyRuntime + Ahead + Files + AllocGlobal + Eprint,
->(
+fn save_one<T: Table, J: Naming, R: ProxyRuntime + Ahead + Files + AllocGlobal + Eprint>(
     alloc: Global,
     tables: &mut [SeatedTable<'_, T, J, R>],
     place: usize,
@@ -153,11 +147,7 @@ fn save_one<
 }
 
 /// What tables hold at a moment.
-fn text_of<
-    T: Table,
-    J: Naming,
-    R: ProxyRuntime + Ahead + Files + AllocGlobal + Eprint,
->(
+fn text_of<T: Table, J: Naming, R: ProxyRuntime + Ahead + Files + AllocGlobal + Eprint>(
     alloc: Global,
     tables: &mut [SeatedTable<'_, T, J, R>],
     moment: u64,
@@ -205,13 +195,9 @@ fn replace_file<R: ProxyRuntime + Ahead + Files + AllocGlobal + Eprint>(
     }
 }
 
-/// Writes what the tables hold to a file, by one seat of each table. The seats that come back, and whether the file is written; where
-/// it isn't, that is said on standard error. Where memory was short for the seats, none come back.
-pub(crate) fn save_all<
-    T: Table,
-    J: Naming,
-    R: ProxyRuntime + Ahead + Files + AllocGlobal + Eprint,
->(
+/// Writes what the tables hold to a file, by one seat of each table. The seats that come back, and whether the file is written;
+/// where it isn't, that is said on standard error. Where memory was short for the seats, none come back.
+fn save_all<T: Table, J: Naming, R: ProxyRuntime + Ahead + Files + AllocGlobal + Eprint>(
     alloc: Global,
     rt: &R,
     setup: &Setup,
@@ -243,4 +229,48 @@ pub(crate) fn save_all<
     };
     let seats = seats_of(alloc, seated).unwrap_or(Vec::new(alloc));
     Ok((seats, is_saved))
+}
+
+/// Makes the entries of the plan's file, if it names one, by these seats, which come back. None where that can't be done, which is
+/// said.
+pub(crate) fn load_where<
+    T: Table,
+    J: Naming,
+    R: ProxyRuntime + Ahead + Files + AllocGlobal + Eprint,
+>(
+    alloc: Global,
+    rt: &R,
+    setup: &Setup,
+    plan: Plan<'_>,
+    tables: &[Shards<T, J>],
+    seats: Vec<SharedSeat<J>>,
+) -> io::Result<Option<Vec<SharedSeat<J>>>> {
+    match plan.keep.load {
+        Some(path) => load_tables(alloc, rt, setup, tables, seats, path),
+        None => Ok(Some(seats)),
+    }
+}
+
+/// Writes what the tables hold to the plan's file, if it names one and serving ended well, by the seats of a thread that has ended.
+/// Answers whether nothing is left undone.
+pub(crate) fn save_where<
+    T: Table,
+    J: Naming,
+    R: ProxyRuntime + Ahead + Files + AllocGlobal + Eprint,
+>(
+    alloc: Global,
+    rt: &R,
+    setup: &Setup,
+    plan: Plan<'_>,
+    tables: &[Shards<T, J>],
+    service_threads: &mut [ServiceThread<J>],
+    start: Instant,
+) -> io::Result<bool> {
+    let (Some(path), Some(thread)) = (plan.keep.save, service_threads.first_mut()) else {
+        return Ok(true);
+    };
+    let seats = mem::replace(&mut thread.seats, Vec::new(alloc));
+    let (seats, is_saved) = save_all(alloc, rt, setup, tables, seats, start, path)?;
+    thread.seats = seats;
+    Ok(is_saved)
 }
