@@ -5,8 +5,9 @@ ghost use Rattle.std.specs.Prelude.{◌≡◌, ◌<◌, ◌^◌, map};
 ghost use Rattle.rule_model.specs.declared.sections.NamedSpec.{NamedSpec as ItsSpec};
 ghost use Rattle.table_cli.specs.Lives as spec;
 
+use crate::plan::Plan;
 use crate::running::report;
-use crate::service_threads::{Asked, SeatedTable, seats_of};
+use crate::service_threads::{Asked, SeatedTable, ServiceThread, seats_of};
 use crate::shared::ProxyRuntime;
 use base_clock::{Clock, RunningClock, Start, StoppedClock};
 use base_sequence::NoMemory;
@@ -19,6 +20,7 @@ use shard_record::Naming;
 use std::alloc::Global;
 use std::fs::{self, OpenFile, OpenOptions};
 use std::io::{self, Write};
+use std::mem;
 use std::os::unix::fs::OpenOptionsExt;
 use std::rt::Files;
 use stick_table::Table;
@@ -67,7 +69,7 @@ fn seat_all<'a, T: Table, J: Naming, R>(
 
 /// Makes the entries that a file keeps, by one seat of each table, which come back. None where the file can't be read or isn't what
 /// was saved, which is said on standard error.
-pub(crate) fn load_tables<T: Table, J: Naming, R: ProxyRuntime + Files + AllocGlobal + Eprint>(
+fn load_tables<T: Table, J: Naming, R: ProxyRuntime + Files + AllocGlobal + Eprint>(
     alloc: Global,
     rt: &R,
     setup: &Setup,
@@ -165,9 +167,9 @@ fn replace_file<R: ProxyRuntime + Files + AllocGlobal + Eprint>(
     }
 }
 
-/// Writes what the tables hold to a file, by one seat of each table. The seats that come back, and whether the file is written; where
-/// it isn't, that is said on standard error. Where memory was short for the seats, none come back.
-pub(crate) fn save_all<T: Table, J: Naming, R: ProxyRuntime + Files + AllocGlobal + Eprint>(
+/// Writes what the tables hold to a file, by one seat of each table. The seats that come back, and whether the file is written;
+/// where it isn't, that is said on standard error. Where memory was short for the seats, none come back.
+fn save_all<T: Table, J: Naming, R: ProxyRuntime + Files + AllocGlobal + Eprint>(
     alloc: Global,
     rt: &R,
     setup: &Setup,
@@ -198,4 +200,40 @@ pub(crate) fn save_all<T: Table, J: Naming, R: ProxyRuntime + Files + AllocGloba
         }
     };
     Ok((seats_of(asked.tables, asked.back), is_saved))
+}
+
+/// Makes the entries of the plan's file, if it names one, by these seats, which come back. None where that can't be done, which is
+/// said.
+pub(crate) fn load_where<T: Table, J: Naming, R: ProxyRuntime + Files + AllocGlobal + Eprint>(
+    alloc: Global,
+    rt: &R,
+    setup: &Setup,
+    plan: Plan<'_>,
+    tables: &[Shards<T, J>],
+    seats: Vec<SharedSeat<J>>,
+) -> io::Result<Option<Vec<SharedSeat<J>>>> {
+    match plan.keep.load {
+        Some(path) => load_tables(alloc, rt, setup, tables, seats, path),
+        None => Ok(Some(seats)),
+    }
+}
+
+/// Writes what the tables hold to the plan's file, if it names one and serving ended well, by the seats of a thread that has ended.
+/// Answers whether nothing is left undone.
+pub(crate) fn save_where<T: Table, J: Naming, R: ProxyRuntime + Files + AllocGlobal + Eprint>(
+    alloc: Global,
+    rt: &R,
+    setup: &Setup,
+    plan: Plan<'_>,
+    tables: &[Shards<T, J>],
+    service_threads: &mut [ServiceThread<J>],
+    start: Start,
+) -> io::Result<bool> {
+    let (Some(path), Some(thread)) = (plan.keep.save, service_threads.first_mut()) else {
+        return Ok(true);
+    };
+    let seats = mem::replace(&mut thread.seats, Vec::new(alloc));
+    let (seats, is_saved) = save_all(alloc, rt, setup, tables, seats, start, path)?;
+    thread.seats = seats;
+    Ok(is_saved)
 }

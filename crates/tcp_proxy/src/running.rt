@@ -1,45 +1,36 @@
 //! A run of the proxy: tables opened, sockets bound, threads started, and in the end tables settled; `stickd` calls `run_pooled`.
 
-ghost use Rattle.std.specs.Prelude.{◌≡◌, ◌≤◌, ◌+◌, ◌*◌, length, is_some, true, IfSome};
+ghost use Rattle.std.specs.Prelude.{◌≡◌, ◌≤◌, length, is_some, true};
 ghost use Rattle.admit_drive.specs.Tables.{CanOpen};
 ghost use Rattle.tcp_relay.specs.Serving.{AreSeats, AreTablesOf};
+ghost use Rattle.tcp_proxy.specs.Opened.{HasPlaces};
 
 use crate::ending::{Left, give_up_all, settle_all};
 use crate::instruments::Instruments;
-use crate::keeping::{load_tables, longest_life, save_all};
-use crate::opening::{OpenTables, open_tables};
-use crate::plan::{Duties, Plan};
-use crate::service_threads::{Duty, NOBODY, ServiceThread};
+use crate::keeping::{load_where, longest_life, save_where};
+use crate::opening::{CallRecord, OpenTables, open_record, open_recorded};
+use crate::plan::Plan;
+use crate::service_threads::{NOBODY, ServiceThread, make_service_threads};
 use crate::serving::serve_all;
 use crate::shared::{ProxyRuntime, Shared};
 use crate::sockets::{Sockets, bind_sockets};
-use base_clock::Start;
 use base_sequence::NoMemory;
 use log::{Log, info};
 use rule_addresses::Endpoint;
-use rule_model::{Name, Setup};
+use rule_model::Setup;
 use rule_warnings::{StartPlan, Warning, allowed_descriptors, warnings_of};
 use shard_locks::{Shards, SharedSeat};
-use shard_record::{Dealer, Naming, Opened};
+use shard_record::Naming;
 use std::alloc::Global;
+use std::io;
 use std::marker::Brand;
 use std::random::RandomSource;
 use std::rt::Files;
 use std::sync::atomic::AtomicBool;
-use std::{io, mem};
 use stick_pooled::StickTable;
 use stick_table::Table;
 use tcp_relay::{FaultKind, ServeFault, Served};
 use tcp_watch::Notice;
-
-/// The names of a setup's tables.
-fn names_of(alloc: Global, setup: &Setup) -> Result<Vec<Name>, NoMemory> {
-    let mut names = Vec::new(alloc);
-    for named in setup.tables.as_slice() {
-        names.push(named.name.copy()?)?;
-    }
-    Ok(names)
-}
 
 /// The seats of each table, and one more of each.
 fn with_more<J: Naming>(
@@ -65,20 +56,6 @@ fn all_seats<J: Naming>(
     Ok(seats)
 }
 
-/// The last seat of each table, which is taken out of its list.
-fn take_one_of_each<J: Naming>(
-    alloc: Global,
-    seats: &mut Vec<Vec<SharedSeat<J>>>,
-) -> Result<Vec<SharedSeat<J>>, NoMemory> {
-    let mut taken = Vec::new(alloc);
-    for of_table in seats.iter_mut() {
-        if let Some(seat) = of_table.pop() {
-            taken.push(seat)?;
-        }
-    }
-    Ok(taken)
-}
-
 /// Says why serving ended with a fault.
 pub(crate) fn report<R: Eprint>(rt: &R, kind: FaultKind) -> io::Result<()> {
     match kind {
@@ -89,8 +66,8 @@ pub(crate) fn report<R: Eprint>(rt: &R, kind: FaultKind) -> io::Result<()> {
 }
 
 /// Runs the proxy of a setup that has a `bind` and a server: opens its tables, binds its sockets, and serves. It stops once
-/// the connections of the plan have ended, or those that are open as it drains, and then settles the tables and prints what they come
-/// to; or where a thread can't wait for connections. Answers whether all went well; what didn't is said on standard
+/// the connections of the plan have ended, or those that are open as it drains, and then settles the tables and prints what they
+/// come to; or where a thread can't wait for connections. Answers whether all went well; what didn't is said on standard
 /// error. An error is one of printing.
 pub fn run_proxy<
     T: Table + Send,
@@ -113,22 +90,11 @@ pub fn run_proxy<
         return Ok(false);
     };
     let clients = plan.duties(instruments.awaits_signals()).sum();
-    let Some(opened) = open_record(alloc, setup, plan.threads + clients + 1) else {
+    let Some(calls) = open_record(alloc, setup, plan.threads, clients) else {
         report(rt, FaultKind::NoMemory)?;
         return Ok(false);
     };
-    run_recorded::<Brand, T, R>(alloc, rt, setup, bind, plan, &instruments, clients, opened)
-}
-
-/// The record of the calls of all tables of a setup, each of which has so many callers.
-fn open_record(alloc: Global, setup: &Setup, callers: u32) -> Option<Opened>
-    ensures books { IfSome result (λ opened. opened.books ≡ setup.now.shards * length setup.now.tables) }
-    ensures seats { IfSome result (λ opened. opened.seats ≡ callers * length setup.now.tables) }
-{
-    let tables = u32::try_from(setup.tables.as_slice().len()).ok()?;
-    let books = setup.shards.checked_mul(tables)?;
-    let seats = callers.checked_mul(tables)?;
-    Opened::new(alloc, books, seats).ok()
+    run_recorded::<Brand, T, R>(alloc, rt, setup, bind, plan, &instruments, calls)
 }
 
 /// Opens the tables, whose calls one record keeps, binds the sockets, and serves.
@@ -143,38 +109,24 @@ fn run_recorded<
     bind: Endpoint,
     plan: Plan<'_>,
     instruments: &Instruments,
-    clients: u32,
-    opened: Opened,
+    calls: CallRecord,
 ) -> io::Result<bool>
     requires can_open { CanOpen setup.now }
     requires server { is_some setup.now.server ≡ true }
     requires threads { (1 ≤ plan.threads) × (plan.threads ≤ 64) }
-    requires clients { (1 ≤ clients) × (clients ≤ 128) }
-    requires record { (opened.first.table_id ≡ J.record_id) × (opened.books ≡ J.books) }
-    requires books { opened.books ≡ setup.now.shards * length setup.now.tables }
-    requires seats { opened.seats ≡ (plan.threads + clients + 1) * length setup.now.tables }
+    requires workers { calls.workers ≡ plan.threads }
+    requires clients { (1 ≤ calls.clients) × (calls.clients ≤ 128) }
+    requires name { (calls.opened.first.table_id ≡ J.record_id) × (calls.opened.books ≡ J.books) }
+    requires places { HasPlaces setup.now calls }
 {
     let keep = plan.stop_after.is_some();
-    let Ok(mut dealer) = Dealer::<J>::new(alloc, opened) else {
-        report(rt, FaultKind::NoMemory)?;
-        return Ok(false);
-    };
-    let tables = match open_tables::<T, J>(
-        alloc,
-        rt,
-        &mut dealer,
-        setup,
-        plan.threads,
-        clients,
-        keep,
-    ) {
-        Ok(tables) => tables,
+    match open_recorded::<T, J>(alloc, rt, setup, calls, keep) {
+        Ok(tables) => start(alloc, rt, setup, bind, plan, instruments, tables),
         Err(fault) => {
             eprintln!(rt; "stickd: {fault}")?;
-            return Ok(false);
+            Ok(false)
         }
-    };
-    start(alloc, rt, setup, bind, plan, instruments, tables)
+    }
 }
 
 /// Binds the sockets, says what may surprise, and serves by the tables that were opened.
@@ -233,47 +185,13 @@ fn start<
     )
 }
 
-/// The moment at which the run begins, in ms: where entries are loaded, the longest life of all, so that each was refreshed since 0.
+/// The moment at which the run begins, in ms: where entries are loaded, the longest life of all, so that each was refreshed since
+/// 0.
 fn begins_at(setup: &Setup, plan: Plan<'_>) -> u32 {
     match plan.keep.load {
         Some(_path) => longest_life(setup),
         None => 0,
     }
-}
-
-/// Makes the entries of the plan's file, if it names one, by these seats, which come back. None where that can't be done, which is said.
-fn load_where<T: Table, J: Naming, R: ProxyRuntime + Files + AllocGlobal + Eprint>(
-    alloc: Global,
-    rt: &R,
-    setup: &Setup,
-    plan: Plan<'_>,
-    tables: &[Shards<T, J>],
-    seats: Vec<SharedSeat<J>>,
-) -> io::Result<Option<Vec<SharedSeat<J>>>> {
-    match plan.keep.load {
-        Some(path) => load_tables(alloc, rt, setup, tables, seats, path),
-        None => Ok(Some(seats)),
-    }
-}
-
-/// Writes what the tables hold to the plan's file, if it names one and serving ended well, by the seats of a thread that has ended.
-/// Answers whether nothing is left undone.
-fn save_where<T: Table, J: Naming, R: ProxyRuntime + Files + AllocGlobal + Eprint>(
-    alloc: Global,
-    rt: &R,
-    setup: &Setup,
-    plan: Plan<'_>,
-    tables: &[Shards<T, J>],
-    service_threads: &mut [ServiceThread<J>],
-    start: Start,
-) -> io::Result<bool> {
-    let (Some(path), Some(thread)) = (plan.keep.save, service_threads.first_mut()) else {
-        return Ok(true);
-    };
-    let seats = mem::replace(&mut thread.seats, Vec::new(alloc));
-    let (seats, is_saved) = save_all(alloc, rt, setup, tables, seats, start, path)?;
-    thread.seats = seats;
-    Ok(is_saved)
 }
 
 /// Says on standard error what may surprise whoever starts it so, a warning a line. Whether that can be said changes nothing.
@@ -330,33 +248,6 @@ fn end_of<J: Naming>(served: Result<Served<J>, ServeFault<J>>) -> Ended<J> {
         unaccepted,
         left: Left { seats, refs },
     }
-}
-
-/// The threads beside the listener, by their duties, and the one that does the housekeeping. All have their memory.
-fn make_service_threads<J: Naming>(
-    alloc: Global,
-    setup: &Setup,
-    duties: Duties,
-    mut seats: Vec<Vec<SharedSeat<J>>>,
-    keepers: Vec<SharedSeat<J>>,
-) -> Result<Vec<ServiceThread<J>>, NoMemory> {
-    let mut service_threads = Vec::new(alloc);
-    let counts = [
-        (Duty::Commands, duties.commands),
-        (Duty::Stats, duties.stats),
-        (Duty::Metrics, duties.metrics),
-        (Duty::Reporting, duties.reporting),
-    ];
-    for (duty, count) in counts {
-        for _ in 0..count {
-            let names = names_of(alloc, setup)?;
-            let seats = take_one_of_each(alloc, &mut seats)?;
-            service_threads.push(ServiceThread::new(duty, names, seats))?;
-        }
-    }
-    let names = Vec::new(alloc);
-    service_threads.push(ServiceThread::new(Duty::Housekeeping, names, keepers))?;
-    Ok(service_threads)
 }
 
 /// The same on pooled tables, of which an event costs the same whatever their size.
