@@ -12,6 +12,7 @@ use stick_table::{Spec, Table};
 
 /// How many books a test's record has, and how many seats.
 const BOOKS: u32 = 8;
+
 const SEATS: u32 = 8;
 
 /// The record of the calls of a test's tables, which has no name yet.

@@ -5,7 +5,7 @@
 
 ghost use Rattle.std.specs.Prelude.{◌≡◌};
 
-use shard_locks::{SharedSeat, Shards};
+use shard_locks::{Shards, SharedSeat};
 use shard_record::{Naming, Opened};
 use shard_settling::Fault;
 use std::alloc::Global;

@@ -8,7 +8,7 @@ use crate::locks::calls::counts_of;
 use crate::locks::tables::call;
 use base_sequence::NoMemory;
 use shard_book::Book;
-use shard_locks::{SharedSeat, Shards};
+use shard_locks::{Shards, SharedSeat};
 use shard_record::{Naming, Opened};
 use std::alloc::Global;
 use std::marker::Brand;
@@ -220,10 +220,7 @@ fn same_answers<R: Wait>(rt: &R, alloc: Global, keep: bool) -> Option<(u32, Coun
 
 /// Whether all 500 were answered so. The life is 300 events, less one for each reference that is out in the end.
 fn is_right(same: u32, counts: Counts) -> bool {
-    same == 500
-        && 298 <= counts.answered
-        && counts.answered <= 300
-        && 50 <= counts.exhausted
+    same == 500 && 298 <= counts.answered && counts.answered <= 300 && 50 <= counts.exhausted
 }
 
 #[test]

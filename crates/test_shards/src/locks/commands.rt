@@ -10,7 +10,7 @@ use base_clock::StoppedClock;
 use base_sequence::{NoMemory, Sequence};
 use byte_ports::MemorySink;
 use shard_book::{Books, Keeper, Named};
-use shard_locks::{Seated, SharedSeat, Shards};
+use shard_locks::{Seated, Shards, SharedSeat};
 use shard_record::{Naming, Opened};
 use std::alloc::Global;
 use std::marker::Brand;
@@ -173,11 +173,7 @@ fn made_by<J: Naming, R: Wait>(
     match tables.pop() {
         Some(table) => {
             let seat = table.keeper.into_seat();
-            Some((
-                are_answered,
-                seat.seat().calls(0),
-                seat.seat().calls(1),
-            ))
+            Some((are_answered, seat.seat().calls(0), seat.seat().calls(1)))
         }
         None => None,
     }
@@ -265,7 +261,11 @@ fn shown_to<J: Naming>(
 }
 
 /// What a seat is answered of a new table where another has tracked the key of 6.
-fn shown_recorded<J: Naming, R: Wait>(rt: &R, alloc: Global, opened: Opened) -> Option<(bool, u64, u64)>
+fn shown_recorded<J: Naming, R: Wait>(
+    rt: &R,
+    alloc: Global,
+    opened: Opened,
+) -> Option<(bool, u64, u64)>
     requires { (opened.first.table_id ≡ J.record_id) × (opened.books ≡ J.books) }
 {
     match open_two::<J>(alloc, opened) {

@@ -3,7 +3,7 @@
 ghost use Rattle.std.specs.Prelude.{◌≡◌};
 
 use crate::locks::tables::{Ask, Desk, Said, place, say};
-use shard_locks::{SharedSeat, Shards};
+use shard_locks::{Shards, SharedSeat};
 use shard_record::{Naming, Opened};
 use std::alloc::{AllocError, Global};
 use std::marker::Brand;
@@ -40,12 +40,7 @@ fn is_set<R: Clock>(rt: &R, flag: &AtomicBool, ms: u32) -> bool {
 }
 
 /// Holds shard 0 until the call was answered, so many ms at most.
-fn hold<J: Naming, R: Wait + Clock>(
-    rt: &R,
-    table: &Shards<PlainTable, J>,
-    flags: &Flags,
-    ms: u32,
-) {
+fn hold<J: Naming, R: Wait + Clock>(rt: &R, table: &Shards<PlainTable, J>, flags: &Flags, ms: u32) {
     table.hold(rt, place(table, 0), || {
         flags.held.store(true, Ordering::SeqCst);
         flags
@@ -92,7 +87,13 @@ fn hold_and_call<J: Naming + Send + Sync, R: Threads + Wait + Clock + Sync>(
 }
 
 /// Whether shard 0 was held, a call of a shard was answered, and the holder saw that.
-fn beside_recorded<J: Naming + Send + Sync, R: Threads + Wait + Clock + Sync>(rt: &R, alloc: Global, shard: u32, ms: u32, opened: Opened) -> Option<(bool, bool, bool)>
+fn beside_recorded<J: Naming + Send + Sync, R: Threads + Wait + Clock + Sync>(
+    rt: &R,
+    alloc: Global,
+    shard: u32,
+    ms: u32,
+    opened: Opened,
+) -> Option<(bool, bool, bool)>
     requires { (opened.first.table_id ≡ J.record_id) × (opened.books ≡ J.books) }
 {
     let Ok(mut desk) = Desk::<J>::open(alloc, opened, 2, false) else {
@@ -114,7 +115,12 @@ fn beside_recorded<J: Naming + Send + Sync, R: Threads + Wait + Clock + Sync>(rt
 }
 
 /// The same of a new record.
-fn call_beside<R: Threads + Wait + Clock + Sync>(rt: &R, alloc: Global, shard: u32, ms: u32) -> Option<(bool, bool, bool)> {
+fn call_beside<R: Threads + Wait + Clock + Sync>(
+    rt: &R,
+    alloc: Global,
+    shard: u32,
+    ms: u32,
+) -> Option<(bool, bool, bool)> {
     match open_record(alloc) {
         Some(opened) => beside_recorded::<Brand, R>(rt, alloc, shard, ms, opened),
         None => None,

@@ -5,7 +5,7 @@ ghost use Rattle.std.specs.Prelude.{◌≡◌, ◌≤◌, ◌<◌, IfOk};
 ghost use Rattle.stick_model.specs.Limits.{IsTableEvent};
 
 use base_sequence::{NoMemory, Sequence};
-use shard_locks::{SharedRef, SharedSeat, Shards, Tracking};
+use shard_locks::{Shards, SharedRef, SharedSeat, Tracking};
 use shard_record::{Naming, Opened};
 use std::alloc::Global;
 use std::sync::Wait;
@@ -204,12 +204,7 @@ impl<J: Naming> Desk<J> {
     }
 
     /// The only table of a record, in so many shards.
-    pub fn open(
-        alloc: Global,
-        opened: Opened,
-        shards: u32,
-        keep: bool,
-    ) -> Result<Desk<J>, NoMemory>
+    pub fn open(alloc: Global, opened: Opened, shards: u32, keep: bool) -> Result<Desk<J>, NoMemory>
         requires some { 1 ≤ shards }
         requires few { shards ≤ 12 }
         requires record { (opened.first.table_id ≡ J.record_id) × (opened.books ≡ J.books) }
@@ -235,7 +230,10 @@ impl<J: Naming> Desk<J> {
     /// The new reference to the entry of a number, and what is shown of it.
     pub fn track(&mut self, rt: &impl Wait, number: u32) -> Result<(Held, Shown), Refusal> {
         let key = key(self.alloc, number)?;
-        held_of(self.table.track(rt, &mut self.seat, 0, key)?, &mut self.purse)
+        held_of(
+            self.table.track(rt, &mut self.seat, 0, key)?,
+            &mut self.purse,
+        )
     }
 
     /// Gives a reference back, or tells why it has come back, or that it isn't there.

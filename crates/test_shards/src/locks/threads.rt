@@ -7,7 +7,7 @@ use crate::locks::replay::{is_told, replies_of};
 use crate::locks::tables::Desk;
 use base_sequence::{NoMemory, Sequence};
 use shard_book::{Book, Receipt};
-use shard_locks::{SharedSeat, Shards};
+use shard_locks::{Shards, SharedSeat};
 use shard_record::{Naming, Opened};
 use std::alloc::Global;
 use std::marker::Brand;

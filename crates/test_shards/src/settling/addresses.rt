@@ -4,7 +4,7 @@ ghost use Rattle.std.specs.Prelude.{◌≡◌, IfOk};
 ghost use Rattle.stick_model.specs.Limits.{IsTableSpec};
 
 use base_sequence::NoMemory;
-use shard_locks::{SharedSeat, Shards};
+use shard_locks::{Shards, SharedSeat};
 use shard_record::{Naming, Opened};
 use std::alloc::Global;
 use std::sync::Wait;

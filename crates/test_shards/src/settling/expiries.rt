@@ -7,7 +7,7 @@ use crate::settling::rounds::{Rounds, alone};
 use base_clock::StoppedClock;
 use shard_book::Book;
 use shard_housekeeping::{Kept, housekeep};
-use shard_locks::{SharedSeat, Shards};
+use shard_locks::{Shards, SharedSeat};
 use shard_record::{Naming, Opened};
 use std::alloc::Global;
 use std::marker::Brand;

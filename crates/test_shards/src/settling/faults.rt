@@ -3,7 +3,7 @@
 ghost use Rattle.std.specs.Prelude.{◌≡◌, ◌≤◌, ◌^◌};
 
 use crate::settling::books::{open_alone, open_narrow};
-use shard_locks::{SharedSeat, Shards, Unlocked};
+use shard_locks::{Shards, SharedSeat, Unlocked};
 use shard_record::{Naming, Opened};
 use shard_settling::{Fault, Settled, check};
 use std::alloc::Global;
@@ -50,12 +50,7 @@ fn is_got<J: Naming>(
 }
 
 /// Whether a get of the entry of 5 by the first seat, at a moment, is answered.
-fn get_five<J: Naming>(
-    rt: &impl Wait,
-    alloc: Global,
-    opened: &mut OpenPlain<J>,
-    now: u32,
-) -> bool {
+fn get_five<J: Naming>(rt: &impl Wait, alloc: Global, opened: &mut OpenPlain<J>, now: u32) -> bool {
     let (table, seats) = opened;
     match seats.as_mut_slice().first_mut() {
         Some(seat) => is_got(rt, alloc, table, seat, 5, now),
@@ -64,12 +59,7 @@ fn get_five<J: Naming>(
 }
 
 /// Whether a get of the entry of 6, which lies on the second shard, by the last seat, at a moment, is answered.
-fn get_six<J: Naming>(
-    rt: &impl Wait,
-    alloc: Global,
-    opened: &mut OpenPlain<J>,
-    now: u32,
-) -> bool {
+fn get_six<J: Naming>(rt: &impl Wait, alloc: Global, opened: &mut OpenPlain<J>, now: u32) -> bool {
     let (table, seats) = opened;
     match seats.as_mut_slice().last_mut() {
         Some(seat) => is_got(rt, alloc, table, seat, 6, now),
@@ -195,7 +185,11 @@ pub fn unsettled_without<J: Naming>(
 }
 
 /// Whether so many events and tickets of each shard were settled.
-fn is_of<J: Naming>(settled: &Settled<PlainTable, J>, counts: [u64; 2], tickets: [usize; 2]) -> bool {
+fn is_of<J: Naming>(
+    settled: &Settled<PlainTable, J>,
+    counts: [u64; 2],
+    tickets: [usize; 2],
+) -> bool {
     match settled.tickets.as_slice() {
         [first, second] => settled.counts.as_slice() == counts.as_slice()
             && [first.as_slice().len(), second.as_slice().len()] == tickets,
@@ -337,7 +331,13 @@ fn with_others<J: Naming>(
 ) -> Option<OpenPlain<J>> {
     let opened = unsettled(alloc, opened, purse, &[], Fault::MissingRefs(0))?;
     let opened = unsettled(alloc, opened, purse, &[held, held], Fault::MissingRefs(0))?;
-    unsettled(alloc, opened, purse, &[held, strange], Fault::MissingRefs(1))
+    unsettled(
+        alloc,
+        opened,
+        purse,
+        &[held, strange],
+        Fault::MissingRefs(1),
+    )
 }
 
 /// The reference of another table with the ticket of the one that is out, and one of its second shard: both are in the purse then.
@@ -428,7 +428,12 @@ fn references_are_shown_once_each(rt: HostRuntime) {
 
 /// Whether a table is unsettled with the seats of another, of which a shard's receipts differ, and is settled with its
 /// own.
-fn differs<J: Naming>(alloc: Global, called: CalledTable<J>, other: CalledTable<J>, shard: u32) -> bool {
+fn differs<J: Naming>(
+    alloc: Global,
+    called: CalledTable<J>,
+    other: CalledTable<J>,
+    shard: u32,
+) -> bool {
     let CalledTable {
         opened: (table, seats),
         mut purse,
@@ -436,7 +441,13 @@ fn differs<J: Naming>(alloc: Global, called: CalledTable<J>, other: CalledTable<
     } = called;
     let (_, strange) = other.opened;
     let with_strange = (table, strange);
-    match unsettled(alloc, with_strange, &mut purse, &[held], Fault::Mismatch(shard)) {
+    match unsettled(
+        alloc,
+        with_strange,
+        &mut purse,
+        &[held],
+        Fault::Mismatch(shard),
+    ) {
         Some((table, _)) => settles_called(alloc, (table, seats), &mut purse, held),
         None => false,
     }

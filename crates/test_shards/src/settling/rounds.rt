@@ -6,7 +6,7 @@ use crate::settling::books::{is_put, listed};
 use base_clock::StoppedClock;
 use shard_book::Book;
 use shard_housekeeping::{Kept, Pace, housekeep};
-use shard_locks::{SharedSeat, Shards};
+use shard_locks::{Shards, SharedSeat};
 use shard_record::{Naming, Opened};
 use shard_settling::Settled;
 use std::alloc::Global;
@@ -227,7 +227,14 @@ fn keeps_row<J: Naming>(
 }
 
 /// Does so, and settles.
-fn keeps_recorded<J: Naming, R: Wait>(rt: &R, alloc: Global, keep: bool, rounds: u64, roll_at: u64, opened: Opened) -> Option<Counted>
+fn keeps_recorded<J: Naming, R: Wait>(
+    rt: &R,
+    alloc: Global,
+    keep: bool,
+    rounds: u64,
+    roll_at: u64,
+    opened: Opened,
+) -> Option<Counted>
     requires { (opened.first.table_id ≡ J.record_id) × (opened.books ≡ J.books) }
 {
     let (table, seat) = open_one::<J>(alloc, opened, keep)?;

@@ -2,11 +2,11 @@
 
 ghost use Rattle.std.specs.Prelude.{◌≡◌};
 
-use crate::settling::faults::{unsettled, with_seat};
 use crate::settling::books::open_alone;
+use crate::settling::faults::{unsettled, with_seat};
 use crate::settling::records::{is_counted, is_noted};
 use shard_book::{Receipt, Seat};
-use shard_locks::{SharedSeat, Shards};
+use shard_locks::{Shards, SharedSeat};
 use shard_record::{Naming, Opened};
 use shard_settling::{Fault, Settled};
 use std::alloc::Global;
@@ -126,18 +126,22 @@ fn call_from_two<J: Naming + Send + Sync, R: Threads + Wait + Sync>(
     first: Noted<J>,
     second: Noted<J>,
 ) -> Option<(Noted<J>, Noted<J>)> {
-    thread::scope(thread::scope_env(), rt, |scope| -> Option<(Noted<J>, Noted<J>)> {
-        let Ok(first) = scope.spawn(move || call_often(rt, alloc, table, first)) else {
-            return None;
-        };
-        let Ok(second) = scope.spawn(move || call_often(rt, alloc, table, second)) else {
-            return None;
-        };
-        match (first.join(rt), second.join(rt)) {
-            (Some(first), Some(second)) => Some((first, second)),
-            _ => None,
-        }
-    })
+    thread::scope(
+        thread::scope_env(),
+        rt,
+        |scope| -> Option<(Noted<J>, Noted<J>)> {
+            let Ok(first) = scope.spawn(move || call_often(rt, alloc, table, first)) else {
+                return None;
+            };
+            let Ok(second) = scope.spawn(move || call_often(rt, alloc, table, second)) else {
+                return None;
+            };
+            match (first.join(rt), second.join(rt)) {
+                (Some(first), Some(second)) => Some((first, second)),
+                _ => None,
+            }
+        },
+    )
 }
 
 /// A seat whose caller has noted nothing.

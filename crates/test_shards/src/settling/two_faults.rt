@@ -5,7 +5,8 @@ ghost use Rattle.std.specs.Prelude.{◌≡◌, ◌≤◌};
 use crate::locks::calls::held_of_last;
 use crate::locks::tables::Desk;
 use crate::settling::faults::{
-    CalledTable, called, left_out, settles_called, two_called, unsettled, unsettled_without, with_seat,
+    CalledTable, called, left_out, settles_called, two_called, unsettled, unsettled_without,
+    with_seat,
 };
 use shard_locks::SharedSeat;
 use shard_record::{Naming, Opened};
@@ -120,8 +121,12 @@ fn before_records<J: Naming>(
     } = called;
     let (_other_table, seats) = other.opened;
     match strange(rt, alloc, records, &mut purse) {
-        Some(strange) => misses_before_records(alloc, (table, seats), &mut purse, &[held, strange])
-            .is_some(),
+        Some(strange) => misses_before_records(
+            alloc,
+            (table, seats),
+            &mut purse,
+            &[held, strange],
+        ).is_some(),
         None => false,
     }
 }
@@ -159,8 +164,9 @@ fn stranger<J: Naming>(
     records: Records<J>,
 ) -> Option<(Records<J>, SharedSeat<J>)> {
     let spec = spec(alloc, 12, 5, 100).ok()?;
-    let (left, (table, mut seats)): (Records<J>, OpenPlain<J>) =
-        records.open(alloc, spec, 3, 3, false).ok()?;
+    let (left, (table, mut seats)): (Records<J>, OpenPlain<J>) = records
+        .open(alloc, spec, 3, 3, false)
+        .ok()?;
     let mut seat = seats.pop()?;
     let mut purse = Purse::new(alloc);
     let third = place(&table, 2);

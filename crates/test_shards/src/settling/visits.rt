@@ -15,7 +15,7 @@ use admit_port::{Rested, finish, judge};
 use rule_addresses::Address;
 use rule_eval::Samples;
 use rule_model::{Setup, Slot};
-use shard_locks::{Seated, SharedRef, SharedSeat, Shards};
+use shard_locks::{Seated, Shards, SharedRef, SharedSeat};
 use shard_record::{Naming, Opened};
 use std::alloc::Global;
 use std::marker::Brand;
@@ -334,8 +334,7 @@ fn keeps_it<J: Naming, R: Wait>(
         viewer,
     } = own;
     let mut clock = CountingClock::new();
-    let (is_admitted, mut seat) =
-        judged_by(alloc, Seated::new(&table, rt, seat), conn, &mut clock);
+    let (is_admitted, mut seat) = judged_by(alloc, Seated::new(&table, rt, seat), conn, &mut clock);
     let before = calls(&seat);
     let has_seen = sees_more(rt, alloc, other, &mut seat);
     let (kept, seat) = goes_on_by(alloc, Seated::new(&table, rt, seat), conn, &mut clock);
