@@ -14,7 +14,7 @@ use stick_key::{StickKey, shard_of};
 use stick_table::{Event, Refusal, Reply, Table, Ticket};
 use stored_data::Act;
 
-/// Tracks a key.
+/// Tracks a key, once the purse has memory for its reference.
 fn track<T: Table, J: Naming>(
     rt: &impl Wait,
     table: &Shards<T, J>,
@@ -25,6 +25,7 @@ fn track<T: Table, J: Naming>(
 ) -> Result<Reply, Refusal>
     requires { now < 2 ^ 62 }
 {
+    purse.reserve()?;
     match table.track(rt, seat, now, key)? {
         Tracking::Tracked(reference, row) => {
             let ticket = reference.ticket();

@@ -1,6 +1,7 @@
 //! The references that a caller of a table in shards holds, so that they can be dropped.
 
 use crate::Held;
+use base_sequence::NoMemory;
 use shard_locks::SharedRef;
 use shard_record::Naming;
 use std::alloc::Global;
@@ -25,11 +26,30 @@ impl<J: Naming> Purse<J> {
         }
     }
 
+    /// Takes memory for one reference more, so that `put` finds it.
+    pub fn reserve(&mut self) -> Result<(), NoMemory> {
+        self.refs.reserve(1)?;
+        Ok(())
+    }
+
     /// One reference more. It is given up where there is no memory for it.
     pub fn put(&mut self, reference: SharedRef<J>) {
         if let Err(refused) = self.refs.push(reference) {
             refused.value.abandon();
         }
+    }
+
+    /// References more.
+    pub fn put_all(&mut self, mut references: Vec<SharedRef<J>>) {
+        while let Some(reference) = references.pop() {
+            self.put(reference);
+        }
+        references.destroy_empty();
+    }
+
+    /// The reference of a place, if it is there.
+    pub fn at(&self, place: usize) -> Option<&SharedRef<J>> {
+        self.refs.get(place)
     }
 
     /// A reference by its shard and its ticket, if it is there.

@@ -1,6 +1,6 @@
 //! The record of the calls of a test's tables.
 
-ghost use Rattle.std.specs.Prelude.{◌≡◌, ◌≤◌};
+ghost use Rattle.std.specs.Prelude.{◌≡◌, ◌≤◌, IfOk};
 ghost use Rattle.stick_model.specs.Limits.{IsTableSpec};
 ghost use Rattle.shard_record.specs.Dealing.{HasLeft};
 
@@ -9,6 +9,16 @@ use shard_locks::{Shards, SharedSeat};
 use shard_record::{Dealer, Naming, Opened};
 use std::alloc::{AllocError, Global};
 use stick_table::{Spec, Table};
+
+/// How many books a test's record has, and how many seats.
+const BOOKS: u32 = 8;
+
+const SEATS: u32 = 8;
+
+/// The record of the calls of a test's tables, which has no name yet.
+pub fn open_record(alloc: Global) -> Option<Opened> {
+    Opened::new(alloc, BOOKS, SEATS).ok()
+}
 
 /// A table in shards, and its seats.
 pub type OpenTable<T, J> = (Shards<T, J>, Vec<SharedSeat<J>>);
@@ -51,6 +61,7 @@ impl<J: Naming> Records<J> {
         requires few { shards ≤ 64 }
         requires places { shards ≤ spec.size }
         requires callers { (1 ≤ seats) × (seats ≤ 1024) }
+        ensures { IfOk result (λ made. made.1.0.shards ≡ shards) }
     {
         let Records {
             mut dealer,

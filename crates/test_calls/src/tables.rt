@@ -4,7 +4,7 @@ ghost use Rattle.std.specs.Prelude.{◌<◌};
 
 use crate::caller::Held;
 use crate::draws::spec;
-use crate::purse::{Purse, abandon_all, references_of};
+use crate::purse::{Purse, references_of};
 use crate::records::{OpenTable, Records};
 use base_sequence::NoMemory;
 use shard_locks::{Shards, SharedRef, SharedSeat};
@@ -13,18 +13,17 @@ use shard_settling::{Fault, Settled, Unsettled, settle};
 use std::alloc::Global;
 use stick_table::PlainTable;
 
-/// A table and its seats.
-pub type Opened<J> = OpenTable<PlainTable, J>;
+/// A plain table and its seats.
+pub type OpenPlain<J> = OpenTable<PlainTable, J>;
 
-/// A table of 12 entries in two shards, each of which may have 5 references, and two seats.
+/// A table of 12 entries in two shards, each of which may have 5 references, and two seats; and what is left of the record.
 pub fn open<J: Naming>(
     alloc: Global,
     records: Records<J>,
     keep: bool,
-) -> Result<Opened<J>, NoMemory> {
+) -> Result<(Records<J>, OpenPlain<J>), NoMemory> {
     let spec = spec(alloc, 12, 5, 1 << 62)?;
-    let (_left, opened) = records.open(alloc, spec, 2, 2, keep)?;
-    Ok(opened)
+    records.open(alloc, spec, 2, 2, keep)
 }
 
 /// The shard of a number, of which there are as many as the table has.
@@ -77,18 +76,19 @@ fn accounts<J: Naming>(seats: &[SharedSeat<J>]) -> [Option<Account>; 3] {
 #[derive(Drop)]
 pub enum Outcome<J: Naming> {
     Settled(Settled<PlainTable, J>),
-    /// All that was shown came back.
-    Unsettled(Fault, Opened<J>),
+    /// All that was shown came back, the references into their purse.
+    Unsettled(Fault, OpenPlain<J>),
     /// There was no memory to show it, or something else came back than was shown.
     Lost,
 }
 
 /// What comes back, where it is what was shown: so many shards, seats of these accounts, and the references of these
-/// tickets.
+/// tickets, which the purse has again.
 fn handed_back<J: Naming>(
     unsettled: Unsettled<PlainTable, J>,
     shards: u32,
     shown: [Option<Account>; 3],
+    purse: &mut Purse<J>,
     held: &[Held],
 ) -> Outcome<J> {
     let Unsettled {
@@ -99,7 +99,7 @@ fn handed_back<J: Naming>(
         refs,
     } = unsettled;
     let are_back = are_of(refs.as_slice(), held);
-    abandon_all(refs);
+    purse.put_all(refs);
     if are_back && accounts(seats.as_slice()) == shown && table.shards() == shards {
         Outcome::Unsettled(fault, (table, seats))
     } else {
@@ -110,7 +110,7 @@ fn handed_back<J: Naming>(
 /// Settles a table.
 fn settled<J: Naming>(
     alloc: Global,
-    opened: Opened<J>,
+    opened: OpenPlain<J>,
     refs: Vec<SharedRef<J>>,
 ) -> Result<Settled<PlainTable, J>, Unsettled<PlainTable, J>> {
     let (table, seats) = opened;
@@ -120,7 +120,7 @@ fn settled<J: Naming>(
 /// Settles a table, its callers showing these seats, and the references of a purse by these tickets.
 pub fn show<J: Naming>(
     alloc: Global,
-    opened: Opened<J>,
+    opened: OpenPlain<J>,
     purse: &mut Purse<J>,
     held: &[Held],
 ) -> Outcome<J> {
@@ -128,6 +128,6 @@ pub fn show<J: Naming>(
     let shown = accounts(opened.1.as_slice());
     match settled(alloc, opened, references_of(alloc, purse, held)) {
         Ok(settled) => Outcome::Settled(settled),
-        Err(unsettled) => handed_back(unsettled, shards, shown, held),
+        Err(unsettled) => handed_back(unsettled, shards, shown, purse, held),
     }
 }
