@@ -124,8 +124,8 @@ module _ (tables shards : ℕ) (seated : Vec SeatedState Global) (lent : List Se
     each_still = subst (AreIn shards_of shards) (sym same_items) (in_shards shards seated.items new same_parts each)
 
     -- what has passed by the ports has passed by the seats
-    pub passed_still : (setup : Setup) (conn : Conn RefState) → HasPassedLimits setup (ports_of new) conn → HasPassedLimits setup (take (vec_len seated) (new ++ drop (length new) seated.items)) conn
-    passed_still setup conn passed = subst (λ seats. HasPassedLimits setup seats conn) (same_ports new ∙ sym same_items) passed
+    pub passed_still : (setup : Setup) (samples : Samples) (conn : Conn RefState) → HasPassedLimits setup samples (ports_of new) conn → HasPassedLimits setup samples (take (vec_len seated) (new ++ drop (length new) seated.items)) conn
+    passed_still setup samples conn passed = subst (λ seats. HasPassedLimits setup samples seats conn) (same_ports new ∙ sym same_items) passed
 
     pub visitor_still : (conn : Conn RefState) → IsConnection conn → CanGoOn seated_meaning (ports_of new) conn → IsVisitor tables shards conn
     visitor_still conn living can = visitor tables shards new conn (as_many ∙ count) (in_shards shards seated.items new same_parts each) living (subst (λ ports. CanGoOn seated_meaning ports conn) (same_ports new) can)

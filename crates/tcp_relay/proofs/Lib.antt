@@ -12,3 +12,4 @@ mod PassedHeld
 mod PassedSeats
 mod PassedHeard
 mod PassedGoes
+mod PassedStays

@@ -40,8 +40,8 @@ use Rattle.tcp_relay.proofs.PassedSeats.{HasTracked, IsLimited, has_looked}
 -- ---- a move
 
 -- no seat is told anything
-stays : (setup : Setup) (table limit : ℕ) (seats : List SeatedState) (connection after : Connection RefState) → IsLimited setup table limit seats connection → IsJudged setup after → HoldsSame connection after → IsLimited setup table limit seats after
-stays setup table limit seats connection after limited stands same = record {
+stays : (setup : Setup) (samples : Samples) (table limit : ℕ) (seats : List SeatedState) (connection after : Connection RefState) → IsLimited setup samples table limit seats connection → IsJudged setup samples after → HoldsSame connection after → IsLimited setup samples table limit seats after
+stays setup samples table limit seats connection after limited stands same = record {
   stands = stands;
   tracked = λ entry at.
       let tracked : HasTracked setup table limit seats connection entry = limited.tracked entry (sym same.sc0 ∙ at) in
@@ -56,21 +56,21 @@ stays setup table limit seats connection after limited stands same = record {
       };
 }
 
-module _ (setup : Setup) (name : List ℕ) (table limit : ℕ) (first : LimitsFirst setup name table limit) where
-  moves_on : (now : ℕ) (old new : List SeatedState) (connection after : Connection RefState) (moved : Moved) → (moved ≡ moved_so.Kept → ⊥) → is_judged connection.progress.phase ≡ true → IsLimited setup table limit old connection
-      → Moves seated_meaning now old connection new after moved → IsLimited setup table limit new after
+module _ (setup : Setup) (samples : Samples) (name : List ℕ) (table limit : ℕ) (first : LimitsFirst setup name table limit) where
+  moves_on : (now : ℕ) (old new : List SeatedState) (connection after : Connection RefState) (moved : Moved) → (moved ≡ moved_so.Kept → ⊥) → is_judged connection.progress.phase ≡ true → IsLimited setup samples table limit old connection
+      → Moves seated_meaning now old connection new after moved → IsLimited setup samples table limit new after
   moves_on now old new connection after moved_so.Answered kept judged limited moves =
-      subst (IsLimited setup table limit new) (sym moves.4) (hears setup name table limit now old new connection moves.0 moves.1 first limited judged moves.2 moves.3)
+      subst (IsLimited setup samples table limit new) (sym moves.4) (hears setup samples name table limit now old new connection moves.0 moves.1 first limited judged moves.2 moves.3)
   moves_on now old new connection after moved_so.Turned kept judged limited moves =
-      let then = turned_judged setup connection limited.stands in
-      subst (λ seats. IsLimited setup table limit seats after) (sym moves.1) (subst (IsLimited setup table limit old) (sym moves.2) (stays setup table limit old connection _ limited then.0 then.1))
+      let then = turned_judged setup samples connection limited.stands in
+      subst (λ seats. IsLimited setup samples table limit seats after) (sym moves.1) (subst (IsLimited setup samples table limit old) (sym moves.2) (stays setup samples table limit old connection _ limited then.0 then.1))
   moves_on now old new connection after moved_so.Refused kept judged limited moves =
-      let then = refused_judged setup connection limited.stands judged in
-      subst (λ seats. IsLimited setup table limit seats after) (sym moves.2) (subst (IsLimited setup table limit old) (sym moves.3) (stays setup table limit old connection _ limited then.0 then.1))
+      let then = refused_judged setup samples connection limited.stands judged in
+      subst (λ seats. IsLimited setup samples table limit seats after) (sym moves.2) (subst (IsLimited setup samples table limit old) (sym moves.3) (stays setup samples table limit old connection _ limited then.0 then.1))
   moves_on now old new connection after moved_so.Kept kept judged limited moves = absurd (kept refl)
 
-  goes_on : {C : Type 0} (shows : C → ℕ → C → Type 0) (count : ℕ) (old new : Visit SeatedState RefState C) → GoesJudged seated_meaning shows count old new → IsLimited setup table limit old.ports old.connection → IsLimited setup table limit new.ports new.connection
-  goes_on {C = C} shows zero old new goes limited = subst (λ (visit : Visit SeatedState RefState C). IsLimited setup table limit visit.ports visit.connection) (sym goes) limited
+  goes_on : {C : Type 0} (shows : C → ℕ → C → Type 0) (count : ℕ) (old new : Visit SeatedState RefState C) → GoesJudged seated_meaning shows count old new → IsLimited setup samples table limit old.ports old.connection → IsLimited setup samples table limit new.ports new.connection
+  goes_on {C = C} shows zero old new goes limited = subst (λ (visit : Visit SeatedState RefState C). IsLimited setup samples table limit visit.ports visit.connection) (sym goes) limited
   goes_on shows (suc count) old new goes limited =
       let next_one = goes.1 in
       let moved_once = goes.4 in
@@ -94,23 +94,23 @@ within_row limit (answers.Value value ∷ more) within = absurd within
 within_row limit (answers.Released ∷ more) within = absurd within
 within_row limit [] within = absurd within
 
-admitted_passed : (setup : Setup) (name : List ℕ) (table limit : ℕ) (seats : List SeatedState) (connection : Connection RefState) (entry : ℕ × RefState) → LimitsFirst setup name table limit → IsLimited setup table limit seats connection
-    → connection.progress.phase ≡ Admitted → connection.progress.held.sc0 ≡ Some entry → (entry.0 ≡ table) × HasPassedBy setup.shards limit seats entry
-admitted_passed setup name table limit seats connection entry first limited admitted held =
+admitted_passed : (setup : Setup) (samples : Samples) (name : List ℕ) (table limit : ℕ) (seats : List SeatedState) (connection : Connection RefState) (entry : ℕ × RefState) → LimitsFirst setup name table limit → IsLimited setup samples table limit seats connection
+    → connection.progress.phase ≡ Admitted → connection.progress.held.sc0 ≡ Some entry → (entry.0 ≡ table) × HasPassedBy setup samples limit seats entry
+admitted_passed setup samples name table limit seats connection entry first limited admitted held =
     let tracked : HasTracked setup table limit seats connection entry = limited.tracked entry held in
+    let source : source_key setup samples keys.Source entry.0 ≡ Some tracked.source = (λ k. source_key setup (sym limited.stands.known k) keys.Source (tracked.in_table k)) ∙ tracked.is in
     let accepted : next setup connection.samples connection.answers ≡ wants.Done Accept = ap (λ s. next s connection.samples connection.answers) (sym limited.stands.ours) ∙ limited.stands.accepted admitted in
     let within : IsWithin limit connection.answers = within_lem setup name table limit connection.samples tracked.source connection.answers first tracked.is accepted in
     let shown = within_row limit tracked.rest (subst (IsWithin limit) tracked.begins within) in
     let looked : has_looked limit tracked.seen ≡ true = tracked.looked shown.row shown.more shown.is shown.few in
-    let has : HasPassed setup.shards limit (known_of tracked.seen.seat entry.1.shard) entry.1 = record {
-      key = tracked.source;
+    let has : HasPassed setup.shards limit tracked.source (known_of tracked.seen.seat entry.1.shard) entry.1 = record {
       history = tracked.seen.history;
       on_shard = tracked.seen.on_shard;
       of_key = tracked.seen.of_key;
       looked = looked;
       passed = passes (known_of tracked.seen.seat entry.1.shard) tracked.source limit entry.1.ticket looked;
     } in
-    (tracked.in_table, record { seat = tracked.seen.seat; at = tracked.seen.at; has = has })
+    (tracked.in_table, record { key = tracked.source; source = source; seat = tracked.seen.seat; at = tracked.seen.at; has = has })
 
 -- ---- what rests is admitted
 
@@ -134,13 +134,13 @@ none_some x e = cc
 
 -- one that has just come, and was judged
 pub judged_passed : {C : Type 0} (shows : C → ℕ → C → Type 0) (setup : Setup) (samples : Samples) (old new : List SeatedState) (conn later : Conn RefState) (clock shown : C) → Stands conn (arrived setup samples) → HasGoneJudged seated_meaning shows old conn clock new later shown
-    → is_judged (progress_of later).phase ≡ false → needed later ≡ needs.Rest → HasPassedLimits setup new later
+    → is_judged (progress_of later).phase ≡ false → needed later ≡ needs.Rest → HasPassedLimits setup samples new later
 judged_passed shows setup samples old new conn later clock shown stands gone judged rests name table limit entry first held =
     let visit = gone (arrived setup samples) stands in
     let after : Connection RefState = visit.0 in
     let progress : progress_of later ≡ after.progress = visit.1.progress in
-    let begins : IsLimited setup table limit old (arrived setup samples) = record { stands = record { ours = refl; given = refl; accepted = λ at. cc }; tracked = λ it at. absurd (none_some it at) } in
-    let limited : IsLimited setup table limit new after =
-    goes_on setup name table limit first shows visit.2.0 (record { ports = old; connection = arrived setup samples; clock = clock }) (record { ports = new; connection = after; clock = shown }) visit.2.1 begins in
+    let begins : IsLimited setup samples table limit old (arrived setup samples) = record { stands = record { ours = refl; known = refl; given = refl; accepted = λ at. cc }; tracked = λ it at. absurd (none_some it at) } in
+    let limited : IsLimited setup samples table limit new after =
+    goes_on setup samples name table limit first shows visit.2.0 (record { ports = old; connection = arrived setup samples; clock = clock }) (record { ports = new; connection = after; clock = shown }) visit.2.1 begins in
     let admitted : after.progress.phase ≡ Admitted = rests_admitted after limited.stands.given (sym (ap (λ (p : Progress RefState). is_judged p.phase) progress) ∙ judged) (sym (need_same later after visit.1) ∙ rests) in
-    admitted_passed setup name table limit new after entry first limited admitted (sym (ap (λ (p : Progress RefState). p.held.sc0) progress) ∙ held)
+    admitted_passed setup samples name table limit new after entry first limited admitted (sym (ap (λ (p : Progress RefState). p.held.sc0) progress) ∙ held)

@@ -23,6 +23,7 @@ use Rattle.rule_eval.specs.Tables.{key_of as source_key}
 use Rattle.rule_eval.specs.Verdict.{next}
 use Rattle.rule_eval.specs.declared.wants.Answer.{Answer}
 use Rattle.rule_eval.specs.declared.wants.Answer.TheVariants as answers
+use Rattle.rule_eval.specs.declared.wants.Samples.{Samples}
 use Rattle.rule_eval.specs.declared.wants.Want.{Want}
 use Rattle.rule_eval.specs.declared.wants.Want.TheVariants as wants
 use Rattle.rule_eval.proofs.LimitLaws.{first_lem, never_lem, once_lem, second_lem}
@@ -100,8 +101,8 @@ no_answer answer rest e = cc
 
 -- ---- a connection hears a reply
 
-module _ (setup : Setup) (name : List ℕ) (table limit now : ℕ) (old new : List SeatedState) (connection : Connection RefState) (asked : Call) (reply : Reply)
-    (first : LimitsFirst setup name table limit) (limited : IsLimited setup table limit old connection) (judged : is_judged connection.progress.phase ≡ true)
+module _ (setup : Setup) (samples : Samples) (name : List ℕ) (table limit now : ℕ) (old new : List SeatedState) (connection : Connection RefState) (asked : Call) (reply : Reply)
+    (first : LimitsFirst setup name table limit) (limited : IsLimited setup samples table limit old connection) (judged : is_judged connection.progress.phase ≡ true)
     (wants_it : IsAskedFor seated_meaning connection.setup.shards now connection.progress.held (need connection) asked) (answers_it : AnswersAt seated_meaning old asked reply new) where
   abbrev rules_ask : List Answer → Want
   rules_ask given = next setup connection.samples given
@@ -138,29 +139,29 @@ module _ (setup : Setup) (name : List ℕ) (table limit now : ℕ) (old new : Li
 
   -- what was tracked first is so still
   still : (after : Connection RefState) (entry : ℕ × RefState) → connection.progress.held.sc0 ≡ Some entry → after.samples ≡ connection.samples → after.answers ≡ answered (answer_of reply) → HasTracked setup table limit new after entry
-  still after entry held samples given =
+  still after entry held same given =
       let tracked : HasTracked setup table limit old connection entry = limited.tracked entry held in
       let seen : IsSeen setup new tracked.source entry = seen_still old new asked reply answers_it setup tracked.source entry tracked.seen in
       let looked : Looked limit (has_looked limit seen) tracked.rest =
       looked_later limit (has_looked limit tracked.seen) (has_looked limit seen) tracked.rest (looked_still old new asked reply answers_it setup tracked.source entry limit tracked.seen) tracked.looked in
       let more : Looked limit (has_looked limit seen) (tracked.rest ++ answer_of reply ∷ []) =
       looked_more limit (has_looked limit seen) tracked.rest (answer_of reply) (λ row none shows few. passes entry held tracked row none shows few seen) looked in
-      by_done (not (is_done (asks connection))) after entry samples tracked seen looked more given
+      by_done (not (is_done (asks connection))) after entry same tracked seen looked more given
     where
       by_done : (b : Bool) (after : Connection RefState) (entry : ℕ × RefState) → after.samples ≡ connection.samples → (tracked : HasTracked setup table limit old connection entry) → (seen : IsSeen setup new tracked.source entry) → Looked limit (has_looked limit seen) tracked.rest
           → Looked limit (has_looked limit seen) (tracked.rest ++ answer_of reply ∷ []) → after.answers ≡ (if b then connection.answers ++ answer_of reply ∷ [] else connection.answers) → HasTracked setup table limit new after entry
-      by_done true after entry samples tracked seen looked more given = record {
+      by_done true after entry same tracked seen looked more given = record {
         source = tracked.source;
-        is = ap (λ known. source_key setup known keys.Source table) samples ∙ tracked.is;
+        is = ap (λ known. source_key setup known keys.Source table) same ∙ tracked.is;
         in_table = tracked.in_table;
         seen = seen;
         rest = tracked.rest ++ answer_of reply ∷ [];
         begins = given ∙ ap (λ had. had ++ answer_of reply ∷ []) tracked.begins;
         looked = more;
       }
-      by_done false after entry samples tracked seen looked more given = record {
+      by_done false after entry same tracked seen looked more given = record {
         source = tracked.source;
-        is = ap (λ known. source_key setup known keys.Source table) samples ∙ tracked.is;
+        is = ap (λ known. source_key setup known keys.Source table) same ∙ tracked.is;
         in_table = tracked.in_table;
         seen = seen;
         rest = tracked.rest;
@@ -190,7 +191,7 @@ module _ (setup : Setup) (name : List ℕ) (table limit now : ℕ) (old new : Li
 
   came_first : (after : Connection RefState) (entry : Option (ℕ × RefState)) → HasCome (asks connection) (came_with seated_meaning asked.shard reply) entry → after.samples ≡ connection.samples → after.answers ≡ answered (answer_of reply)
       → (held : ℕ × RefState) → entry ≡ Some held → HasTracked setup table limit new after held
-  came_first after entry come samples given held at =
+  came_first after entry come same given held at =
       let of_ticket = tracked_reply asked.shard reply come.reference come.came_it in
       let begins = asked_first come.table come.key come.wanted in
       let wanted : need connection ≡ needs.Track Sc0 come.table come.key = need_is (wants.Track Sc0 come.table come.key) come.wanted in
@@ -204,7 +205,7 @@ module _ (setup : Setup) (name : List ℕ) (table limit now : ℕ) (old new : Li
       (ap (λ n. Some (come.table, record { shard = n; ticket = of_ticket.given })) (sym (ap (λ (c : Call). c.shard) named)) ∙ ap (λ r. Some (come.table, r)) (sym of_ticket.is) ∙ sym come.held ∙ at) in
       let tracked : HasTracked setup table limit new after (come.table, record { shard = part; ticket = of_ticket.given }) = record {
         source = come.key;
-        is = ap (λ known. source_key setup known keys.Source table) samples ∙ begins.source;
+        is = ap (λ known. source_key setup known keys.Source table) same ∙ begins.source;
         in_table = begins.in_table;
         seen = seen;
         rest = [];
@@ -218,9 +219,9 @@ module _ (setup : Setup) (name : List ℕ) (table limit now : ℕ) (old new : Li
 
   -- ---- whatever is replied
 
-  heard_so : (after : Connection RefState) → HasTaken connection after (answer_of reply) (came_with seated_meaning asked.shard reply) → IsLimited setup table limit new after
+  heard_so : (after : Connection RefState) → HasTaken connection after (answer_of reply) (came_with seated_meaning asked.shard reply) → IsLimited setup samples table limit new after
   heard_so after took_it = record {
-    stands = taken_judged setup connection after (answer_of reply) (came_with seated_meaning asked.shard reply) limited.stands judged took_it;
+    stands = taken_judged setup samples connection after (answer_of reply) (came_with seated_meaning asked.shard reply) limited.stands judged took_it;
     tracked = ⊎_elim same come (sc0_after (asks connection) connection.progress (came_with seated_meaning asked.shard reply));
   }
     where
@@ -233,7 +234,7 @@ module _ (setup : Setup) (name : List ℕ) (table limit now : ℕ) (old new : Li
       come : HasCome (asks connection) (came_with seated_meaning asked.shard reply) (heard_by (asks connection) connection.progress (came_with seated_meaning asked.shard reply)).held.sc0 → (entry : ℕ × RefState) → after.progress.held.sc0 ≡ Some entry → HasTracked setup table limit new after entry
       come it entry at = came_first after (heard_by (asks connection) connection.progress (came_with seated_meaning asked.shard reply)).held.sc0 it took_it.samples took_it.answers entry (sym progress_is ∙ at)
 
-  pub hears : IsLimited setup table limit new (heard seated_meaning connection asked.shard reply)
+  pub hears : IsLimited setup samples table limit new (heard seated_meaning connection asked.shard reply)
   hears =
-      subst (IsLimited setup table limit new) (sym (heard_took connection asked.shard reply limited.stands.given judged))
+      subst (IsLimited setup samples table limit new) (sym (heard_took connection asked.shard reply limited.stands.given judged))
       (heard_so (took connection (answer_of reply) (came_with seated_meaning asked.shard reply)) (taken connection (answer_of reply) (came_with seated_meaning asked.shard reply) limited.stands.given judged))

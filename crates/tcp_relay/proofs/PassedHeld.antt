@@ -7,6 +7,7 @@ use Rattle.rule_model.specs.declared.actions.Slot.TheVariants.{Sc0, Sc1, Sc2}
 use Rattle.rule_model.specs.declared.sections.Setup.{Setup}
 use Rattle.rule_eval.specs.Left.{is_done}
 use Rattle.rule_eval.specs.declared.wants.Answer.{Answer}
+use Rattle.rule_eval.specs.declared.wants.Samples.{Samples}
 use Rattle.rule_eval.specs.declared.wants.Verdict.TheVariants.{Accept, Reject}
 use Rattle.rule_eval.specs.declared.wants.Want.{Want}
 use Rattle.rule_eval.specs.declared.wants.Want.TheVariants as wants
@@ -22,8 +23,9 @@ use Rattle.admit_core.proofs.SkippedLemmas.{skipped_leaves}
 use Rattle.std.specs.Prelude.{slice_get}
 
 -- what it is while its rules judge it, and once they have
-pub record IsJudged {R : Type 0} (setup : Setup) (connection : Connection R) : Type 0 where
+pub record IsJudged {R : Type 0} (setup : Setup) (samples : Samples) (connection : Connection R) : Type 0 where
   pub ours : connection.setup ≡ setup
+  pub known : connection.samples ≡ samples
   pub given : connection.progress.given ≡ None
   pub accepted : connection.progress.phase ≡ Admitted → asks connection ≡ wants.Done Accept
 
@@ -117,9 +119,10 @@ heard_given (wants.Done verdict) progress came = refl
 not_admitted : (phase : Phase) → is_judged phase ≡ true → phase ≡ Admitted → ⊥
 not_admitted phase judged is = false≢true (sym (ap is_judged is) ∙ judged)
 
-pub taken_judged : {R : Type 0} (setup : Setup) (connection after : Connection R) (answer : Answer) (came : Option R) → IsJudged setup connection → is_judged connection.progress.phase ≡ true → HasTaken connection after answer came → IsJudged setup after
-taken_judged {R = R} setup connection after answer came is judged took_it = record {
+pub taken_judged : {R : Type 0} (setup : Setup) (samples : Samples) (connection after : Connection R) (answer : Answer) (came : Option R) → IsJudged setup samples connection → is_judged connection.progress.phase ≡ true → HasTaken connection after answer came → IsJudged setup samples after
+taken_judged {R = R} setup samples connection after answer came is judged took_it = record {
   ours = took_it.ours ∙ is.ours;
+  known = took_it.samples ∙ is.known;
   given = ap (λ (p : Progress R). p.given) took_it.progress ∙ heard_given (asks connection) connection.progress came ∙ is.given;
   accepted = λ at. absurd (not_admitted after.progress.phase (ap (λ (p : Progress R). is_judged p.phase) took_it.progress ∙ heard_judged (asks connection) connection.progress came judged) at);
 }
@@ -143,11 +146,11 @@ before_same {R = R} false wanted progress judged =
     let same = skipped_leaves wanted progress in
     (ap (λ (p : Progress R). p.held) same, ap (λ (p : Progress R). p.given) same, λ is. not_admitted progress.phase judged (sym (ap (λ (p : Progress R). p.phase) same) ∙ is))
 
-pub refused_judged : {R : Type 0} (setup : Setup) (connection : Connection R) → IsJudged setup connection → is_judged connection.progress.phase ≡ true → IsJudged setup (refused connection None) × HoldsSame connection (refused connection None)
-refused_judged {R = R} setup connection is judged =
+pub refused_judged : {R : Type 0} (setup : Setup) (samples : Samples) (connection : Connection R) → IsJudged setup samples connection → is_judged connection.progress.phase ≡ true → IsJudged setup samples (refused connection None) × HoldsSame connection (refused connection None)
+refused_judged {R = R} setup samples connection is judged =
     let as_it_is = refused_as connection is.given in
     let same = before_same (is_asking (asks connection) connection.progress) (need connection) connection.progress judged in (
-      record { ours = is.ours; given = ap (λ (p : Progress R). p.given) as_it_is ∙ same.1 ∙ is.given; accepted = λ at. absurd (same.2 (sym (ap (λ (p : Progress R). p.phase) as_it_is) ∙ at)) },
+      record { ours = is.ours; known = is.known; given = ap (λ (p : Progress R). p.given) as_it_is ∙ same.1 ∙ is.given; accepted = λ at. absurd (same.2 (sym (ap (λ (p : Progress R). p.phase) as_it_is) ∙ at)) },
       record { samples = refl; answers = refl; sc0 = ap (λ (p : Progress R). p.held.sc0) as_it_is ∙ ap (λ (h : Held R). h.sc0) same.0 },
     )
 
@@ -166,8 +169,8 @@ turned_phase Admitted want at = cc
 turned_phase Rejected want at = cc
 turned_phase Ended want at = cc
 
-pub turned_judged : {R : Type 0} (setup : Setup) (connection : Connection R) → IsJudged setup connection → IsJudged setup (turned connection) × HoldsSame connection (turned connection)
-turned_judged setup connection is = (
-  record { ours = is.ours; given = is.given; accepted = λ at. turned_phase connection.progress.phase (asks connection) at },
+pub turned_judged : {R : Type 0} (setup : Setup) (samples : Samples) (connection : Connection R) → IsJudged setup samples connection → IsJudged setup samples (turned connection) × HoldsSame connection (turned connection)
+turned_judged setup samples connection is = (
+  record { ours = is.ours; known = is.known; given = is.given; accepted = λ at. turned_phase connection.progress.phase (asks connection) at },
   record { samples = refl; answers = refl; sc0 = refl },
 )

@@ -24,6 +24,7 @@ use Rattle.rule_model.specs.declared.sections.Setup.{Setup}
 use Rattle.rule_eval.specs.Readings.{value_in}
 use Rattle.rule_eval.specs.Tables.{key_of as source_key}
 use Rattle.rule_eval.specs.declared.wants.Answer.{Answer}
+use Rattle.rule_eval.specs.declared.wants.Samples.{Samples}
 use Rattle.rule_eval.specs.declared.wants.Answer.TheVariants as answers
 use Rattle.admit_core.specs.Connection.{Connection}
 use Rattle.admit_port.specs.Calls.{AnswersAt, Call}
@@ -61,8 +62,8 @@ pub record HasTracked (setup : Setup) (table limit : ℕ) (seats : List SeatedSt
   pub looked : Looked limit (has_looked limit seen) rest
 
 -- a connection while it is judged, and once it was
-pub record IsLimited (setup : Setup) (table limit : ℕ) (seats : List SeatedState) (connection : Connection RefState) : Type 0 where
-  pub stands : IsJudged setup connection
+pub record IsLimited (setup : Setup) (samples : Samples) (table limit : ℕ) (seats : List SeatedState) (connection : Connection RefState) : Type 0 where
+  pub stands : IsJudged setup samples connection
   pub tracked : (entry : ℕ × RefState) → connection.progress.held.sc0 ≡ Some entry → HasTracked setup table limit seats connection entry
 
 pub looked_later : (limit : ℕ) (looked later : Bool) (rest : List Answer) → (looked ≡ true → later ≡ true) → Looked limit looked rest → Looked limit later rest

@@ -16,14 +16,21 @@ use Rattle.shard_record.specs.declared.view.Call.{Call}
 use Rattle.shard_record.specs.Calls.{IsHistory, IsHistoryOf, out, passed_in}
 use Rattle.shard_record.specs.Telling.{log_of}
 use Rattle.shard_book.specs.SeatState.{RefState}
+use Rattle.shard_locks.specs.Ported.{seated_meaning}
 use Rattle.shard_locks.specs.ShardsState.{SeatedState, book_of}
+use Rattle.rule_model.specs.declared.actions.KeyExpression.TheVariants as keys
 use Rattle.rule_model.specs.declared.actions.Slot.TheVariants.{Sc0}
 use Rattle.rule_model.specs.declared.sections.Setup.{Setup}
 use Rattle.rule_eval.specs.Limit.{LimitsFirst}
 use Rattle.rule_eval.specs.Readings.{value_in}
+use Rattle.rule_eval.specs.Tables.{key_of as source_key}
+use Rattle.rule_eval.specs.declared.wants.Samples.{Samples}
 use Rattle.admit_core.specs.Conn.{progress_of}
+use Rattle.admit_core.specs.Connection.{Connection}
 use Rattle.admit_core.specs.Held.{held_at}
 use Rattle.admit_core.specs.declared.conn.Conn.{Conn}
+use Rattle.admit_port.specs.Moves.{Moves}
+use Rattle.admit_port.specs.declared.moved.Moved.{Moved}
 
 -- ---- of the calls of a book
 
@@ -43,10 +50,9 @@ shows_few key limit ticket one = few_in key limit ticket one.event one.reply
 abbrev pub StoresCurrent : List Call → Type 0
 StoresCurrent log = (live : State) × IsHistoryOf log live × (is_column live.spec.columns ConnCur ≡ true)
 
--- they are all the calls of one table. By them the reference is of a key that lies on its shard, and it had a look whose row shows
--- at most `limit` current connections of that key. So it has passed, where the table stores conn_cur
-pub record HasPassed (shards limit : ℕ) (log : List Call) (reference : RefState) : Type 0 where
-  pub key : Key
+-- they are all the calls of one table. By them the reference is of the key, which lies on its shard, and it had a look whose row
+-- shows at most `limit` current connections of that key. So it has passed, where the table stores conn_cur
+pub record HasPassed (shards limit : ℕ) (key : Key) (log : List Call) (reference : RefState) : Type 0 where
   pub history : IsHistory log
   pub on_shard : reference.shard ≡ shard key shards
   pub of_key : WasOut log reference.ticket key
@@ -59,14 +65,23 @@ pub record HasPassed (shards limit : ℕ) (log : List Call) (reference : RefStat
 abbrev pub known_of : SeatedState → ℕ → List Call
 known_of seat part = log_of (book_of seat.table part) seat.known
 
--- the reference has passed by what the seat of its table knows
-pub record HasPassedBy (shards limit : ℕ) (seats : List SeatedState) (entry : ℕ × RefState) : Type 0 where
+-- the reference is of the key of the connection's source, and has passed by what the seat of its table knows
+pub record HasPassedBy (setup : Setup) (samples : Samples) (limit : ℕ) (seats : List SeatedState) (entry : ℕ × RefState) : Type 0 where
+  pub key : Key
+  pub source : source_key setup samples keys.Source entry.0 ≡ Some key
   pub seat : SeatedState
   pub at : slice_get seats entry.0 ≡ Some seat
-  pub has : HasPassed shards limit (known_of seat entry.1.shard) entry.1
+  pub has : HasPassed setup.shards limit key (known_of seat entry.1.shard) entry.1
 
 -- behind rules that begin by tracking the source and refusing it beyond a limit, the reference that it holds by sc0 is one of that
 -- table, and has passed
-abbrev pub HasPassedLimits : Setup → List SeatedState → Conn RefState → Type 0
-HasPassedLimits setup seats conn =
-    (name : List ℕ) (table limit : ℕ) (entry : ℕ × RefState) → LimitsFirst setup name table limit → held_at (progress_of conn).held Sc0 ≡ Some entry → (entry.0 ≡ table) × HasPassedBy setup.shards limit seats entry
+abbrev pub HasPassedLimits : Setup → Samples → List SeatedState → Conn RefState → Type 0
+HasPassedLimits setup samples seats conn =
+    (name : List ℕ) (table limit : ℕ) (entry : ℕ × RefState) → LimitsFirst setup name table limit → held_at (progress_of conn).held Sc0 ≡ Some entry → (entry.0 ≡ table) × HasPassedBy setup samples limit seats entry
+
+-- ---- laws
+
+-- whatever a connection does by the seats, a reference that has passed by what they knew has passed by what they know then
+abbrev pub PassedStaysLaw : Type 0
+PassedStaysLaw = (setup : Setup) (samples : Samples) (limit now : ℕ) (old new : List SeatedState) (connection after : Connection RefState) (moved : Moved) (entry : ℕ × RefState) →
+    Moves seated_meaning now old connection new after moved → HasPassedBy setup samples limit old entry → HasPassedBy setup samples limit new entry

@@ -23,7 +23,7 @@ use shard_record::Naming;
 use stick_table::Table;
 
 /// Has a connection judged by the rules, all at the moment at which they begin, and passes it through the gate. Whether it is
-/// admitted: then what it tracked has passed the limit that its rules begin with, by the records that the seats know.
+/// admitted: then its source has passed the limit that the rules begin with, by the records that the seats know.
 pub(crate) fn judge_one<'a, T: Table, J: Naming, R: ServeRuntime, G: Gate, W: Width>(
     shared: &Shared<'a, R, G, W>,
     seated: &mut Vec<Seated<'a, T, J, R>>,
@@ -37,7 +37,7 @@ pub(crate) fn judge_one<'a, T: Table, J: Naming, R: ServeRuntime, G: Gate, W: Wi
     ensures shards { AreIn (λ one. one.table.shards) W.shards seated.new.items }
     ensures connection { IsVisitor W.tables W.shards result.0 }
     ensures rests { result.1 ≡ true → needed result.0 ≡ Rest }
-    ensures passed { result.1 ≡ true → HasPassedLimits shared.now.setup.now seated.new.items result.0 }
+    ensures passed { result.1 ≡ true → HasPassedLimits shared.now.setup.now samples seated.new.items result.0 }
 {
     let mut conn = Conn::new(shared.setup, samples);
     let mut stopped = StoppedClock::at(clock.now());
