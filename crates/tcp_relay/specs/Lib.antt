@@ -11,3 +11,4 @@ pub mod Numbers
 pub mod Seating
 pub mod Serving
 pub mod Sweeps
+pub mod Meeting
