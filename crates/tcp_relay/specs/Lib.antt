@@ -12,3 +12,4 @@ pub mod Passed
 pub mod Seating
 pub mod Serving
 pub mod Sweeps
+pub mod Meeting

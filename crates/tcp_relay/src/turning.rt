@@ -11,6 +11,7 @@ use crate::drain::Phase;
 use crate::fates::{Ended, Ending};
 use crate::listener_turn::WorkerTurn;
 use crate::listeners::Accepted;
+use crate::met::{count_met, met_by};
 use crate::shared::Shared;
 use crate::sweep::Sweep;
 use crate::visiting::{end_admitted, end_at, judge_one};
@@ -334,6 +335,7 @@ pub(crate) fn turn_all<'a, T: Table, J: Naming, R: ServeRuntime, G: Gate, W: Wid
         close_all(shared, worker, event_loop);
     }
     let cells = shared.control.cells_of(event_loop.watch.worker());
+    count_met(&mut worker.counted, met_by(worker.seated.as_slice()));
     worker.counted.publish(cells);
     if only_accepts && worker.places.open() == open && worker.tally.has_only_rejected(tally) {
         thread::sleep(shared.rt, Duration::from_micros(REST));
