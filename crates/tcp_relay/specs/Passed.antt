@@ -1,6 +1,7 @@
 -- What the reference of an admitted connection has had, by the record of its shard's book.
-use Rattle.std.specs.Prelude.{◌≡◌, ℕ, nat_le, Bool, true, false, ◌&&◌, Some, List, slice_get}
+use Rattle.std.specs.Prelude.{◌≡◌, ℕ, nat_le, Bool, true, false, ◌&&◌, Some, List, [], slice_get}
 use Rattle.std.specs.List.{list_any}
+use Rattle.std.specs.Option.{option_map_or}
 use mathlib.Core.List.{IsPrefix}
 use Rattle.stored_data.specs.Stored.{is_column}
 use Rattle.stored_data.specs.declared.datum.Datum.TheVariants.{ConnCur}
@@ -13,7 +14,7 @@ use Rattle.stick_model.specs.declared.events.Event.TheVariants.{Look}
 use Rattle.stick_model.specs.declared.replies.Reply.{Reply}
 use Rattle.stick_model.specs.declared.replies.Reply.TheVariants.{Row as ARow}
 use Rattle.shard_record.specs.declared.view.Call.{Call}
-use Rattle.shard_record.specs.Calls.{IsHistory, IsHistoryOf, out, passed_in}
+use Rattle.shard_record.specs.Calls.{Held, IsHistory, IsHistoryOf, out, passed_in}
 use Rattle.shard_record.specs.Telling.{log_of}
 use Rattle.shard_book.specs.SeatState.{RefState}
 use Rattle.shard_locks.specs.Ported.{seated_meaning}
@@ -64,6 +65,14 @@ pub record HasPassed (shards limit : ℕ) (key : Key) (log : List Call) (referen
 -- the calls of a shard's book, as far as a seat knows its record
 abbrev pub known_of : SeatedState → ℕ → List Call
 known_of seat part = log_of (book_of seat.table part) seat.known
+
+-- the same of the seat of a table, where there is one
+abbrev pub known_at : List SeatedState → ℕ → ℕ → List Call
+known_at seats table part = option_map_or (λ (seat : SeatedState). known_of seat part) (slice_get seats table) []
+
+-- which references have passed by what the seats knew, those have by what they know then
+abbrev pub HavePassedStill : List SeatedState → List SeatedState → Type 0
+HavePassedStill old new = (table part limit : ℕ) (key : Key) (held : Held) → passed_in key limit (known_at old table part) held ≡ true → passed_in key limit (known_at new table part) held ≡ true
 
 -- the reference is of the key of the connection's source, and has passed by what the seat of its table knows
 pub record HasPassedBy (setup : Setup) (samples : Samples) (limit : ℕ) (seats : List SeatedState) (entry : ℕ × RefState) : Type 0 where

@@ -5,7 +5,7 @@ ghost use Rattle.admit_core.specs.Conn.{needed, progress_of};
 ghost use Rattle.admit_core.specs.Connection.{closed_of};
 ghost use Rattle.admit_core.specs.declared.need.Need.TheVariants.{Rest};
 ghost use Rattle.tcp_relay.specs.Connections.{IsVisitor};
-ghost use Rattle.tcp_relay.specs.Passed.{HasPassedLimits};
+ghost use Rattle.tcp_relay.specs.Passed.{HasPassedLimits, HavePassedStill};
 ghost use Rattle.tcp_relay.specs.Seating.{AreIn};
 
 use crate::fates::Ended;
@@ -38,6 +38,7 @@ pub(crate) fn judge_one<'a, T: Table, J: Naming, R: ServeRuntime, G: Gate, W: Wi
     ensures connection { IsVisitor W.tables W.shards result.0 }
     ensures rests { result.1 ≡ true → needed result.0 ≡ Rest }
     ensures passed { result.1 ≡ true → HasPassedLimits shared.now.setup.now samples seated.new.items result.0 }
+    ensures still { HavePassedStill seated.old.items seated.new.items }
 {
     let mut conn = Conn::new(shared.setup, samples);
     let mut stopped = StoppedClock::at(clock.now());
@@ -76,6 +77,7 @@ fn leave<'a, T: Table, J: Naming, R: ServeRuntime, G, W: Width>(
     ensures count { vec_len seated.new ≡ W.tables }
     ensures shards { AreIn (λ one. one.table.shards) W.shards seated.new.items }
     ensures connection { IfSome result (IsVisitor W.tables W.shards) }
+    ensures still { HavePassedStill seated.old.items seated.new.items }
 {
     let mut stopped = StoppedClock::at(clock.now());
     let ports = seated.as_mut_slice();
