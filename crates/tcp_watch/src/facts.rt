@@ -33,25 +33,22 @@ pub fn count_each<K: Keeper, C: Clock>(
     Ok(used)
 }
 
-/// What of all shards of a table is occupied.
-struct Occupied {
-    references: u64,
-    purged: u64,
-}
-
-/// The references of all shards that are out, and the entries that went to make room, modulo 2^64. The lock of each shard is taken in
-/// turn, for as long as two numbers are read.
-fn occupied<K: Keeper>(keeper: &K) -> Occupied {
-    let mut all = Occupied {
-        references: 0,
-        purged: 0,
-    };
-    for shard in 0..keeper.shards() {
-        let one = keeper.occupancy(shard);
-        all.references = all.references.saturating_add(u64::from(one.references));
-        all.purged = all.purged.wrapping_add(one.purged);
+/// The facts of a table that has so many entries. The lock of each shard is taken in turn, for as long as two numbers are read.
+fn table_facts<'a, K: Keeper>(named: &'a Named<K>, used: u64) -> TableFacts<'a> {
+    let mut references = 0u64;
+    let mut purged = 0u64;
+    for shard in 0..named.keeper.shards() {
+        let one = named.keeper.occupancy(shard);
+        references = references.saturating_add(u64::from(one.references));
+        purged = purged.wrapping_add(one.purged);
     }
-    all
+    TableFacts {
+        name: str::from_utf8(named.name.as_slice()).unwrap_or("?"),
+        size: u64::from(named.keeper.size()),
+        used,
+        references,
+        purged,
+    }
 }
 
 /// The facts of each table, which has so many entries, in their order.
@@ -62,14 +59,7 @@ pub fn facts_of<'a, K: Keeper>(
 ) -> Result<Vec<TableFacts<'a>>, NoMemory> {
     let mut facts = Vec::new(alloc);
     for (named, used) in tables.iter().zip(used) {
-        let Occupied { references, purged } = occupied(&named.keeper);
-        facts.push(TableFacts {
-            name: str::from_utf8(named.name.as_slice()).unwrap_or("?"),
-            size: u64::from(named.keeper.size()),
-            used: *used,
-            references,
-            purged,
-        })?;
+        facts.push(table_facts(named, *used))?;
     }
     Ok(facts)
 }
