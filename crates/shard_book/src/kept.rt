@@ -15,7 +15,7 @@ ghost use Rattle.shard_book.specs.BookState.{Extends, opened, rolled};
 ghost use Rattle.shard_book.specs.Kept.{IsKept, last_event as event_of_last};
 ghost use Rattle.shard_book.specs.Told.{IsRefusedBy, IsRefusedTo, Told};
 
-use crate::{Book, Seat, serve};
+use crate::{Book, Occupancy, Seat, serve};
 use base_sequence::NoMemory;
 use shard_record::{Keeper, Naming, Record, Token};
 use std::marker::Model;
@@ -73,6 +73,13 @@ impl<T: Table, J: Naming> Kept<T, J> {
         ensures kept { IsKept result.now self.now.log }
     {
         &self.book
+    }
+
+    /// What the book's live table is occupied by, and what went to make room there.
+    pub fn occupancy(&self) -> Occupancy
+        ensures { result.references ≡ length self.now.book.live.tickets }
+    {
+        self.book.occupancy()
     }
 
     /// Whether it is the book of this number.

@@ -3,3 +3,4 @@ pub mod Shared
 pub mod Tracking
 pub mod Listing
 pub mod Ported
+pub mod SeatCounting

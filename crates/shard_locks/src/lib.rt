@@ -7,6 +7,7 @@ mod listing;
 mod opening;
 mod ported;
 mod rolling;
+mod seat_counts;
 mod seated;
 mod shards;
 mod shared_ref;
@@ -15,6 +16,7 @@ mod tracking;
 mod unlocked;
 
 pub use listing::Listing;
+pub use seat_counts::SeatCounts;
 pub use seated::Seated;
 pub use shards::Shards;
 pub use shared_ref::SharedRef;

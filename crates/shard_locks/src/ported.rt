@@ -39,20 +39,35 @@ impl<'a, T: Table, J: Naming, R: Wait> Port for Seated<'a, T, J, R> {
         let event = Event::Get(now, key);
         match self.shards.call(self.rt, &mut self.seat, place, event) {
             Ok(reply) => Ok(row_or_none(reply)),
-            Err(refusal) => Err(refusal),
+            Err(refusal) => {
+                self.counts.note_refusal(refusal);
+                Err(refusal)
+            }
         }
     }
 
     #[tactic(auto, using(crate::proofs::PortLemmas::tracks, crate::proofs::PortLemmas::refused_key))]
     fn track(&mut self, key: StickKey, now: u64) -> Result<Option<SharedRef<J>>, Refusal> {
         match self.shards.track(self.rt, &mut self.seat, now, key) {
-            Ok(tracking) => Ok(reference_in(tracking)),
-            Err(refusal) => Err(refusal),
+            Ok(tracking) => {
+                self.counts.note_tracking(&tracking);
+                Ok(reference_in(tracking))
+            }
+            Err(refusal) => {
+                self.counts.note_refusal(refusal);
+                Err(refusal)
+            }
         }
     }
 
     fn look(&mut self, reference: &SharedRef<J>, now: u64) -> Result<Row, Refusal> {
-        self.shards.look(self.rt, &mut self.seat, reference, now)
+        match self.shards.look(self.rt, &mut self.seat, reference, now) {
+            Ok(row) => Ok(row),
+            Err(refusal) => {
+                self.counts.note_refusal(refusal);
+                Err(refusal)
+            }
+        }
     }
 
     fn count(
@@ -61,8 +76,16 @@ impl<'a, T: Table, J: Naming, R: Wait> Port for Seated<'a, T, J, R> {
         act: Act,
         now: u64,
     ) -> Result<Option<u64>, Refusal> {
-        self.shards
+        match self
+            .shards
             .count(self.rt, &mut self.seat, reference, now, act)
+        {
+            Ok(value) => Ok(value),
+            Err(refusal) => {
+                self.counts.note_refusal(refusal);
+                Err(refusal)
+            }
+        }
     }
 
     fn release(
@@ -70,6 +93,12 @@ impl<'a, T: Table, J: Naming, R: Wait> Port for Seated<'a, T, J, R> {
         reference: SharedRef<J>,
         now: u64,
     ) -> Result<(), (SharedRef<J>, Refusal)> {
-        self.shards.release(self.rt, &mut self.seat, reference, now)
+        match self.shards.release(self.rt, &mut self.seat, reference, now) {
+            Ok(()) => Ok(()),
+            Err((reference, refusal)) => {
+                self.counts.note_refusal(refusal);
+                Err((reference, refusal))
+            }
+        }
     }
 }

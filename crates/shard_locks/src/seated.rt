@@ -2,19 +2,21 @@
 
 ghost use Rattle.std.specs.Prelude.{◌≡◌};
 
-use crate::{Shards, SharedSeat};
-use shard_book::Keeper;
+use crate::{SeatCounts, Shards, SharedSeat};
+use shard_book::{Keeper, Occupancy};
 use shard_record::Naming;
 use std::marker::Model;
 use std::sync::Wait;
 use stick_table::{Event, Refusal, Reply, Spec, Table};
 
-/// A table in shards that threads share, asked by one seat: what commands ask, as those of a socket.
+/// A table in shards that threads share, asked by one seat: what commands ask, as those of a socket. It counts what connections
+/// meet, which its view doesn't show.
 #[derive(Drop)]
 pub struct Seated<'a, T: Table, J: Naming, R> {
     pub(crate) shards: &'a Shards<T, J>,
     pub(crate) rt: &'a R,
     pub(crate) seat: SharedSeat<J>,
+    pub(crate) counts: SeatCounts,
 }
 
 impl<'a, T: Table, J: Naming, R> Model for Seated<'a, T, J, R> {
@@ -30,7 +32,12 @@ impl<'a, T: Table, J: Naming, R> Seated<'a, T, J, R> {
     pub fn new(shards: &'a Shards<T, J>, rt: &'a R, seat: SharedSeat<J>) -> Seated<'a, T, J, R>
         ensures { result ≡ record { table = shards.now; seat = seat.seat; known = seat.known } }
     {
-        Seated { shards, rt, seat }
+        Seated {
+            shards,
+            rt,
+            seat,
+            counts: SeatCounts::new(),
+        }
     }
 
     /// The seat, with its calls.
@@ -41,8 +48,14 @@ impl<'a, T: Table, J: Naming, R> Seated<'a, T, J, R> {
             shards: _,
             rt: _,
             seat,
+            counts: _,
         } = self;
         seat
+    }
+
+    /// What connections have met here since it was made.
+    pub fn counts(&self) -> SeatCounts {
+        self.counts
     }
 }
 
@@ -72,6 +85,10 @@ impl<'a, T: Table, J: Naming, R: Wait> Keeper for Seated<'a, T, J, R> {
 
     fn spec(&self) -> &Spec {
         self.shards.whole()
+    }
+
+    fn occupancy(&self, shard: u32) -> Occupancy {
+        self.shards.occupancy(self.rt, shard)
     }
 
     #[tactic(auto, using(crate::proofs::ReplyLemmas::told_answers))]

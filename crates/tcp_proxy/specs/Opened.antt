@@ -1,8 +1,10 @@
 -- The tables of a setup, as threads share them.
-use Rattle.std.specs.Prelude.{◌≡◌, ℕ, Bool, List, map}
+use Rattle.std.specs.Prelude.{◌≡◌, ◌+◌, ◌*◌, ℕ, Bool, List, length, map}
 use Rattle.stick_model.specs.declared.specification.Spec.{Spec}
 use Rattle.rule_model.specs.declared.sections.NamedSpec.{NamedSpec}
+use Rattle.rule_model.specs.declared.sections.Setup.{Setup}
 use Rattle.shard_locks.specs.ShardsState.{ShardsState}
+use Rattle.tcp_proxy.specs.declared.opening.CallRecord.{CallRecord}
 
 -- all but the seed of its hashes
 abbrev pub unseeded : Spec → Spec
@@ -19,3 +21,8 @@ declared_table shards keep named = record { spec = unseeded named.spec; shards =
 -- they are the declared ones, in their order, each by a seed of its own
 abbrev pub AreDeclared : ℕ → Bool → List NamedSpec → List ShardsState → Type 0
 AreDeclared shards keep named tables = map but_for_seed tables ≡ map (declared_table shards keep) named
+
+-- a record has a book for each shard of each table, and a seat at each table for each worker, each thread that answers clients, and the housekeeping
+pub record HasPlaces (setup : Setup) (calls : CallRecord) : Type 0 where
+  pub books : calls.opened.books ≡ setup.shards * length setup.tables
+  pub seats : calls.opened.seats ≡ (calls.workers + calls.clients + 1) * length setup.tables

@@ -1,16 +1,16 @@
 //! The tables of a setup are opened for threads to share; `running` calls it first.
 
-ghost use Rattle.std.specs.Prelude.{◌≡◌, ◌≤◌, ◌+◌, ◌*◌, ◌++◌, ◌∷◌, [], length, vec_len, IfOk, OnOk};
+ghost use Rattle.std.specs.Prelude.{◌≡◌, ◌≤◌, ◌+◌, ◌*◌, ◌++◌, ◌∷◌, [], length, vec_len, IfOk, IfSome, OnOk};
 ghost use Rattle.stick_model.specs.Limits.{IsTableSpec};
 ghost use Rattle.shard_record.specs.Dealing.{HasLeft};
 ghost use Rattle.admit_drive.specs.Tables.{CanOpen};
 ghost use Rattle.tcp_relay.specs.Serving.{AreSeats, AreTablesOf};
-ghost use Rattle.tcp_proxy.specs.Opened.{AreDeclared, but_for_seed, declared_table};
+ghost use Rattle.tcp_proxy.specs.Opened.{AreDeclared, HasPlaces, but_for_seed, declared_table};
 
 use base_sequence::NoMemory;
 use rule_model::{NamedSpec, Setup};
 use shard_locks::{Shards, SharedSeat};
-use shard_record::{Dealer, Naming};
+use shard_record::{Dealer, Naming, Opened};
 use std::alloc::Global;
 use std::io;
 use std::random::RandomSource;
@@ -29,6 +29,15 @@ impl From<NoMemory> for OpenFault {
     fn from(_refused: NoMemory) -> OpenFault {
         OpenFault::NoMemory
     }
+}
+
+/// The record of the calls of all tables of a setup, before it has a name; and how many threads are to call each table beside the
+/// one that does the housekeeping: the workers, and those that answer clients.
+#[derive(Drop)]
+pub(crate) struct CallRecord {
+    pub opened: Opened,
+    pub workers: u32,
+    pub clients: u32,
 }
 
 /// A table, and the seats by which it is asked.
@@ -64,6 +73,30 @@ impl<T: Table, J: Naming> OpenTables<T, J> {
         self.keepers.push(opened.keeper)?;
         Ok(())
     }
+}
+
+/// A record for the calls of all tables of a setup, by so many workers and so many threads that answer clients. None where there
+/// is no memory for it, or where its books or seats are more than 2^32 - 1.
+pub(crate) fn open_record(
+    alloc: Global,
+    setup: &Setup,
+    workers: u32,
+    clients: u32,
+) -> Option<CallRecord>
+    requires workers { (1 ≤ workers) × (workers ≤ 64) }
+    requires clients { (1 ≤ clients) × (clients ≤ 128) }
+    ensures callers { IfSome result (λ calls. (calls.workers ≡ workers) × (calls.clients ≡ clients)) }
+    ensures places { IfSome result (λ calls. HasPlaces setup.now calls) }
+{
+    let tables = u32::try_from(setup.tables.as_slice().len()).ok()?;
+    let books = setup.shards.checked_mul(tables)?;
+    let seats = (workers + clients + 1).checked_mul(tables)?;
+    let opened = Opened::new(alloc, books, seats).ok()?;
+    Some(CallRecord {
+        opened,
+        workers,
+        clients,
+    })
 }
 
 /// A number that nobody outside can foresee.
@@ -118,8 +151,9 @@ fn open_table<T: Table, J: Naming>(
 }
 
 /// Opens the tables of a setup, in order of declaration, each in the setup's number of shards and by a seed of its own.
-/// With `keep` their seats keep receipts. One record has the calls of all. There are so many workers, 1 to 64, and so many threads that answer clients, 1 to 128.
-pub(crate) fn open_tables<T: Table, J: Naming>(
+/// With `keep` their seats keep receipts. One record has the calls of all. There are so many workers, 1 to 64, and so many threads
+/// that answer clients, 1 to 128.
+fn open_tables<T: Table, J: Naming>(
     alloc: Global,
     rt: &impl RandomSource,
     dealer: &mut Dealer<J>,
@@ -162,4 +196,34 @@ pub(crate) fn open_tables<T: Table, J: Naming>(
         opened.add(one)?;
     }
     Ok(opened)
+}
+
+/// Opens the tables of a setup as `open_tables` does, with a record that gets its name here.
+pub(crate) fn open_recorded<T: Table, J: Naming>(
+    alloc: Global,
+    rt: &impl RandomSource,
+    setup: &Setup,
+    calls: CallRecord,
+    keep: bool,
+) -> Result<OpenTables<T, J>, OpenFault>
+    requires can_open { CanOpen setup.now }
+    requires workers { (1 ≤ calls.workers) × (calls.workers ≤ 64) }
+    requires clients { (1 ≤ calls.clients) × (calls.clients ≤ 128) }
+    requires name { (calls.opened.first.table_id ≡ J.record_id) × (calls.opened.books ≡ J.books) }
+    requires places { HasPlaces setup.now calls }
+    ensures tables { IfOk result (λ opened. AreDeclared setup.now.shards keep setup.now.tables opened.tables.items) }
+    ensures served { IfOk result (λ opened. AreTablesOf setup.now opened.tables.items) }
+    ensures workers { IfOk result (λ opened. AreSeats (length opened.tables.items) calls.workers opened.workers) }
+    ensures commands { IfOk result (λ opened. AreSeats (length opened.tables.items) calls.clients opened.commands) }
+    ensures keepers { IfOk result (λ opened. length opened.keepers.items ≡ length setup.now.tables) }
+{
+    let CallRecord {
+        opened,
+        workers,
+        clients,
+    } = calls;
+    let Ok(mut dealer) = Dealer::new(alloc, opened) else {
+        return Err(OpenFault::NoMemory);
+    };
+    open_tables(alloc, rt, &mut dealer, setup, workers, clients, keep)
 }

@@ -1,13 +1,15 @@
-//! The threads beside the listener: one does housekeeping, one reports, others answer clients of the sockets; `running` makes them, and
-//! `serving` starts them.
+//! The threads beside the listener: one does housekeeping, one reports, others answer clients of the sockets; `running` makes them,
+//! and `serving` starts them.
 
 use crate::counted::Counted;
 use crate::housekeeping::keep_tables;
+use crate::plan::Duties;
 use crate::reporting::report_on;
 use crate::running_program::{Running, ServiceCounts};
 use crate::shared::{ProxyRuntime, Shared};
 use base_clock::{Clock, RunningClock};
-use rule_model::Name;
+use base_sequence::NoMemory;
+use rule_model::{Name, Setup};
 use shard_book::{Keeper, Named};
 use shard_locks::{Seated, SharedSeat};
 use shard_record::Naming;
@@ -93,9 +95,10 @@ impl<J: Naming> ServiceThread<J> {
 pub(crate) type SeatedTable<'a, T, J, R> = Named<Seated<'a, T, J, R>>;
 
 /// Tables that are asked, and a place for each of their seats.
-struct Asked<'a, T: Table, J: Naming, R> {
-    tables: Vec<SeatedTable<'a, T, J, R>>,
-    back: Vec<SharedSeat<J>>,
+#[derive(Drop)]
+pub(crate) struct Asked<'a, T: Table, J: Naming, R> {
+    pub tables: Vec<SeatedTable<'a, T, J, R>>,
+    pub back: Vec<SharedSeat<J>>,
 }
 
 /// Empty lists for so many, once there is memory for them. None where the proxy stops before.
@@ -139,7 +142,7 @@ fn seat<'a, T: Table, J: Naming, R: ProxyRuntime>(
 }
 
 /// The seats of tables that are asked no more.
-fn seats_of<T: Table, J: Naming, R: ProxyRuntime>(
+pub(crate) fn seats_of<T: Table, J: Naming, R>(
     tables: Vec<SeatedTable<'_, T, J, R>>,
     mut back: Vec<SharedSeat<J>>,
 ) -> Vec<SharedSeat<J>> {
@@ -281,4 +284,54 @@ fn report_seated<T: Table, J: Naming, R: ProxyRuntime>(
     let mut teller = teller_of(shared, tables);
     report_on(shared.running, &mut teller, shared.stop);
     seats_of(teller.tables, back)
+}
+
+/// The names of a setup's tables.
+fn names_of(alloc: Global, setup: &Setup) -> Result<Vec<Name>, NoMemory> {
+    let mut names = Vec::new(alloc);
+    for named in setup.tables.as_slice() {
+        names.push(named.name.copy()?)?;
+    }
+    Ok(names)
+}
+
+/// The last seat of each table, which is taken out of its list.
+fn take_one_of_each<J: Naming>(
+    alloc: Global,
+    seats: &mut Vec<Vec<SharedSeat<J>>>,
+) -> Result<Vec<SharedSeat<J>>, NoMemory> {
+    let mut taken = Vec::new(alloc);
+    for of_table in seats.iter_mut() {
+        if let Some(seat) = of_table.pop() {
+            taken.push(seat)?;
+        }
+    }
+    Ok(taken)
+}
+
+/// The threads beside the listener, by their duties, and the one that does the housekeeping. All have their memory.
+pub(crate) fn make_service_threads<J: Naming>(
+    alloc: Global,
+    setup: &Setup,
+    duties: Duties,
+    mut seats: Vec<Vec<SharedSeat<J>>>,
+    keepers: Vec<SharedSeat<J>>,
+) -> Result<Vec<ServiceThread<J>>, NoMemory> {
+    let mut service_threads = Vec::new(alloc);
+    let counts = [
+        (Duty::Commands, duties.commands),
+        (Duty::Stats, duties.stats),
+        (Duty::Metrics, duties.metrics),
+        (Duty::Reporting, duties.reporting),
+    ];
+    for (duty, count) in counts {
+        for _ in 0..count {
+            let names = names_of(alloc, setup)?;
+            let seats = take_one_of_each(alloc, &mut seats)?;
+            service_threads.push(ServiceThread::new(duty, names, seats))?;
+        }
+    }
+    let names = Vec::new(alloc);
+    service_threads.push(ServiceThread::new(Duty::Housekeeping, names, keepers))?;
+    Ok(service_threads)
 }

@@ -4,6 +4,7 @@ ghost use Rattle.std.specs.Prelude.{◌≡◌, ◌≤◌, is_some, true};
 ghost use Rattle.tcp_relay.specs.Serving.{AreTablesOf};
 
 use crate::running_program::Running;
+use base_clock::Start;
 use log::Log;
 use rule_model::Setup;
 use shard_locks::Shards;
@@ -14,7 +15,7 @@ use std::os::unix::net::UnixListener;
 use std::sync::Wait;
 use std::sync::atomic::AtomicBool;
 use std::thread::Threads;
-use std::time::{Clock, Instant};
+use std::time::Clock;
 use stick_table::Table;
 use tcp_relay::{Limits, Listener};
 
@@ -49,8 +50,8 @@ pub(crate) struct Shared<'a, T: Table, J: Naming, R> {
     pub stop_after: Option<u64>,
     /// A shard's record begins again once it has so many calls.
     pub roll_at: u64,
-    /// The moment 0.
-    pub start: Instant,
+    /// Where the threads' clocks begin.
+    pub start: Start,
     /// What is known of the run, and who looks at it.
     pub running: &'a Running<'a, R>,
     pub stop: &'a AtomicBool,

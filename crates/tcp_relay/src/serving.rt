@@ -20,7 +20,7 @@ use crate::watch::Watch;
 use crate::width::Width;
 use crate::worker::Worker;
 use crate::{Control, FaultKind, Gate, Limits, ServeFault, ServeRuntime, Served};
-use base_clock::{Clock, RunningClock};
+use base_clock::{Clock, RunningClock, Start};
 use rule_model::Setup;
 use shard_locks::{Shards, SharedSeat};
 use shard_record::Naming;
@@ -28,7 +28,6 @@ use std::alloc::Global;
 use std::marker::{Brand, PhantomData};
 use std::net::Net;
 use std::thread;
-use std::time::Instant;
 use stick_table::Table;
 
 /// One worker's connections: until the last number is drawn, or a drain has begun, and all its connections have ended; or it
@@ -205,7 +204,7 @@ fn serve_wide<
     threads: u32,
     limits: Limits,
     stop_after: Option<u64>,
-    start: Instant,
+    start: Start,
     control: Control<'_>,
 ) -> Result<Served<J>, ServeFault<J>>
     requires width { W.tables ≡ length tables.now }
@@ -301,7 +300,7 @@ pub fn serve<T: Table + Send, J: Naming + Send + Sync, R: ServeRuntime, G: Gate 
     threads: u32,
     limits: Limits,
     stop_after: Option<u64>,
-    start: Instant,
+    start: Start,
     control: Control<'_>,
 ) -> Result<Served<J>, ServeFault<J>>
     requires server { is_some setup.now.server ≡ true }

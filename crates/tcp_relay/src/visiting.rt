@@ -5,6 +5,7 @@ ghost use Rattle.admit_core.specs.Conn.{needed, progress_of};
 ghost use Rattle.admit_core.specs.Connection.{closed_of};
 ghost use Rattle.admit_core.specs.declared.need.Need.TheVariants.{Rest};
 ghost use Rattle.tcp_relay.specs.Connections.{IsVisitor};
+ghost use Rattle.tcp_relay.specs.Passed.{HasPassedLimits};
 ghost use Rattle.tcp_relay.specs.Seating.{AreIn};
 
 use crate::fates::Ended;
@@ -22,7 +23,7 @@ use shard_record::Naming;
 use stick_table::Table;
 
 /// Has a connection judged by the rules, all at the moment at which they begin, and passes it through the gate. Whether it is
-/// admitted.
+/// admitted: then what it tracked has passed the limit that its rules begin with, by the records that the seats know.
 pub(crate) fn judge_one<'a, T: Table, J: Naming, R: ServeRuntime, G: Gate, W: Width>(
     shared: &Shared<'a, R, G, W>,
     seated: &mut Vec<Seated<'a, T, J, R>>,
@@ -36,6 +37,7 @@ pub(crate) fn judge_one<'a, T: Table, J: Naming, R: ServeRuntime, G: Gate, W: Wi
     ensures shards { AreIn (λ one. one.table.shards) W.shards seated.new.items }
     ensures connection { IsVisitor W.tables W.shards result.0 }
     ensures rests { result.1 ≡ true → needed result.0 ≡ Rest }
+    ensures passed { result.1 ≡ true → HasPassedLimits shared.now.setup.now seated.new.items result.0 }
 {
     let mut conn = Conn::new(shared.setup, samples);
     let mut stopped = StoppedClock::at(clock.now());

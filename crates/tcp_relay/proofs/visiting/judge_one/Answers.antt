@@ -1,4 +1,5 @@
-use Rattle.tcp_relay.proofs.ConnectionLemmas.{each_still, fresh, ready, visitor_still}
+use Rattle.tcp_relay.proofs.ConnectionLemmas.{each_still, fresh, passed_still, ports_of, ready, visitor_still}
+use Rattle.tcp_relay.proofs.PassedGoes.{judged_passed}
 use Rattle.tcp_relay.proofs.visiting.judge_one.Goals as goal
 
 pub judge-is_admitted-requires-clause-ready : goal.judge-is_admitted-requires-clause-ready
@@ -18,3 +19,10 @@ returns-clause-connection g c =
     let lent = c.as_mut_slice-ports in
     let judged = c.judge-is_admitted in
     visitor_still g.W.Width.tables g.W.Width.shards c.args.seated.now lent.result.now lent.ensures.value lent.ensures.len c.requires.count c.requires.shards judged.new.ports judged.ensures.parts judged.new.conn judged.ensures.living judged.ensures.ready
+
+pub returns-clause-passed : goal.returns-clause-passed
+returns-clause-passed g c admitted =
+    let lent = c.as_mut_slice-ports in
+    let judged = c.judge-is_admitted in
+    passed_still g.W.Width.tables g.W.Width.shards c.args.seated.now lent.result.now lent.ensures.value lent.ensures.len c.requires.count c.requires.shards judged.new.ports judged.ensures.parts c.args.shared.now.setup.now judged.new.conn
+    (judged_passed _ c.args.shared.now.setup.now c.args.samples (ports_of lent.result.now) (ports_of judged.new.ports) c.new-conn.result judged.new.conn _ _ c.new-conn.ensures.stands judged.ensures.gone judged.ensures.judged (judged.ensures.rests admitted))

@@ -3,21 +3,21 @@
 ghost use Rattle.std.specs.Prelude.{◌≡◌, ◌⊎◌, ◌<◌, ◌^◌, Some, IfErr, OnOk};
 ghost use Rattle.std.specs.Str.{bytes_eq};
 ghost use Rattle.shard_book.specs.NamedTables.{states_of};
-ghost use Rattle.table_loading.specs.Lines as lines;
-ghost use Rattle.table_loading.specs.Lines.{line_of};
-ghost use Rattle.table_loading.specs.Loading as spec;
-ghost use Rattle.table_loading.specs.Loading.{Commands, FailsAt, IsFault, Loads, LoadsAll, lines_of};
-ghost use Rattle.table_loading.specs.Seen.{seen_end, seen_fault};
+ghost use Rattle.table_cli.specs.SavedLines as lines;
+ghost use Rattle.table_cli.specs.SavedLines.{line_of};
+ghost use Rattle.table_cli.specs.Loading as spec;
+ghost use Rattle.table_cli.specs.Loading.{Commands, FailsAt, IsFault, Loads, LoadsAll, lines_of};
+ghost use Rattle.table_cli.specs.SeenLines.{seen_end, seen_fault};
 
-use crate::fault::{LineFault, LoadFault};
-use crate::line::{Line, read_line};
 use crate::lives::{age, longest_life};
+use crate::load_fault::{LineFault, LoadFault};
+use crate::saved_line::{Line, read_line};
+use crate::serve::answer;
 use base_clock::StoppedClock;
 use base_lines::Parts;
 use byte_ports::MemorySink;
 use shard_book::{Keeper, Named};
 use std::alloc::Global;
-use table_cli::answer;
 
 /// Whether a table has this name.
 fn is_named<K>(named: &Named<K>, name: &[u8]) -> bool

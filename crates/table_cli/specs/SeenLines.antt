@@ -1,10 +1,10 @@
 -- A line of the code, without where its words lie in memory.
 use Rattle.std.specs.Prelude.{Option, Some, None, Result, Ok, Err}
-use Rattle.table_loading.specs.Lines as spec
-use Rattle.table_loading.specs.declared.line.Line.{Line}
-use Rattle.table_loading.specs.declared.line.Line.TheVariants.{Passed, Makes, Wrong}
-use Rattle.table_loading.specs.declared.fault.LineFault.{LineFault}
-use Rattle.table_loading.specs.declared.fault.LineFault.TheVariants.{NoTime, NoCommand, NoEntry, Answered, NoMemory}
+use Rattle.table_cli.specs.SavedLines as spec
+use Rattle.table_cli.specs.declared.saved_line.Line.{Line}
+use Rattle.table_cli.specs.declared.saved_line.Line.TheVariants.{Passed, Makes, Wrong}
+use Rattle.table_cli.specs.declared.load_fault.LineFault.{LineFault}
+use Rattle.table_cli.specs.declared.load_fault.LineFault.TheVariants.{NoTime, NoCommand, NoEntry, Answered, NoMemory}
 
 abbrev pub seen_fault : LineFault → spec.Fault
 seen_fault (NoTime word) = spec.NoTime word.now

@@ -2,8 +2,8 @@
 
 ghost use Rattle.std.specs.Prelude.{◌≡◌};
 ghost use Rattle.shard_book.specs.NamedTables.{states_of};
-ghost use Rattle.table_loading.specs.Lives as lives;
-ghost use Rattle.table_loading.specs.Lives.{goes_on_at};
+ghost use Rattle.table_cli.specs.Lives as lives;
+ghost use Rattle.table_cli.specs.Lives.{goes_on_at};
 
 use shard_book::{Keeper, Named};
 use stick_model::Spec;

@@ -1,9 +1,9 @@
 use Rattle.std.proofs.Common.{rules}
 use Rattle.shard_book.specs.NamedTables.{states_of}
-use Rattle.table_loading.specs.Seen.{seen_fault}
-use Rattle.table_loading.specs.Loading.{lines_of}
-use Rattle.table_loading.proofs.LineLemmas.{fails_here, fails_more, loads_more}
-use Rattle.table_loading.proofs.loading.load.Goals as goal
+use Rattle.table_cli.specs.SeenLines.{seen_fault}
+use Rattle.table_cli.specs.Loading.{lines_of}
+use Rattle.table_cli.proofs.LineLemmas.{fails_here, fails_more, loads_more}
+use Rattle.table_cli.proofs.loading.load.Goals as goal
 
 pub loop-line-preserved : goal.loop-line-preserved
 loop-line-preserved g c =

@@ -5,7 +5,7 @@ use Rattle.shard_book.specs.NamedTables.{NamedState}
 use Rattle.table_cli.specs.Answers.{Answers, AnswersLine, commands_of}
 use Rattle.table_cli.specs.Shards.{Answering, Refusing}
 use Rattle.table_cli.specs.States.{CommandState}
-use Rattle.table_loading.specs.Loading.{IsAnswered, StopsShort, at_moment, standing}
+use Rattle.table_cli.specs.Loading.{IsAnswered, StopsShort, at_moment, standing}
 
 module _ {S : Type 0} (answers : Answering S) (refuses : Refusing S) where
   clock_stands : (commands : List (List ℕ)) (old : CommandState S ℕ) (text : List ℕ) (new : CommandState S ℕ) → Chain (Answers answers refuses standing) old commands text new → new.clock ≡ old.clock

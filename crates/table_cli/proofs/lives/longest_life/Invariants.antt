@@ -1,8 +1,8 @@
 use Rattle.std.proofs.Common.{◌≡◌, drop, fold, max, map, ℕ}
 use Rattle.stick_model.specs.declared.specification.Spec.{Spec}
 use Rattle.shard_book.specs.NamedTables.{NamedState, states_of}
-use Rattle.table_loading.specs.Lives.{goes_on_at, life_of}
-use Rattle.table_loading.proofs.lives.longest_life.Given as goal
+use Rattle.table_cli.specs.Lives.{goes_on_at, life_of}
+use Rattle.table_cli.proofs.lives.longest_life.Given as goal
 
 -- those so far, and those that are left
 abbrev pub invariant-loop-named : goal.invariant-loop-named

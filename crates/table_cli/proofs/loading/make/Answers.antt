@@ -1,10 +1,10 @@
 use Rattle.std.proofs.Common.{◌≡◌, ◌⊎◌, ℕ, List, Some, inl, inr, refl, subst, rules}
 use Rattle.shard_book.specs.NamedTables.{states_of}
-use Rattle.table_loading.specs.Lines.{NoMemory}
-use Rattle.table_loading.specs.Loading.{IsFault}
-use Rattle.table_loading.specs.Seen.{seen_end}
-use Rattle.table_loading.proofs.ClockLemmas.{is_answered, stops_short}
-use Rattle.table_loading.proofs.loading.make.Goals as goal
+use Rattle.table_cli.specs.SavedLines.{NoMemory}
+use Rattle.table_cli.specs.Loading.{IsFault}
+use Rattle.table_cli.specs.SeenLines.{seen_end}
+use Rattle.table_cli.proofs.ClockLemmas.{is_answered, stops_short}
+use Rattle.table_cli.proofs.loading.make.Goals as goal
 
 pub returns-in-Ok : goal.returns-in-Ok
 returns-in-Ok g c =

@@ -2,13 +2,13 @@
 
 ghost use Rattle.std.specs.Prelude.{◌≡◌};
 ghost use Rattle.base_lines.specs.Words.{words_left};
-ghost use Rattle.table_loading.specs.Lines as spec;
-ghost use Rattle.table_loading.specs.Lines.{by_verb, entry_of, line_of};
-ghost use Rattle.table_loading.specs.Seen.{seen};
+ghost use Rattle.table_cli.specs.SavedLines as spec;
+ghost use Rattle.table_cli.specs.SavedLines.{by_verb, entry_of, line_of};
+ghost use Rattle.table_cli.specs.SeenLines.{seen};
 ghost use Rattle.std.specs.List.{list_any};
 ghost use Rattle.base_lines.specs.Parts.{is_semicolon};
 
-use crate::fault::LineFault;
+use crate::load_fault::LineFault;
 use base_lines::{Blanks, Words, read_number, without_cr};
 use table_texts::{Form, Request, read_form};
 

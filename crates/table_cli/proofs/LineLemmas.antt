@@ -2,8 +2,8 @@
 use Rattle.std.proofs.Common.{◌≡◌, ℕ, ◌+◌, List, ◌∷◌, Some, None, inl, inr, refl, sym, subst, arith}
 use Rattle.shard_book.specs.NamedTables.{NamedState}
 use Rattle.table_cli.specs.Shards.{Answering, Refusing}
-use Rattle.table_loading.specs.Lines.{Fault, line_of}
-use Rattle.table_loading.specs.Loading.{FailsAt, Loads, LoadsAll}
+use Rattle.table_cli.specs.SavedLines.{Fault, line_of}
+use Rattle.table_cli.specs.Loading.{FailsAt, Loads, LoadsAll}
 
 module _ {S : Type 0} (answers : Answering S) (refuses : Refusing S) (old now mid : List (NamedState S)) (all left : List (List ℕ)) (line : List ℕ) (rest : List (List ℕ)) (done : ℕ) where
   -- what the lines behind it do, all lines do

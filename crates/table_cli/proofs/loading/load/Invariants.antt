@@ -1,8 +1,8 @@
 use Rattle.std.proofs.Common.{ℕ, ◌+◌, ◌≤◌, List, length}
 use Rattle.shard_book.specs.NamedTables.{NamedState, states_of}
-use Rattle.table_loading.specs.Lines.{Fault}
-use Rattle.table_loading.specs.Loading.{FailsAt, LoadsAll, lines_of}
-use Rattle.table_loading.proofs.loading.load.Given as goal
+use Rattle.table_cli.specs.SavedLines.{Fault}
+use Rattle.table_cli.specs.Loading.{FailsAt, LoadsAll, lines_of}
+use Rattle.table_cli.proofs.loading.load.Given as goal
 
 -- what the lines that are left do, all lines do
 abbrev pub invariant-loop-line : goal.invariant-loop-line

@@ -1,7 +1,7 @@
 use Rattle.std.proofs.Common.{◌≡◌, drop}
 use Rattle.shard_book.specs.NamedTables.{states_of}
-use Rattle.table_loading.specs.Loading.{life_in}
-use Rattle.table_loading.proofs.loading.life_in.Given as goal
+use Rattle.table_cli.specs.Loading.{life_in}
+use Rattle.table_cli.proofs.loading.life_in.Given as goal
 
 -- those that are left tell it
 abbrev pub invariant-loop-named : goal.invariant-loop-named

@@ -7,8 +7,8 @@ use Rattle.shard_book.specs.NamedTables.{NamedState}
 use Rattle.table_cli.specs.Answers.{Answers, AnswersLine, commands_of}
 use Rattle.table_cli.specs.Shards.{Answering, Refusing}
 use Rattle.table_cli.specs.States.{CommandState, Showing}
-use Rattle.table_loading.specs.Lives.{age, goes_on_at}
-use Rattle.table_loading.specs.Lines.{Fault, Answered, NoMemory, Line, Passed, Makes, Wrong, line_of}
+use Rattle.table_cli.specs.Lives.{age, goes_on_at}
+use Rattle.table_cli.specs.SavedLines.{Fault, Answered, NoMemory, Line, Passed, Makes, Wrong, line_of}
 
 -- the clock of a line stands at its moment
 abbrev pub standing : Showing ℕ
