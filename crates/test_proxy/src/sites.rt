@@ -5,6 +5,7 @@ ghost use Rattle.tcp_relay.specs.Serving.{AreSeats};
 
 use crate::setups::setup;
 use crate::tables::give_up;
+use base_clock::Start;
 use rule_addresses::{Address, Endpoint};
 use rule_model::Setup;
 use shard_locks::{Shards, SharedRef, SharedSeat};
@@ -241,7 +242,7 @@ fn serve_among<
         2,
         LIMITS,
         Some(last),
-        site.start,
+        Start::at(site.start),
         control,
     ) {
         Ok(served) => end_of(None, served),
