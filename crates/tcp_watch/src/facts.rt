@@ -41,7 +41,7 @@ struct Occupied {
 
 /// The references of all shards that are out, and the entries that went to make room, modulo 2^64. The lock of each shard is taken in
 /// turn, for as long as two numbers are read.
-fn occupied<K: Keeper>(keeper: &K) -> Occupied {
+fn occupied_in<K: Keeper>(keeper: &K) -> Occupied {
     let mut all = Occupied {
         references: 0,
         purged: 0,
@@ -62,7 +62,7 @@ pub fn facts_of<'a, K: Keeper>(
 ) -> Result<Vec<TableFacts<'a>>, NoMemory> {
     let mut facts = Vec::new(alloc);
     for (named, used) in tables.iter().zip(used) {
-        let Occupied { references, purged } = occupied(&named.keeper);
+        let Occupied { references, purged } = occupied_in(&named.keeper);
         facts.push(TableFacts {
             name: str::from_utf8(named.name.as_slice()).unwrap_or("?"),
             size: u64::from(named.keeper.size()),
