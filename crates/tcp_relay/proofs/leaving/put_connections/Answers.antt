@@ -1,7 +1,7 @@
-use Rattle.std.proofs.Common.{rules, ap, map, option_map, ◌≡◌, ◌≤◌, ◌+◌, ◌-◌, ◌*◌, ℕ, sym, subst, ◌∙◌, arith, vec_len}
+use Rattle.std.proofs.Common.{ap, length, map, option_map, ◌≡◌, ◌≤◌, ◌+◌, ◌-◌, ◌*◌, ℕ, sym, subst, ◌∙◌, arith, vec_len}
 use Rattle.tcp_relay.specs.Seating.{HaveRoom, held_in}
 use Rattle.tcp_relay.specs.Connections.{left_by_all}
-use Rattle.tcp_relay.proofs.LeavingLemmas.{left_last, left_none}
+use Rattle.tcp_relay.proofs.LeavingLemmas.{left_last, left_none, none_there}
 use Rattle.tcp_relay.proofs.SeatingLemmas.{few_more}
 use Rattle.tcp_relay.proofs.leaving.put_connections.Goals as goal
 
@@ -34,4 +34,6 @@ returns-clause-more g c most places few =
     few_more (most + (g.W.Width.most - vec_len c.loop-place.held) * 3) (most + g.W.Width.most * 3) places c.loop-place.refs.items (omega (arith)) (c.loop-place.invariant.more most places few)
 
 pub returns-clause-kept : goal.returns-clause-kept
-returns-clause-kept g c = sym (left_none (option_map (λ connection. connection.conn)) c.loop-place.held.items (held_in c.loop-place.refs.items) (search rules)) ∙ c.loop-place.invariant.kept
+returns-clause-kept g c =
+    let none = none_there (vec_len c.loop-place.held) (length c.loop-place.held.items) c.loop-place.held.ok.0 c.in_default.ensures.variant.1 in
+    sym (left_none (option_map (λ connection. connection.conn)) c.loop-place.held.items (held_in c.loop-place.refs.items) none) ∙ c.loop-place.invariant.kept

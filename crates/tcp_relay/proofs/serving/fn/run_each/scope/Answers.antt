@@ -24,10 +24,10 @@ tables : (g : given.Over) (c : goal.In-Some g) → IsSend g.row.T
 tables g c = c.requires.1.1.1.1.1.0
 
 runtime : (g : given.Over) (c : goal.In-Some g) → IsSync g.row.R
-runtime g c = c.requires.1.1.1.1.1.1.1.1.1.0
+runtime g c = c.requires.1.1.1.1.1.4
 
 gate : (g : given.Over) (c : goal.In-Some g) → IsSync g.row.G
-gate g c = c.requires.1.1.1.1.1.1.1.1.1.1.0
+gate g c = c.requires.1.1.1.1.1.5
 
 -- it takes along what the workers share, by reference, and its worker, lent
 takes : (g : given.Over) (c : goal.In-Some g) (name : Sym) (long of lent held : NamedLft)
