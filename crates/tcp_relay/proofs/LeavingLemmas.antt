@@ -1,13 +1,16 @@
 -- What connections leave, place by place.
-use Rattle.std.proofs.Common.{◌≡◌, ◌<◌, ◌++◌, ◌∷◌, [], ℕ, zero, suc, refl, sym, ap, arith, List, Option, length, map}
+use Rattle.std.proofs.Common.{◌≡◌, ◌<◌, ◌++◌, ◌∷◌, [], ℕ, zero, suc, true, false, refl, sym, ap, arith, List, Option, length, map}
 use Rattle.shard_book.specs.SeatState.{RefState}
 use Rattle.admit_core.specs.declared.conn.Conn.{Conn}
 use Rattle.tcp_relay.specs.Connections.{left_by_all, left_if}
 
 -- what isn't more than none is none
-pub none_there : (count len : ℕ) → count ≡ len → (0 < count → ⊥) → len ≡ 0
-none_there zero len same no = sym same
-none_there (suc count) len same no = absurd (no (omega (arith)))
+from_nothing : (len : ℕ) → false ≡ true → len ≡ 0
+from_nothing len never = cc
+
+pub none_there : (count len : ℕ) → count ≡ len → (0 < count → false ≡ true) → len ≡ 0
+none_there zero len same some = sym same
+none_there (suc count) len same some = from_nothing len (some (omega (arith)))
 
 module _ {V : Type 0} (conn_of : V → Option (Conn RefState)) where
   -- the last one first
