@@ -63,6 +63,11 @@ more_back {X = X} {Z = Z} lists place less before all list grown within same one
       ],
     )
 
+-- none stand for none
+pub none_in : {X Y : Type 0} (xs : List X) (part : X → Y) → length xs ≡ 0 → map part xs ≡ []
+none_in [] part none = refl
+none_in (x ∷ xs) part none = absurd (omega (arith, none))
+
 -- the row has one table more
 pub row_more : (tables : List ShardsState) (place : ℕ) (row new : List SeatedState) (one : SeatedState) (table : ShardsState) (seat : SharedSeatState) → place < length tables → map table_in row ≡ take place tables → new ≡ row ++ one ∷ []
     → one ≡ record { table = table; seat = seat.seat; known = seat.known } → table ≡ get_or tables place table → map table_in new ≡ take (place + 1) tables
