@@ -86,6 +86,7 @@ pub(crate) fn open_record(
     requires workers { (1 ≤ workers) × (workers ≤ 64) }
     requires clients { (1 ≤ clients) × (clients ≤ 128) }
     ensures callers { IfSome result (λ calls. (calls.workers ≡ workers) × (calls.clients ≡ clients)) }
+    ensures clients { IfSome result (λ calls. (1 ≤ calls.clients) × (calls.clients ≤ 128)) }
     ensures places { IfSome result (λ calls. HasPlaces setup.now calls) }
 {
     let tables = u32::try_from(setup.tables.as_slice().len()).ok()?;
