@@ -439,7 +439,11 @@ fn differs<J: Naming>(
         mut purse,
         held,
     } = called;
-    let (_, strange) = other.opened;
+    let CalledTable {
+        opened: (_own, strange),
+        purse: _purse,
+        held: _held,
+    } = other;
     let with_strange = (table, strange);
     match unsettled(
         alloc,
@@ -504,16 +508,29 @@ fn unlocked<J: Naming>(
 }
 
 /// Why the books of a table aren't those of another.
-fn fault_between<J: Naming>(
+fn fault_between<'a, J: Naming>(
     alloc: Global,
-    found: &Unlocked<PlainTable, J>,
-    wanted: &Unlocked<PlainTable, J>,
+    found: &'a Unlocked<PlainTable, J>,
+    wanted: &'a Unlocked<PlainTable, J>,
 ) -> Option<Fault> {
-    let (specs, books) = (wanted.specs(), found.books().as_slice());
+    let specs = wanted.specs();
+    let books = found.books().as_slice();
     if specs.len() != books.len() {
         return Some(Fault::Memory);
     }
-    check::<PlainTable, J>(alloc, specs, false, books, &[], &[]).err()
+    let seats = Vec::new(alloc);
+    let refs = Vec::new(alloc);
+    let fault = check::<PlainTable, J>(
+        alloc,
+        specs,
+        false,
+        books,
+        seats.as_slice(),
+        refs.as_slice(),
+    )
+    .err();
+    refs.destroy_empty();
+    fault
 }
 
 /// Why the books of a table aren't those of another, once both are out of their locks.
