@@ -7,7 +7,7 @@ import threading
 import time
 
 from lib.operations.watched import watched
-from lib.proxy import PATIENCE, is_greeted, read_all, wait_for
+from lib.proxy import PATIENCE, arrive, is_greeted, read_all, wait_for
 
 PROMPT = b'> '
 
@@ -59,15 +59,21 @@ def unknown_commands_are_told_what_there_is():
         assert proxy.told('shutdown frontend none').startswith('No such frontend.')
 
 
+def counted_conns(proxy):
+    """How many connections are open, and how many have come."""
+    info = proxy.info()
+    return info['CurrConns'], info['CumConns']
+
+
 def info_and_stat_count():
     """`show info` and `show stat` say what was admitted, what was rejected and what is open, by HAProxy's names."""
     with watched(limit=2) as proxy:
         with proxy.connect() as first, proxy.connect() as second:
             assert is_greeted(first) and is_greeted(second)
             for _ in range(3):
-                with proxy.connect() as third:
-                    assert not is_greeted(third)
-            wait_for('two are open', lambda: proxy.info()['CurrConns'] == '2')
+                assert not is_greeted(arrive(proxy))
+            # Each worker publishes what it counted at the end of its turn.
+            wait_for('two are open, and five have come', lambda: counted_conns(proxy) == ('2', '5'))
             info, stat = proxy.info(), proxy.stat()
             assert info['Name'] == 'stickd' and info['Pid'] == str(proxy.program.pid), info
             assert info['CumConns'] == '5' and info['Maxconn'] == '10000' and info['Nbthread'] == '8', info
