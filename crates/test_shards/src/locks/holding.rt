@@ -67,20 +67,22 @@ fn call<J: Naming, R: Wait + Clock>(
 }
 
 /// Holds shard 0 in another thread, and calls a shard.
-fn hold_and_call<'a, J: Naming + Send + Sync, R: Threads + Wait + Clock + Sync>(
-    rt: &'a R,
-    desk: &'a mut Desk<J>,
+fn hold_and_call<J: Naming + Send + Sync, R: Threads + Wait + Clock + Sync>(
+    rt: &R,
+    desk: Desk<J>,
     shard: u32,
     ms: u32,
-    flags: &'a Flags,
+    flags: &Flags,
 ) -> Result<(), AllocError> {
-    let alloc = desk.alloc;
-    let table = &desk.table;
-    let seat = &mut desk.seat;
-    let purse = &mut desk.purse;
+    let Desk {
+        alloc,
+        table,
+        mut seat,
+        mut purse,
+    } = desk;
     thread::scope(thread::scope_env(), rt, |scope| -> Result<(), AllocError> {
-        let holder = scope.spawn(|| hold(rt, table, flags, ms))?;
-        call(rt, alloc, table, seat, purse, shard, flags);
+        let holder = scope.spawn(|| hold(rt, &table, flags, ms))?;
+        call(rt, alloc, &table, &mut seat, &mut purse, shard, flags);
         holder.join(rt);
         Ok(())
     })
@@ -96,7 +98,7 @@ fn beside_recorded<J: Naming + Send + Sync, R: Threads + Wait + Clock + Sync>(
 ) -> Option<(bool, bool, bool)>
     requires { (opened.first.table_id ≡ J.record_id) × (opened.books ≡ J.books) }
 {
-    let Ok(mut desk) = Desk::<J>::open(alloc, opened, 2, false) else {
+    let Ok(desk) = Desk::<J>::open(alloc, opened, 2, false) else {
         return None;
     };
     let flags = Flags {
@@ -104,7 +106,7 @@ fn beside_recorded<J: Naming + Send + Sync, R: Threads + Wait + Clock + Sync>(
         answered: AtomicBool::new(false),
         seen: AtomicBool::new(false),
     };
-    match hold_and_call(rt, &mut desk, shard, ms, &flags) {
+    match hold_and_call(rt, desk, shard, ms, &flags) {
         Ok(()) => Some((
             flags.held.load(Ordering::SeqCst),
             flags.answered.load(Ordering::SeqCst),
