@@ -67,12 +67,12 @@ fn call<J: Naming, R: Wait + Clock>(
 }
 
 /// Holds shard 0 in another thread, and calls a shard.
-fn hold_and_call<J: Naming + Send + Sync, R: Threads + Wait + Clock + Sync>(
-    rt: &R,
+fn hold_and_call<'a, J: Naming + Send + Sync, R: Threads + Wait + Clock + Sync>(
+    rt: &'a R,
     desk: Desk<J>,
     shard: u32,
     ms: u32,
-    flags: &Flags,
+    flags: &'a Flags,
 ) -> Result<(), AllocError> {
     let Desk {
         alloc,
