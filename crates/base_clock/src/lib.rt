@@ -4,10 +4,12 @@
 
 mod clock;
 mod running_clock;
+mod start;
 mod stopped_clock;
 
 pub use clock::Clock;
 pub use running_clock::RunningClock;
+pub use start::Start;
 pub use stopped_clock::StoppedClock;
 
 /// The greatest moment, in ms.

@@ -6,15 +6,17 @@ mod locked;
 mod opening;
 mod runner;
 
-ghost use Rattle.std.specs.Prelude.{◌≤◌};
+ghost use Rattle.std.specs.Prelude.{◌≡◌, ◌≤◌};
 
 use base_sequence::NoMemory;
+pub use locked::{give_back, track_key};
 use opening::{bare_callers, locked_callers, open_table};
 use runner::{Timed, Work, measure};
-use shard_book::Seat;
-use shard_locks::Shards;
+use shard_locks::{Shards, SharedSeat};
+use shard_record::{Naming, Opened};
 use std::io;
 use std::io::Print;
+use std::marker::Brand;
 use std::rt::Clock;
 use std::sync::Wait;
 use std::thread::Threads;
@@ -56,15 +58,33 @@ fn time_bare<T: Table + Send, R: Threads + Clock + Sync + AllocGlobal>(
 }
 
 /// Times a work of the callers of a table.
-fn time_seats<T: Table + Send, R: Threads + Wait + Clock + Sync + AllocGlobal>(
+fn time_seats<
+    T: Table + Send,
+    J: Naming + Send + Sync,
+    R: Threads + Wait + Clock + Sync + AllocGlobal,
+>(
     rt: &R,
-    table: &Shards<T>,
-    seats: Vec<Seat>,
+    table: &Shards<T, J>,
+    seats: Vec<SharedSeat<J>>,
     work: Work,
     rounds: u32,
 ) -> Result<Timed, NoMemory> {
     let mut runners = locked_callers(rt.alloc(), rt, table, seats)?;
     measure(rt, runners.as_mut_slice(), work, rounds)
+}
+
+/// Times a work with locks, its calls in a record.
+fn locked_recorded<
+    J: Naming + Send + Sync,
+    T: Table + Send,
+    R: Threads + Wait + Clock + Sync + AllocGlobal,
+>(rt: &R, setting: Setting, work: Work, opened: Opened) -> io::Result<Timed>
+    requires shards { (1 ≤ setting.shards) × (setting.shards ≤ 64) }
+    requires threads { (1 ≤ setting.threads) × (setting.threads ≤ 64) }
+    requires record { (opened.first.table_id ≡ J.record_id) × (opened.books ≡ J.books) }
+{
+    let (table, seats) = open_table::<T, J>(rt.alloc(), setting.shards, setting.threads, opened)?;
+    Ok(time_seats(rt, &table, seats, work, setting.rounds.unwrap_or(FEW))?)
 }
 
 /// Times a work with locks.
@@ -76,8 +96,8 @@ fn time_locked<T: Table + Send, R: Threads + Wait + Clock + Sync + AllocGlobal>(
     requires shards { (1 ≤ setting.shards) × (setting.shards ≤ 64) }
     requires threads { (1 ≤ setting.threads) × (setting.threads ≤ 64) }
 {
-    let (table, seats) = open_table::<T>(rt.alloc(), setting.shards, setting.threads)?;
-    Ok(time_seats(rt, &table, seats, work, setting.rounds.unwrap_or(FEW))?)
+    let opened = Opened::new(rt.alloc(), setting.shards, setting.threads)?;
+    locked_recorded::<Brand, T, R>(rt, setting, work, opened)
 }
 
 /// Tenths of a nanosecond for each round.

@@ -1,12 +1,13 @@
 //! Times the events of a table that is full, the parts of the pooled table, the reading and the printing of keys, and calls
-//! of tables that threads share; or has many threads call such tables, and settles them. It is run by hand, with what is
-//! done, how many entries a table has, and how many rounds there are. Without arguments it makes a few calls of tables that
-//! threads share, and prints no times.
+//! of tables that threads share; or has many threads call such tables, and settles them; or has crowds come to a limit. It is
+//! run by hand, with what is done, how many entries a table has, and how many rounds there are. Without arguments it makes a
+//! few calls of tables that threads share, has crowds come, and prints no times.
 #![tactic(auto)]
 
 ghost use Rattle.std.specs.Prelude.{◌≤◌};
 
 mod converting;
+mod crowd;
 mod full_index;
 mod full_order;
 mod full_pool;
@@ -18,6 +19,7 @@ mod random;
 mod stress;
 mod tables;
 
+use crowd::run_crowds;
 use keys::print_key_times;
 use locks::print_lock_times;
 use parts::print_part_times;
@@ -31,6 +33,9 @@ use stick_pooled::StickTable;
 use stick_table::PlainTable;
 use stress::{Request, request_of, run_stress};
 use tables::print_table_times;
+
+/// How many crowds come without arguments.
+const FEW_CROWDS: u32 = 200;
 
 /// What is timed.
 #[derive(Clone, Copy)]
@@ -49,6 +54,7 @@ enum Work {
     Times(Subject),
     Locks,
     Stress,
+    Crowds,
     Usage,
 }
 
@@ -68,6 +74,7 @@ fn work_of(word: &str) -> Work {
     match word {
         "locks" => Work::Locks,
         "stress" => Work::Stress,
+        "crowds" => Work::Crowds,
         _ => match subject_of(word) {
             Some(subject) => Work::Times(subject),
             None => Work::Usage,
@@ -93,7 +100,7 @@ fn number_of(rt: &HostRuntime, place: usize) -> io::Result<Option<u32>> {
 
 fn print_usage<R: Print>(rt: &R) -> io::Result<()> {
     println!(rt;
-        "usage: bench_table plain|pooled SIZE COUNT [PURGE], or parts|keys COUNT, or locks ROUNDS, or stress --help"
+        "usage: bench_table plain|pooled SIZE COUNT [PURGE], or parts|keys COUNT, or locks|crowds ROUNDS, or stress --help"
     )
 }
 
@@ -143,11 +150,30 @@ fn print_locks<R: Threads + Wait + Clock + Sync + Print + AllocGlobal>(
     }
 }
 
-/// A few calls of tables that threads share; answers the program's status.
+/// Has so many crowds come to a limit; answers the program's status.
+fn print_crowds<R: Threads + Wait + Sync + Print + Eprint + AllocGlobal>(
+    rt: &R,
+    rounds: Option<u32>,
+) -> io::Result<ExitCode> {
+    let Some(rounds) = rounds else {
+        print_usage(rt)?;
+        return Ok(ExitCode::SUCCESS);
+    };
+    if run_crowds(rt, rounds)? {
+        Ok(ExitCode::SUCCESS)
+    } else {
+        Ok(ExitCode::FAILURE)
+    }
+}
+
+/// A few calls of tables that threads share, and crowds; answers the program's status.
 fn print_few<R: Threads + Wait + Clock + Sync + Print + Eprint + AllocGlobal>(
     rt: &R,
 ) -> io::Result<ExitCode> {
     print_lock_times(rt, None)?;
+    if !run_crowds(rt, FEW_CROWDS)? {
+        return Ok(ExitCode::FAILURE);
+    }
     run_stress(rt, Some(Request::Small))
 }
 
@@ -155,6 +181,7 @@ fn main(rt: HostRuntime) -> io::Result<ExitCode> {
     match asked_for(&rt)? {
         Work::Few => return print_few(&rt),
         Work::Stress => return run_stress(&rt, request_of(&rt)?),
+        Work::Crowds => return print_crowds(&rt, number_of(&rt, 2)?),
         Work::Locks => print_locks(&rt, number_of(&rt, 2)?)?,
         Work::Times(subject) => print_subject(&rt, subject)?,
         Work::Usage => print_usage(&rt)?,

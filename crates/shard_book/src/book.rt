@@ -1,14 +1,14 @@
 //! A table with its calls since a base; `Books`, `shard_locks` and `shard_settling` keep one for each shard.
 
-ghost use Rattle.std.specs.Prelude.{◌≡◌, ◌≤◌, ◌^◌, true, is_some, IfOk, IfErr, OnOk, OnErr, IsOk};
+ghost use Rattle.std.specs.Prelude.{◌≡◌, ◌≤◌, ◌^◌, true, is_some, length, IfOk, IfErr, OnOk, OnErr, IsOk};
 ghost use Rattle.stick_model.specs.State.{key_of};
 ghost use Rattle.stick_model.specs.Limits.{IsTableSpec, IsTableEvent};
 ghost use Rattle.stick_model.specs.Refusals.{has_life};
 ghost use Rattle.stick_model.specs.declared.events.Event.TheVariants.{Release};
 ghost use Rattle.shard_book.specs.BookState.{IsBook, Extends, IsCallRefused, opened, rolled};
 
-use crate::Recorded;
 use crate::recorded::{answer, answer_twice, out_after, record_of};
+use crate::{Occupancy, Recorded};
 use base_sequence::NoMemory;
 use std::alloc::Global;
 use std::marker::Model;
@@ -111,6 +111,16 @@ impl<T: Table> Book<T> {
         ensures book { IsBook self.now }
     {
         self.base.events() + self.calls.as_slice().len() as u64
+    }
+
+    /// What its live table is occupied by, and what went to make room there.
+    pub fn occupancy(&self) -> Occupancy
+        ensures { result.references ≡ length self.now.live.tickets }
+    {
+        Occupancy {
+            references: self.live.references(),
+            purged: self.live.purged(),
+        }
     }
 
     /// The table from which the record begins.

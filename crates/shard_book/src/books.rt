@@ -8,7 +8,7 @@ ghost use Rattle.shard_book.specs.Keeping.{part_of};
 ghost use Rattle.shard_book.specs.Rolling.{RollsInPart, calls_counted, rolled_books, rolled_first};
 ghost use Rattle.shard_book.specs.BookState.{BookState, rolled};
 
-use crate::{Book, Keeper};
+use crate::{Book, Keeper, Occupancy};
 use base_sequence::NoMemory;
 use std::alloc::Global;
 use std::marker::Model;
@@ -122,6 +122,14 @@ impl<T: Table> Books<T> {
         roll_each(&mut self.books)
     }
 
+    /// What of a shard is occupied, as `Book::occupancy`.
+    pub fn shard_occupancy(&self, shard: u32) -> Occupancy
+        requires { shard < length self.now.books }
+        ensures { (book : BookState) → slice_get self.now.books shard ≡ Some book → result.references ≡ length book.live.tickets }
+    {
+        self.book(shard).occupancy()
+    }
+
     /// The book of a shard.
     pub fn book(&self, shard: u32) -> &Book<T>
         requires { shard < length self.now.books }
@@ -159,6 +167,10 @@ impl<T: Table> Keeper for Books<T> {
 
     fn spec(&self) -> &Spec {
         &self.spec
+    }
+
+    fn occupancy(&self, shard: u32) -> Occupancy {
+        self.shard_occupancy(shard)
     }
 
     fn ask(&mut self, shard: u32, event: Event) -> Result<Reply, Refusal> {

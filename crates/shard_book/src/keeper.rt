@@ -1,6 +1,7 @@
 //! The trait `Keeper`, a table in shards, wherever they are kept; commands ask it, and `Books` and `shard_locks::Seated`
 //! implement it.
 
+use crate::Occupancy;
 use stick_table::{Event, Refusal, Reply, Spec};
 
 /// A table in shards, wherever they are kept: what commands ask.
@@ -44,6 +45,11 @@ pub trait Keeper {
         ensures spec { result.now ≡ table self.now }
         ensures limits { IsTableSpec result.now }
         ensures places { parts self.now ≤ result.now.size };
+
+    /// How many references to a shard's entries are out, and how many of its entries went to make room for others. To read it is no
+    /// event, and changes nothing.
+    fn occupancy(&self, shard: u32) -> Occupancy
+        requires { shard < parts self.now };
 
     /// Asks a shard an event that names no ticket, and of a key only where the key lies on it. A refusal changes nothing.
     fn ask(&mut self, shard: u32, event: Event) -> Result<Reply, Refusal>

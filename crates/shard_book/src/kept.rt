@@ -1,6 +1,7 @@
-//! A book beside the record of all its calls: what is to lie under a shard's lock; no lock has it yet.
+//! A book beside the record of all its calls: what lies under a shard's lock in `shard_locks`.
 
-ghost use Rattle.std.specs.Prelude.{◌≡◌, ◌≢◌, ◌≤◌, ◌<◌, ◌^◌, ◌++◌, ◌∷◌, [], ℕ, length, IfOk, IfErr, OnOk, OnErr};
+ghost use Rattle.std.specs.Prelude.{◌≡◌, ◌≢◌, ◌≤◌, ◌<◌, ◌^◌, ◌++◌, ◌∷◌, [], ℕ, length, IfOk, IfErr, IsTrue, OnOk, OnErr};
+ghost use mathlib.Core.Logic.{◌↔◌};
 ghost use Rattle.stick_model.specs.Laws.{tickets_told};
 ghost use Rattle.stick_model.specs.Limits.{IsTableEvent, IsTableSpec};
 ghost use Rattle.stick_model.specs.declared.events.Event.TheVariants.{Release};
@@ -11,10 +12,10 @@ ghost use Rattle.shard_record.specs.Parts.{holder};
 ghost use Rattle.shard_record.specs.Views.{only};
 ghost use Rattle.shard_record.specs.Telling.{HasAnswered, IsNoRelease, IsReference, IsSeer, IsSettled, IsTold, key_at, log_of, number_of, ticket_at};
 ghost use Rattle.shard_book.specs.BookState.{Extends, opened, rolled};
-ghost use Rattle.shard_book.specs.Kept.{last_event as event_of_last};
-ghost use Rattle.shard_book.specs.Told.{IsRefusedBy, Told};
+ghost use Rattle.shard_book.specs.Kept.{IsKept, last_event as event_of_last};
+ghost use Rattle.shard_book.specs.Told.{IsRefusedBy, IsRefusedTo, Told};
 
-use crate::{Book, Seat, serve};
+use crate::{Book, Occupancy, Seat, serve};
 use base_sequence::NoMemory;
 use shard_record::{Keeper, Naming, Record, Token};
 use std::marker::Model;
@@ -48,12 +49,44 @@ impl<T: Table, J: Naming> Kept<T, J> {
         Kept { book, keeper }
     }
 
-    /// The book alone.
-    pub fn into_book(self) -> Book<T>
-        ensures { result ≡ self.book }
+    /// A book and what keeps its record, together again.
+    pub fn from_parts(book: Book<T>, keeper: Keeper<J>) -> Kept<T, J>
+        requires kept { IsKept book keeper.log }
+        ensures { result ≡ record { book = book; number = keeper.book; log = keeper.log } }
     {
-        let Kept { book, keeper: _ } = self;
-        book
+        Kept { book, keeper }
+    }
+
+    /// The book, and what keeps its record.
+    pub fn into_parts(self) -> (Book<T>, Keeper<J>)
+        ensures book { result.0 ≡ self.book }
+        ensures keeper { result.1 ≡ record { book = self.number; log = self.log } }
+        ensures kept { IsKept result.0 result.1.log }
+    {
+        let Kept { book, keeper } = self;
+        (book, keeper)
+    }
+
+    /// The book.
+    pub fn book(&self) -> &Book<T>
+        ensures book { result.now ≡ self.now.book }
+        ensures kept { IsKept result.now self.now.log }
+    {
+        &self.book
+    }
+
+    /// What the book's live table is occupied by, and what went to make room there.
+    pub fn occupancy(&self) -> Occupancy
+        ensures { result.references ≡ length self.now.book.live.tickets }
+    {
+        self.book.occupancy()
+    }
+
+    /// Whether it is the book of this number.
+    pub fn is_of(&self, number: u32) -> bool
+        ensures { IsTrue result ↔ (self.now.number ≡ number) }
+    {
+        self.keeper.is_of(number)
     }
 
     /// Rolls the book, as `Book::roll` does. Its record stays.
@@ -89,7 +122,8 @@ impl<T: Table, J: Naming> Kept<T, J> {
         ensures settled { IsSettled token.new }
         ensures given { IfOk result (λ told. told.1 ≡ only self.old.number (holder self.new.log (tickets_told event told.0 []))) }
         ensures number { self.new.number ≡ self.old.number }
-        ensures refused { IfErr result (IsRefusedBy self.old.book.live seat.old shard event) }
+        ensures refused { IfErr result (IsRefusedTo seat.old shard event) }
+        ensures cause { IfErr result (IsRefusedBy self.old.book.live seat.old shard event) }
         ensures err { OnErr result ((self.new ≡ self.old) × (seat.new ≡ seat.old) × (token.new ≡ token.old)) }
     {
         let Kept { book, keeper } = self;
@@ -124,7 +158,8 @@ impl<T: Table, J: Naming> Kept<T, J> {
         ensures seer { IsSeer self.old.number token.new }
         ensures settled { IsSettled token.new }
         ensures number { self.new.number ≡ self.old.number }
-        ensures refused { IfErr result (λ refused. IsRefusedBy self.old.book.live seat.old shard (Release now ticket) refused.1) }
+        ensures refused { IfErr result (λ refused. IsRefusedTo seat.old shard (Release now ticket) refused.1) }
+        ensures cause { IfErr result (λ refused. IsRefusedBy self.old.book.live seat.old shard (Release now ticket) refused.1) }
         ensures fresh { IfErr result (λ refused. refused.1 ≢ Stale) }
         ensures back { IfErr result (λ refused. refused.0 ≡ only self.old.number (holder self.old.log ((ticket, key_at self.old.number reference) ∷ []))) }
         ensures err { OnErr result ((self.new ≡ self.old) × (seat.new ≡ seat.old) × (token.new ≡ token.old)) }

@@ -4,9 +4,10 @@ use Rattle.std.specs.declared.alloc.AllocError.{AllocError}
 use Rattle.stick_model.specs.declared.events.Event.TheVariants.{Expire}
 use Rattle.stick_model.specs.declared.replies.Reply.{Reply}
 use Rattle.stick_model.specs.declared.replies.Refusal.{Refusal}
-use Rattle.shard_book.specs.SeatState.{SeatState}
 use Rattle.shard_book.specs.Told.{IsRefusedTo, Told}
-use Rattle.shard_locks.specs.ShardsState.{ShardsState}
+use Rattle.shard_record.specs.Telling.{IsTold}
+use Rattle.shard_locks.specs.Shared.{SharedSeatState}
+use Rattle.shard_locks.specs.ShardsState.{ShardsState, book_of}
 use Rattle.shard_housekeeping.specs.declared.counts.Counts.{Counts}
 use Rattle.shard_housekeeping.specs.declared.kept.Kept.{Kept}
 
@@ -16,13 +17,13 @@ more count = min (count + 1) (2 ^ 64 - 1)
 
 -- the seat of a table, what the clock is, and what was counted so far
 pub record TableState (C : Type 0) : Type 0 where
-  pub seat : SeatState
+  pub seat : SharedSeatState
   pub clock : C
   pub counts : Counts
 
 -- the seats of all tables, and the same
 pub record RoundState (C : Type 0) : Type 0 where
-  pub seats : List SeatState
+  pub seats : List SharedSeatState
   pub clock : C
   pub counts : Counts
 
@@ -40,11 +41,12 @@ abbrev pub ByFirst : {State : Type 0} → (ℕ → State → State → Type 0) �
 ByFirst step zero old new = new ≡ old
 ByFirst {State} step (suc count) old new = (middle : State) × ByFirst step count old middle × step count middle new
 
--- a shard told the seat that it has expired what was over at the moment; or it refused to, which is counted
-abbrev pub Expires : ℕ → ℕ → SeatState → Counts → SeatState → Counts → Type 0
-Expires shard now old counted new counts =
-    ((reply : Reply) × Told old shard (Expire now) reply new × (counts ≡ counted))
-    ⊎ ((refusal : Refusal) × IsRefusedTo old shard (Expire now) refusal × (new ≡ old) × (counts ≡ one_refused counted))
+-- a shard told the seat that it has expired what was over at the moment, and the record of its book grew by just that call; or it
+-- refused to, which is counted
+abbrev pub Expires : ℕ → ℕ → ℕ → SharedSeatState → Counts → SharedSeatState → Counts → Type 0
+Expires book shard now old counted new counts =
+    ((reply : Reply) × Told old.seat shard (Expire now) reply new.seat × IsTold book (Expire now) reply old.known new.known × (counts ≡ counted))
+    ⊎ ((refusal : Refusal) × IsRefusedTo old.seat shard (Expire now) refusal × (new ≡ old) × (counts ≡ one_refused counted))
 
 -- a shard was asked to begin its record again, and what it answered is counted; where receipts are kept it doesn't
 abbrev pub Rolls : Bool → Counts → Counts → Type 0
@@ -54,18 +56,18 @@ Rolls keep old new = (answer : Result Bool AllocError) × (keep ≡ true → ans
 
 module _ {C : Type 0} (shows : C → ℕ → C → Type 0) where
   -- a shard expires at the moment that the clock shows then, and then its record may begin again
-  abbrev pub KeepsShard : Bool → ℕ → TableState C → TableState C → Type 0
-  KeepsShard keep shard old new = (now : ℕ) × shows old.clock now new.clock × (now < 2 ^ 62) × (counted : Counts) × Expires shard now old.seat old.counts new.seat counted × Rolls keep counted new.counts
+  abbrev pub KeepsShard : ShardsState → ℕ → TableState C → TableState C → Type 0
+  KeepsShard table shard old new = (now : ℕ) × shows old.clock now new.clock × (now < 2 ^ 62) × (counted : Counts) × Expires (book_of table shard) shard now old.seat old.counts new.seat counted × Rolls table.keep counted new.counts
 
   -- each shard of a table, in their order
   abbrev pub KeepsTable : ShardsState → TableState C → TableState C → Type 0
-  KeepsTable table old new = ByFirst (KeepsShard table.keep) table.shards old new
+  KeepsTable table old new = ByFirst (KeepsShard table) table.shards old new
 
   -- the table of a place, by the seat of that place
   pub record KeepsPlace (tables : List ShardsState) (place : ℕ) (old new : RoundState C) : Type 0 where
     pub table : ShardsState
-    pub before : SeatState
-    pub after : SeatState
+    pub before : SharedSeatState
+    pub after : SharedSeatState
     pub there : slice_get tables place ≡ Some table
     pub seat : slice_get old.seats place ≡ Some before
     pub kept : KeepsTable table (record { seat = before; clock = old.clock; counts = old.counts }) (record { seat = after; clock = new.clock; counts = new.counts })
@@ -77,7 +79,7 @@ module _ {C : Type 0} (shows : C → ℕ → C → Type 0) where
 
   -- some number of rounds, from seats for which nothing was counted yet; the clock is looked at once for each shard, and
   -- at no other time
-  pub record KeepsRounds (tables : List ShardsState) (seats : List SeatState) (old : C) (kept : Kept) (new : C) : Type 0 where
+  pub record KeepsRounds {J : Type 0} (tables : List ShardsState) (seats : List SharedSeatState) (old : C) (kept : Kept J) (new : C) : Type 0 where
     pub count : ℕ
     pub rounds : kept.rounds ≡ min count (2 ^ 64 - 1)
     pub each : ByFirst (λ round. KeepsRound tables) count (record { seats = seats; clock = old; counts = record { rolled = 0; refused = 0 } }) (record { seats = kept.seats.items; clock = new; counts = record { rolled = kept.rolled; refused = kept.refused } })

@@ -1,13 +1,14 @@
 //! What housekeeping has done, and its seats; `housekeep` answers it, and `tcp_proxy` takes it for settling.
 
-use shard_book::Seat;
+use shard_locks::SharedSeat;
+use shard_record::Naming;
 
 /// How many rounds there were, how many records began again in them, and how many expiries and rolls were refused, each
 /// count stopping at 2^64 - 1; and the seat of each table, with its calls.
 #[derive(Drop)]
-pub struct Kept {
+pub struct Kept<J: Naming> {
     pub rounds: u64,
     pub rolled: u64,
     pub refused: u64,
-    pub seats: Vec<Seat>,
+    pub seats: Vec<SharedSeat<J>>,
 }

@@ -1,29 +1,30 @@
 //! Rounds of housekeeping over each shard of each table; `tcp_proxy` calls `housekeep` on a thread of its own.
 
 ghost use Rattle.std.specs.Prelude.{◌≡◌, ◌<◌, ◌^◌, length};
+ghost use Rattle.shard_locks.specs.ShardsState.{book_of};
 ghost use Rattle.shard_housekeeping.specs.Keeping.{Expires, KeepsRound, KeepsRounds, KeepsShard, KeepsTable, Rolls};
 
 use crate::counts::Counts;
 use crate::{Kept, Pace};
 use base_clock::Clock;
-use shard_book::Seat;
-use shard_locks::Shards;
+use shard_locks::{Shards, SharedSeat};
+use shard_record::Naming;
 use std::sync::Wait;
 use stick_table::{Event, Table};
 
 /// Has a shard expire the entries whose time has come, which is one call of the seat. A refusal is counted, and changes
 /// nothing.
-fn expire<T: Table>(
+fn expire<T: Table, J: Naming>(
     rt: &impl Wait,
-    table: &Shards<T>,
-    seat: &mut Seat,
+    table: &Shards<T, J>,
+    seat: &mut SharedSeat<J>,
     shard: u32,
     now: u64,
     counts: &mut Counts,
 )
     requires shard { shard < table.now.shards }
     requires moment { now < 2 ^ 62 }
-    ensures { Expires shard now seat.old counts.old seat.new counts.new }
+    ensures { Expires (book_of table.now shard) shard now seat.old counts.old seat.new counts.new }
 {
     match table.call(rt, seat, shard, Event::Expire(now)) {
         Ok(_reply) => {}
@@ -32,7 +33,13 @@ fn expire<T: Table>(
 }
 
 /// Has a shard's record begin again where it has so many calls, and counts it. A refusal is counted, and changes nothing.
-fn roll<T: Table>(rt: &impl Wait, table: &Shards<T>, shard: u32, roll_at: u64, counts: &mut Counts)
+fn roll<T: Table, J: Naming>(
+    rt: &impl Wait,
+    table: &Shards<T, J>,
+    shard: u32,
+    roll_at: u64,
+    counts: &mut Counts,
+)
     requires shard { shard < table.now.shards }
     ensures { Rolls table.now.keep counts.old counts.new }
 {
@@ -40,17 +47,17 @@ fn roll<T: Table>(rt: &impl Wait, table: &Shards<T>, shard: u32, roll_at: u64, c
 }
 
 /// Has a shard expire what is over at the clock's moment, and then begin its record again where it is long.
-fn keep_shard<T: Table, C: Clock>(
+fn keep_shard<T: Table, J: Naming, C: Clock>(
     rt: &impl Wait,
-    table: &Shards<T>,
-    seat: &mut Seat,
+    table: &Shards<T, J>,
+    seat: &mut SharedSeat<J>,
     shard: u32,
     clock: &mut C,
     roll_at: u64,
     counts: &mut Counts,
 )
     requires shard { shard < table.now.shards }
-    ensures { KeepsShard C.shows table.now.keep shard (record { seat = seat.old; clock = C.state clock.old; counts = counts.old }) (record { seat = seat.new; clock = C.state clock.new; counts = counts.new }) }
+    ensures { KeepsShard C.shows table.now shard (record { seat = seat.old; clock = C.state clock.old; counts = counts.old }) (record { seat = seat.new; clock = C.state clock.new; counts = counts.new }) }
 {
     let now = clock.now();
     expire(rt, table, seat, shard, now, counts);
@@ -58,10 +65,10 @@ fn keep_shard<T: Table, C: Clock>(
 }
 
 /// Does so in each shard of a table, in their order.
-fn keep_table<T: Table, C: Clock>(
+fn keep_table<T: Table, J: Naming, C: Clock>(
     rt: &impl Wait,
-    table: &Shards<T>,
-    seat: &mut Seat,
+    table: &Shards<T, J>,
+    seat: &mut SharedSeat<J>,
     clock: &mut C,
     roll_at: u64,
     counts: &mut Counts,
@@ -74,10 +81,10 @@ fn keep_table<T: Table, C: Clock>(
 }
 
 /// One round: does so in each table, in their order, by the table's seat.
-fn keep_round<T: Table, C: Clock>(
+fn keep_round<T: Table, J: Naming, C: Clock>(
     rt: &impl Wait,
-    tables: &[Shards<T>],
-    seats: &mut Vec<Seat>,
+    tables: &[Shards<T, J>],
+    seats: &mut Vec<SharedSeat<J>>,
     clock: &mut C,
     roll_at: u64,
     counts: &mut Counts,
@@ -95,14 +102,14 @@ fn keep_round<T: Table, C: Clock>(
 /// Keeps house until the pace says that there is no round more. In a round each shard of each table is asked to expire the
 /// entries whose time has come, at the moment that the clock shows, and then its record begins again where it has at least
 /// `roll_at` calls and no receipts are kept. What is refused is counted and left to the next round. The seats come back with their calls.
-pub fn housekeep<T: Table, C: Clock, P: Pace>(
+pub fn housekeep<T: Table, J: Naming, C: Clock, P: Pace>(
     rt: &impl Wait,
-    tables: &[Shards<T>],
-    mut seats: Vec<Seat>,
+    tables: &[Shards<T, J>],
+    mut seats: Vec<SharedSeat<J>>,
     clock: &mut C,
     pace: &P,
     roll_at: u64,
-) -> Kept
+) -> Kept<J>
     requires { length tables.now ≡ length seats.items }
     ensures { KeepsRounds C.shows tables.now seats.items (C.state clock.old) result (C.state clock.new) }
 {

@@ -2,3 +2,5 @@ pub mod ShardsLemmas
 pub mod ReplyLemmas
 pub mod ListingLemmas
 pub mod PortLemmas
+pub mod SharedLemmas
+pub mod KeptLemmas

@@ -1,4 +1,6 @@
 pub mod ShardsState
+pub mod Shared
 pub mod Tracking
 pub mod Listing
 pub mod Ported
+pub mod SeatCounting

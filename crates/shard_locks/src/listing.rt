@@ -5,8 +5,9 @@ ghost use Rattle.stick_model.specs.declared.events.Event.TheVariants.{List as Li
 ghost use Rattle.shard_book.specs.Told.{IsRefusedTo, Told};
 ghost use Rattle.shard_locks.specs.Listing.{IsListed, IsListing, IsListingRefused, ToldByFirst, listing_reply};
 
-use crate::Shards;
-use shard_book::{Seat, joined};
+use crate::{Shards, SharedSeat};
+use shard_book::joined;
+use shard_record::Naming;
 use std::alloc::Global;
 use std::sync::Wait;
 use stick_table::{Event, Filter, Refusal, Reply, Rows, Table};
@@ -33,7 +34,7 @@ fn listing_of(reply: Reply) -> Listing
     }
 }
 
-impl<T: Table> Shards<T> {
+impl<T: Table, J: Naming> Shards<T, J> {
     /// Lists the entries that a filter means: each shard is asked in turn, under its own lock, so that a listing is one
     /// event of each shard and not one moment of the table. A refusal tells its shard; the shards before it have
     /// answered, and their events stand. Where all have answered and there is no memory to join their rows, it tells the
@@ -42,13 +43,13 @@ impl<T: Table> Shards<T> {
         &self,
         rt: &impl Wait,
         alloc: Global,
-        seat: &mut Seat,
+        seat: &mut SharedSeat<J>,
         now: u64,
         filter: &Filter,
     ) -> Result<Listing, (u32, Refusal)>
         requires moment { now < 2 ^ 62 }
-        ensures listed { IfOk result (λ listing. IsListed self.now.shards seat.old (ListRows now filter.now) listing seat.new) }
-        ensures refused { IfErr result (λ refused. IsListingRefused self.now.shards seat.old (ListRows now filter.now) refused.0 refused.1 seat.new) }
+        ensures listed { IfOk result (λ listing. IsListed self.now.shards seat.old.seat (ListRows now filter.now) listing seat.new.seat) }
+        ensures refused { IfErr result (λ refused. IsListingRefused self.now.shards seat.old.seat (ListRows now filter.now) refused.0 refused.1 seat.new.seat) }
     {
         let shards = self.shards();
         match self.list_each(rt, alloc, seat, now, filter) {
@@ -65,13 +66,13 @@ impl<T: Table> Shards<T> {
         &self,
         rt: &impl Wait,
         alloc: Global,
-        seat: &mut Seat,
+        seat: &mut SharedSeat<J>,
         now: u64,
         filter: &Filter,
     ) -> Result<Vec<Reply>, (u32, Refusal)>
         requires moment { now < 2 ^ 62 }
-        ensures told { IfOk result (λ replies. ToldByFirst self.now.shards seat.old (ListRows now filter.now) replies.items seat.new) }
-        ensures refused { IfErr result (λ refused. IsListingRefused self.now.shards seat.old (ListRows now filter.now) refused.0 refused.1 seat.new) }
+        ensures told { IfOk result (λ replies. ToldByFirst self.now.shards seat.old.seat (ListRows now filter.now) replies.items seat.new.seat) }
+        ensures refused { IfErr result (λ refused. IsListingRefused self.now.shards seat.old.seat (ListRows now filter.now) refused.0 refused.1 seat.new.seat) }
         ensures before { IfErr result (λ refused. refused.0 < self.now.shards) }
     {
         let shards = self.shards();
@@ -92,15 +93,15 @@ impl<T: Table> Shards<T> {
     fn list_shard(
         &self,
         rt: &impl Wait,
-        seat: &mut Seat,
+        seat: &mut SharedSeat<J>,
         shard: u32,
         now: u64,
         filter: &Filter,
     ) -> Result<Reply, Refusal>
         requires shard { shard < self.now.shards }
         requires moment { now < 2 ^ 62 }
-        ensures told { IfOk result (λ reply. Told seat.old shard (ListRows now filter.now) reply seat.new) }
-        ensures refused { IfErr result (IsRefusedTo seat.old shard (ListRows now filter.now)) }
+        ensures told { IfOk result (λ reply. Told seat.old.seat shard (ListRows now filter.now) reply seat.new.seat) }
+        ensures refused { IfErr result (IsRefusedTo seat.old.seat shard (ListRows now filter.now)) }
         ensures err { OnErr result (seat.new ≡ seat.old) }
     {
         match filter.copy() {

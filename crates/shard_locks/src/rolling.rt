@@ -4,23 +4,28 @@ ghost use Rattle.std.specs.Prelude.{◌≡◌, ◌≤◌, ◌<◌, Ok, true, fal
 ghost use Rattle.shard_book.specs.BookState.{IsBook, rolled};
 
 use base_sequence::NoMemory;
-use shard_book::Book;
+use shard_book::Kept;
+use shard_record::Naming;
 use stick_table::Table;
 
-/// Has a book begin its record again where it has at least so many calls, as `Book::roll` does; answers whether it has: what
-/// is done under the shard's lock. Where a growth is refused, nothing changes.
-pub(crate) fn roll_long<T: Table>(book: &mut Book<T>, least: u64) -> Result<bool, NoMemory>
-    ensures book { IsBook book.new }
-    ensures long { result ≡ Ok true → (least ≤ length book.old.calls) × (book.new ≡ rolled book.old) }
-    ensures short { result ≡ Ok false → (length book.old.calls < least) × (book.new ≡ book.old) }
-    ensures refused { OnErr result (least ≤ length book.old.calls) }
-    ensures err { OnErr result (book.new ≡ book.old) }
+/// Has a book begin its calls again where it has at least so many, as `Kept::roll` does; answers whether it has: what is done
+/// under the shard's lock. The record of all calls stays. Where a growth is refused, nothing changes.
+pub(crate) fn roll_long<T: Table, J: Naming>(
+    kept: &mut Kept<T, J>,
+    least: u64,
+) -> Result<bool, NoMemory>
+    ensures book { IsBook kept.new.book }
+    ensures long { result ≡ Ok true → (least ≤ length kept.old.book.calls) × (kept.new.book ≡ rolled kept.old.book) }
+    ensures short { result ≡ Ok false → (length kept.old.book.calls < least) × (kept.new ≡ kept.old) }
+    ensures record { (kept.new.log ≡ kept.old.log) × (kept.new.number ≡ kept.old.number) }
+    ensures refused { OnErr result (least ≤ length kept.old.book.calls) }
+    ensures err { OnErr result (kept.new.book ≡ kept.old.book) }
 {
-    let count = book.calls().len() as u64;
+    let count = kept.book().calls().len() as u64;
     if count < least {
         return Ok(false);
     }
-    match book.roll() {
+    match kept.roll() {
         Ok(()) => Ok(true),
         Err(refused) => Err(refused),
     }

@@ -2,50 +2,64 @@
 
 ghost use Rattle.std.specs.Prelude.{◌≡◌};
 
-use crate::Shards;
-use shard_book::{Keeper, Seat};
+use crate::{SeatCounts, Shards, SharedSeat};
+use shard_book::{Keeper, Occupancy};
+use shard_record::Naming;
 use std::marker::Model;
 use std::sync::Wait;
 use stick_table::{Event, Refusal, Reply, Spec, Table};
 
-/// A table in shards that threads share, asked by one seat: what commands ask, as those of a socket.
+/// A table in shards that threads share, asked by one seat: what commands ask, as those of a socket. It counts what connections
+/// meet, which its view doesn't show.
 #[derive(Drop)]
-pub struct Seated<'a, T: Table, R> {
-    pub(crate) shards: &'a Shards<T>,
+pub struct Seated<'a, T: Table, J: Naming, R> {
+    pub(crate) shards: &'a Shards<T, J>,
     pub(crate) rt: &'a R,
-    pub(crate) seat: Seat,
+    pub(crate) seat: SharedSeat<J>,
+    pub(crate) counts: SeatCounts,
 }
 
-impl<'a, T: Table, R> Model for Seated<'a, T, R> {
+impl<'a, T: Table, J: Naming, R> Model for Seated<'a, T, J, R> {
     ghost use Rattle.shard_locks.specs.ShardsState.{SeatedState};
 
     ghost Value = { SeatedState };
 
-    ghost view = { λ seated. record { table = seated.shards.now; seat = seated.seat } };
+    ghost view = { λ seated. record { table = seated.shards.now; seat = seated.seat.seat; known = seated.seat.known } };
 }
 
-impl<'a, T: Table, R> Seated<'a, T, R> {
+impl<'a, T: Table, J: Naming, R> Seated<'a, T, J, R> {
     /// The table, asked by this seat.
-    pub fn new(shards: &'a Shards<T>, rt: &'a R, seat: Seat) -> Seated<'a, T, R>
-        ensures { result ≡ record { table = shards.now; seat = seat } }
+    pub fn new(shards: &'a Shards<T, J>, rt: &'a R, seat: SharedSeat<J>) -> Seated<'a, T, J, R>
+        ensures { result ≡ record { table = shards.now; seat = seat.seat; known = seat.known } }
     {
-        Seated { shards, rt, seat }
+        Seated {
+            shards,
+            rt,
+            seat,
+            counts: SeatCounts::new(),
+        }
     }
 
     /// The seat, with its calls.
-    pub fn into_seat(self) -> Seat
-        ensures { result ≡ self.entry.seat }
+    pub fn into_seat(self) -> SharedSeat<J>
+        ensures { result ≡ record { seat = self.entry.seat; known = self.entry.known } }
     {
         let Seated {
             shards: _,
             rt: _,
             seat,
+            counts: _,
         } = self;
         seat
     }
+
+    /// What connections have met here since it was made.
+    pub fn counts(&self) -> SeatCounts {
+        self.counts
+    }
 }
 
-impl<'a, T: Table, R: Wait> Keeper for Seated<'a, T, R> {
+impl<'a, T: Table, J: Naming, R: Wait> Keeper for Seated<'a, T, J, R> {
     ghost use Rattle.shard_book.specs.SeatState.{SeatState};
     ghost use Rattle.shard_book.specs.Told.{Told, IsRefusedTo};
 
@@ -71,6 +85,10 @@ impl<'a, T: Table, R: Wait> Keeper for Seated<'a, T, R> {
 
     fn spec(&self) -> &Spec {
         self.shards.whole()
+    }
+
+    fn occupancy(&self, shard: u32) -> Occupancy {
+        self.shards.occupancy(self.rt, shard)
     }
 
     #[tactic(auto, using(crate::proofs::ReplyLemmas::told_answers))]

@@ -1,7 +1,7 @@
 //! One record of the calls of each book, for all threads, which exists in proofs alone; and what each thread knows of it.
 //!
-//! No crate of the product calls it yet: locks, seats and references are to have tokens of it. Then each call of a shared table says
-//! what stands in its shard's record, and the laws hold of all threads at every moment.
+//! `shard_book::Kept` notes each call of a book in it under the book's lock, and `shard_locks` gives each seat and each reference a
+//! token of it. So each call of a shared table says what stands in its shard's record, and the laws hold of all threads at every moment.
 #![tactic(auto)]
 
 mod choosing;
@@ -15,7 +15,7 @@ mod telling;
 mod token;
 mod view;
 
-pub use dealing::{deal_keeper, deal_seat};
+pub use dealing::Dealer;
 pub use keeper::Keeper;
 pub use naming::Naming;
 pub use record::{Opened, Record};

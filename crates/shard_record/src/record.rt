@@ -2,7 +2,7 @@
 
 ghost use Rattle.std.specs.Prelude.{◌≡◌, ℕ, [], map, IfOk};
 ghost use Rattle.shard_record.specs.Parts.{MayAppend, appended, callers_alone, compared, held_alone, joined, without_callers, without_held};
-ghost use Rattle.shard_record.specs.Dealing.{HasBegun};
+ghost use Rattle.shard_record.specs.Dealing.{IsLeft};
 ghost use Rattle.shard_record.specs.Views.{AreCompared, at, book_alone, keeper_alone, opening, paired, put, seat_alone, without_book, without_keeper, without_seat};
 
 use crate::choosing::{OfBook, OfCall, OfSeat};
@@ -54,7 +54,7 @@ impl Opened {
     pub fn named<J: Naming>(self) -> (Record<J>, Token<J>)
         requires { self.first.table_id ≡ J.record_id }
         ensures opening { result.1 ≡ opening self.books self.seats }
-        ensures begun { HasBegun self.books 0 self.seats result.1 }
+        ensures begun { IsLeft 0 self.books 0 self.seats result.1 }
     {
         let Opened {
             table,

@@ -11,7 +11,7 @@ use Rattle.shard_settling.specs.declared.fault.Fault.{Fault}
 use Rattle.shard_settling.specs.declared.fault.Fault.TheVariants.{MissingCalls, MissingRefs, Mismatch, Memory}
 use Rattle.shard_settling.specs.Settled.{CallNoOther, calls_made, shown}
 use Rattle.shard_settling.proofs.ListLemmas.{same_some}
-use Rattle.shard_settling.specs.Faults.{AllCounted, AreCounted, AreRecorded, IsCountFault, IsCountFaultOf, IsMismatched, IsOtherFault, IsRecordFault, IsRecordFaultOf, MissesCalls, MissesRefs}
+use Rattle.shard_settling.specs.Faults.{AreCounted, AreRecorded, IsCountFault, IsCountFaultOf, IsMismatched, IsOtherFault, IsRecordFault, IsRecordFaultOf, MissesCalls, MissesRefs}
 
 pub some_at : {X : Type 0} (xs : List X) (i : ℕ) → i < length xs → (x : X) × (slice_get xs i ≡ Some x)
 some_at [] i below = absurd (omega arith)

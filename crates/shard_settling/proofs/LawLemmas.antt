@@ -1,8 +1,6 @@
 -- The limit law, of what is settled.
-use Rattle.std.proofs.Common.{◌≡◌, inl, inr, ℕ, zero, suc, ◌+◌, ◌≤◌, ◌<◌, refl, sym, ◌∙◌, ap, subst, arith, List, [], ◌∷◌, ◌++◌, Bool, true, false, cond, ◌&&◌, ◌||◌, nat_eq, count_by, map, filter, length, Some, ◌⊎◌}
-use Rattle.std.specs.Prelude.{slice_get}
+use Rattle.std.proofs.Common.{◌≡◌, inl, inr, ℕ, ◌≤◌, ◌<◌, refl, sym, ◌∙◌, ap, subst, arith, List, [], ◌∷◌, ◌++◌, Bool, true, false, cond, ◌&&◌, ◌||◌, nat_eq, count_by, map, filter, length}
 use Rattle.std.specs.List.{list_any, AllByRecursion}
-use Rattle.std.specs.List.Sorted.{IsPermutation}
 use Rattle.std.proofs.lemmas.Bool.{cases_lt, false≢true}
 use Rattle.std.proofs.lemmas.Bool.Decides.{nat_tests}
 use Rattle.std.proofs.lemmas.List.Elements.{recursion_from_All}
@@ -10,21 +8,19 @@ use Rattle.std.proofs.lemmas.List.Folds.{list_any-append}
 use Rattle.std.proofs.lemmas.List.Sorted.{sum_by-IsPermutation}
 use Rattle.std.proofs.lemmas.List.Sums.{sum_by-cons}
 use Rattle.stick_model.specs.Key.{Key}
-use Rattle.stick_model.specs.State.{same_ticket, empty_table}
+use Rattle.stick_model.specs.State.{same_ticket}
 use Rattle.stick_model.specs.Legal.{IsLegal}
 use Rattle.stick_model.specs.Run.{events_of}
 use Rattle.stick_model.specs.Passed.{passing_look, passing_looks}
 use Rattle.stick_model.specs.declared.rows.Ticket.{Ticket}
 use Rattle.stick_model.specs.declared.replies.Reply.{Reply}
-use Rattle.stick_model.specs.declared.specification.Spec.{Spec}
 use Rattle.stick_model.proofs.TestLemmas.{eq-from}
 use Rattle.stick_model.proofs.LegalLemmas.{empty_legal}
 use Rattle.stick_model.proofs.RunLemmas.{run_from_stored}
 use Rattle.shard_book.specs.declared.recorded.Recorded.{Recorded}
 use Rattle.shard_book.specs.BookState.{Answered, BookState, answered, of_seat, stored_of}
-use Rattle.shard_book.specs.declared.receipt.Receipt.{Receipt}
 use Rattle.shard_book.specs.SeatState.{RefState, SeatState, receipts_at}
-use Rattle.shard_settling.specs.Settled.{AreOfShards, AreSettled, AreTold, IsCounted, IsWitnessed, receipt_of, shown, tickets_of, told_to}
+use Rattle.shard_settling.specs.Settled.{IsCounted, IsWitnessed, receipt_of, shown, tickets_of, told_to}
 use Rattle.shard_settling.specs.Laws.{SettledLimitLaw, has_passed, is_passing, passed_count}
 use Rattle.shard_settling.proofs.FaultLemmas.{some_at}
 use Rattle.shard_settling.proofs.PassedLemmas.{or-cases, passed_limit}

@@ -5,3 +5,4 @@ pub mod ReplayLemmas
 pub mod ToldLemmas
 pub mod PassedLemmas
 pub mod LawLemmas
+pub mod SeatsLemmas

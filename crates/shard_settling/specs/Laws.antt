@@ -1,5 +1,5 @@
 -- Laws of what settling tells.
-use Rattle.std.specs.Prelude.{◌≡◌, ℕ, ◌≤◌, nat_eq, Bool, true, ◌&&◌, List, count_by}
+use Rattle.std.specs.Prelude.{ℕ, ◌≤◌, nat_eq, Bool, true, ◌&&◌, List, count_by}
 use Rattle.std.specs.List.{list_any}
 use Rattle.stick_model.specs.Key.{Key}
 use Rattle.stick_model.specs.State.{same_ticket}

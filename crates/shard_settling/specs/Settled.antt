@@ -10,12 +10,17 @@ use Rattle.shard_book.specs.declared.recorded.Recorded.{Recorded}
 use Rattle.shard_book.specs.BookState.{Answered, BookState, answered, of_seat, stored_of}
 use Rattle.shard_book.specs.declared.receipt.Receipt.{Receipt}
 use Rattle.shard_book.specs.SeatState.{RefState, SeatState, calls_of, receipt, receipts_at}
+use Rattle.shard_locks.specs.Shared.{SharedSeatState}
 
 -- ---- what is shown
 
 -- how many calls of a shard the seats made
 abbrev pub calls_made : List SeatState → ℕ → ℕ
 calls_made seats shard = sum_by (λ (seat : SeatState). calls_of seat shard) seats
+
+-- the same of seats as threads share them
+abbrev pub made_by : List SharedSeatState → ℕ → ℕ
+made_by seats shard = sum_by (λ (shared : SharedSeatState). calls_of shared.seat shard) seats
 
 -- the tickets of the references to a shard
 abbrev pub shown : ℕ → List RefState → List Ticket

@@ -3,6 +3,7 @@
 ghost use Rattle.std.specs.Prelude.{◌≡◌, ◌≤◌, ◌<◌, ℕ, Some, length, slice_get, IfOk, OnOk, IfErr};
 ghost use Rattle.stick_model.specs.declared.specification.Spec.{Spec};
 ghost use Rattle.shard_book.specs.BookState.{BookState};
+ghost use Rattle.shard_locks.specs.Shared.{seats_of};
 ghost use Rattle.shard_settling.specs.Settled.{AreOfShards, AreSettled, CallNoOther, IsCounted, IsRecorded, counts_in, tickets_in, tickets_of};
 ghost use Rattle.shard_settling.specs.Faults.{IsCountFault, IsCountFaultOf, IsFault, IsOtherFault, IsRecordFault, IsRecordFaultOf};
 
@@ -10,7 +11,9 @@ use crate::counts::{adds_up, are_shown, strange_calls, strange_reference};
 use crate::found::found_in;
 use crate::telling::are_told;
 use crate::{Fault, Found, replay};
-use shard_book::{Book, Seat, TrackRef};
+use shard_book::Book;
+use shard_locks::{SharedRef, SharedSeat};
+use shard_record::Naming;
 use std::alloc::Global;
 use stick_model::same_spec;
 use stick_table::{Spec, Table, Ticket};
@@ -21,20 +24,20 @@ use stick_table::{Spec, Table, Ticket};
 /// book's own kind chooses, with its calls times its entries. Room for what is answered is taken first; then the calls and
 /// the references of each shard are counted; then what is shown of shards that the table doesn't have is missed, calls first;
 /// then the records are made again. The first fault is told, and want of memory wherever it comes.
-pub fn check<T: Table>(
+pub fn check<T: Table, J: Naming>(
     alloc: Global,
     specs: &[Spec],
     keep: bool,
     books: &[Book<T>],
-    seats: &[Seat],
-    refs: &[TrackRef],
+    seats: &[SharedSeat<J>],
+    refs: &[SharedRef<J>],
 ) -> Result<Found, Fault>
     requires shards { length books.now ≡ length specs.now }
     requires few { length books.now ≤ 64 }
-    ensures settled { OnOk result (AreSettled specs.now keep seats.now refs.now books.now) }
+    ensures settled { OnOk result (AreSettled specs.now keep (seats_of seats.now) refs.now books.now) }
     ensures counts { IfOk result (λ found. found.counts.items ≡ counts_in books.now) }
     ensures tickets { IfOk result (λ found. found.tickets.items ≡ tickets_in books.now) }
-    ensures fault { IfErr result (IsFault specs.now keep seats.now refs.now books.now) }
+    ensures fault { IfErr result (IsFault specs.now keep (seats_of seats.now) refs.now books.now) }
 {
     let Ok(found) = found_in(alloc, books) else {
         return Err(Fault::Memory);
@@ -47,17 +50,17 @@ pub fn check<T: Table>(
 }
 
 /// Whether each shard has counted the seats' calls, and has the references' tickets out.
-fn check_counts<T: Table>(
+fn check_counts<T: Table, J: Naming>(
     alloc: Global,
     books: &[Book<T>],
     found: &Found,
-    seats: &[Seat],
-    refs: &[TrackRef],
+    seats: &[SharedSeat<J>],
+    refs: &[SharedRef<J>],
 ) -> Result<(), Fault>
     requires few { length books.now ≤ 64 }
     requires tickets { found.now.tickets.items ≡ tickets_in books.now }
-    ensures ok { OnOk result ((shard : ℕ) (book : BookState) → slice_get books.now shard ≡ Some book → IsCounted seats.now refs.now shard book) }
-    ensures err { IfErr result (IsCountFault seats.now refs.now books.now) }
+    ensures ok { OnOk result ((shard : ℕ) (book : BookState) → slice_get books.now shard ≡ Some book → IsCounted (seats_of seats.now) refs.now shard book) }
+    ensures err { IfErr result (IsCountFault (seats_of seats.now) refs.now books.now) }
 {
     for shard in 0..books.len() {
         let tickets = found.tickets[shard].as_slice();
@@ -67,18 +70,18 @@ fn check_counts<T: Table>(
 }
 
 /// Whether a shard has counted the seats' calls, and has the references' tickets out.
-fn check_count<T: Table>(
+fn check_count<T: Table, J: Naming>(
     alloc: Global,
     book: &Book<T>,
     tickets: &[Ticket],
-    seats: &[Seat],
-    refs: &[TrackRef],
+    seats: &[SharedSeat<J>],
+    refs: &[SharedRef<J>],
     shard: u32,
 ) -> Result<(), Fault>
     requires shard { shard < 64 }
     requires tickets { tickets.now ≡ tickets_of book.now.live }
-    ensures ok { OnOk result (IsCounted seats.now refs.now shard book.now) }
-    ensures err { IfErr result (IsCountFaultOf seats.now refs.now shard book.now) }
+    ensures ok { OnOk result (IsCounted (seats_of seats.now) refs.now shard book.now) }
+    ensures err { IfErr result (IsCountFaultOf (seats_of seats.now) refs.now shard book.now) }
 {
     if !adds_up(book.events(), seats, shard) {
         return Err(Fault::MissingCalls(shard));
@@ -91,11 +94,15 @@ fn check_count<T: Table>(
 }
 
 /// Whether nothing is shown of shards but so many, the first ones: no calls, and no references.
-fn check_others(shards: u32, seats: &[Seat], refs: &[TrackRef]) -> Result<(), Fault>
+fn check_others<J: Naming>(
+    shards: u32,
+    seats: &[SharedSeat<J>],
+    refs: &[SharedRef<J>],
+) -> Result<(), Fault>
     requires few { shards ≤ 64 }
-    ensures calls { OnOk result (CallNoOther shards seats.now) }
+    ensures calls { OnOk result (CallNoOther shards (seats_of seats.now)) }
     ensures refs { OnOk result (AreOfShards shards refs.now) }
-    ensures err { IfErr result (IsOtherFault seats.now refs.now shards) }
+    ensures err { IfErr result (IsOtherFault (seats_of seats.now) refs.now shards) }
 {
     if let Some(other) = strange_calls(shards, seats) {
         return Err(Fault::MissingCalls(other));
@@ -107,17 +114,17 @@ fn check_others(shards: u32, seats: &[Seat], refs: &[TrackRef]) -> Result<(), Fa
 }
 
 /// Whether each shard's table is made as it should be, and its record is what the seats were told, where that is kept.
-fn check_records<T: Table>(
+fn check_records<T: Table, J: Naming>(
     alloc: Global,
     specs: &[Spec],
     keep: bool,
     books: &[Book<T>],
-    seats: &[Seat],
+    seats: &[SharedSeat<J>],
 ) -> Result<(), Fault>
     requires shards { length books.now ≡ length specs.now }
     requires few { length books.now ≤ 64 }
-    ensures ok { OnOk result ((shard : ℕ) (book : BookState) (part : Spec) → slice_get books.now shard ≡ Some book → slice_get specs.now shard ≡ Some part → IsRecorded part keep seats.now shard book) }
-    ensures err { IfErr result (IsRecordFault specs.now keep seats.now books.now) }
+    ensures ok { OnOk result ((shard : ℕ) (book : BookState) (part : Spec) → slice_get books.now shard ≡ Some book → slice_get specs.now shard ≡ Some part → IsRecorded part keep (seats_of seats.now) shard book) }
+    ensures err { IfErr result (IsRecordFault specs.now keep (seats_of seats.now) books.now) }
 {
     for shard in 0..books.len() {
         check_record(
@@ -133,16 +140,16 @@ fn check_records<T: Table>(
 }
 
 /// Whether a shard's table is made as it should be, and its record is what the seats were told, where that is kept.
-fn check_record<T: Table>(
+fn check_record<T: Table, J: Naming>(
     alloc: Global,
     part: &Spec,
     keep: bool,
     book: &Book<T>,
-    seats: &[Seat],
+    seats: &[SharedSeat<J>],
     shard: u32,
 ) -> Result<(), Fault>
-    ensures ok { OnOk result (IsRecorded part.now keep seats.now shard book.now) }
-    ensures err { IfErr result (IsRecordFaultOf part.now keep seats.now shard book.now) }
+    ensures ok { OnOk result (IsRecorded part.now keep (seats_of seats.now) shard book.now) }
+    ensures err { IfErr result (IsRecordFaultOf part.now keep (seats_of seats.now) shard book.now) }
 {
     if !same_spec(book.live().spec(), part) {
         return Err(Fault::Mismatch(shard));

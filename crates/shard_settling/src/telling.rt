@@ -3,9 +3,12 @@
 ghost use Rattle.std.specs.Prelude.{◌≡◌, ◌≤◌, ◌↔◌, IsTrue, Some, length, drop, slice_get};
 ghost use Rattle.shard_book.specs.SeatState.{receipts_at};
 ghost use Rattle.shard_book.specs.declared.receipt.Receipt.{Receipt};
+ghost use Rattle.shard_locks.specs.Shared.{seats_of};
 ghost use Rattle.shard_settling.specs.Settled.{AreTold, told_to};
 
-use shard_book::{Receipt, Recorded, Seat};
+use shard_book::{Receipt, Recorded};
+use shard_locks::SharedSeat;
+use shard_record::Naming;
 use stick_model::{same_event, same_reply};
 use stick_table::Reply;
 
@@ -60,12 +63,23 @@ fn next_at(receipts: &[Receipt], shard: u32, from: usize) -> usize
 }
 
 /// Whether each seat was told what it keeps of a shard, and keeps what it was told.
-pub(crate) fn are_told(seats: &[Seat], shard: u32, calls: &[Recorded], replies: &[Reply]) -> bool
+pub(crate) fn are_told<J: Naming>(
+    seats: &[SharedSeat<J>],
+    shard: u32,
+    calls: &[Recorded],
+    replies: &[Reply],
+) -> bool
     requires { length replies.now ≡ length calls.now }
-    ensures { IsTrue result ↔ AreTold shard seats.now calls.now replies.now }
+    ensures { IsTrue result ↔ AreTold shard (seats_of seats.now) calls.now replies.now }
 {
     for seat in seats {
-        if !is_told(seat.number(), shard, seat.receipts(), calls, replies) {
+        if !is_told(
+            seat.seat().number(),
+            shard,
+            seat.seat().receipts(),
+            calls,
+            replies,
+        ) {
             return false;
         }
     }

@@ -24,6 +24,8 @@ pub struct Store {
     index: Index,
     order: Order,
     rows: Rows,
+    /// How many entries went to make room for others, modulo 2^64. Contracts don't see it.
+    purged: u64,
 }
 
 impl Model for Store {
@@ -89,6 +91,7 @@ impl Store {
             index: Index::new(alloc, size, seed)?,
             order: Order::new(alloc, size)?,
             rows: Rows::new(alloc, size, columns)?,
+            purged: 0,
         })
     }
 
@@ -186,6 +189,18 @@ impl Store {
         self.order.remove(slot);
         let _gone = self.entries.remove(handle);
         drop(self.index.remove_slot(slot));
+    }
+
+    /// One entry more went to make room for another.
+    pub fn note_purged(&mut self)
+        ensures { self.new ≡ self.old }
+    {
+        self.purged = self.purged.wrapping_add(1);
+    }
+
+    /// How many entries `note_purged` has counted, modulo 2^64.
+    pub fn purged(&self) -> u64 {
+        self.purged
     }
 
     /// Writes the entry of a slot that has one, and moves its slot to the back of the queue, or, where a reference holds

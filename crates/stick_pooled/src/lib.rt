@@ -93,6 +93,14 @@ impl Table for StickTable {
         }
     }
 
+    fn references(&self) -> u32 {
+        self.book.len()
+    }
+
+    fn purged(&self) -> u64 {
+        self.store.purged()
+    }
+
     fn to_plain(&self) -> Result<PlainTable, NoMemory> {
         self.copy_to_plain()
     }

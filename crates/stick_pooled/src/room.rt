@@ -8,7 +8,8 @@ ghost use Rattle.stick_pooled.specs.Space.{IsPurged, IsRoomy, IsFull};
 use crate::entry_store::Store;
 use stick_model::Spec;
 
-/// Removes so many of the entries that no reference holds, those that were refreshed first; where they are fewer, all.
+/// Removes so many of the entries that no reference holds, those that were refreshed first; where they are fewer, all. The store
+/// counts each.
 fn purge_oldest(store: &mut Store, purge: u32)
     requires stock { IsStock store.old }
     requires rising { IsRising store.old store.old.queue }
@@ -19,6 +20,7 @@ fn purge_oldest(store: &mut Store, purge: u32)
             return;
         };
         store.remove(front);
+        store.note_purged();
     }
 }
 

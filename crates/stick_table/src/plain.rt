@@ -31,6 +31,8 @@ pub struct PlainTable {
     events: u64,
     records: Vec<(StickKey, Record)>,
     tickets: Vec<(Ticket, StickKey)>,
+    /// How many records went to make room for others, modulo 2^64. Its view doesn't show it.
+    purged: u64,
 }
 
 impl Model for PlainTable {
@@ -53,7 +55,8 @@ impl PlainTable {
     ghost use Rattle.stick_model.specs.Run.{CanRedo, redone};
     ghost use Rattle.stick_model.specs.Step.{Step, MayTrack, is_out as is_event_out, is_free_slot, after};
 
-    /// A table of these parts: its records in the order of their keys, and its outstanding references, the oldest first.
+    /// A table of these parts: its records in the order of their keys, and its outstanding references, the oldest first. None of its
+    /// records has gone yet to make room for others.
     pub fn from_parts(
         alloc: Global,
         spec: Spec,
@@ -72,6 +75,7 @@ impl PlainTable {
             events,
             records,
             tickets,
+            purged: 0,
         }
     }
 
@@ -216,6 +220,7 @@ impl Table for PlainTable {
             events: 0,
             records: Vec::new(alloc),
             tickets: Vec::new(alloc),
+            purged: 0,
         })
     }
 
@@ -233,6 +238,14 @@ impl Table for PlainTable {
         self.step_with(event, slot)
     }
 
+    fn references(&self) -> u32 {
+        self.tickets.len() as u32
+    }
+
+    fn purged(&self) -> u64 {
+        self.purged
+    }
+
     fn to_plain(&self) -> Result<PlainTable, NoMemory> {
         Ok(PlainTable {
             alloc: self.alloc,
@@ -241,6 +254,7 @@ impl Table for PlainTable {
             events: self.events,
             records: copy_records(self.alloc, &self.records)?,
             tickets: copy_tickets(self.alloc, &self.tickets)?,
+            purged: self.purged,
         })
     }
 }

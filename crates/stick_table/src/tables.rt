@@ -1,6 +1,6 @@
 //! The trait `Table`, what every stick table does; books call it, and `PlainTable` and `StickTable` implement it.
 
-ghost use Rattle.std.specs.Prelude.{◌≡◌, IfOk, OnErr, OnOk, IfErr, true};
+ghost use Rattle.std.specs.Prelude.{◌≡◌, IfOk, OnErr, OnOk, IfErr, length, true};
 ghost use Rattle.stick_model.specs.State.{State, empty_table};
 ghost use Rattle.stick_model.specs.Step.{Step};
 ghost use Rattle.stick_model.specs.Refusals.{IsRefused, has_life};
@@ -46,6 +46,13 @@ pub trait Table: Drop {
         ensures lives { OnOk result (has_life (state self.old) event.now ≡ true) }
         ensures refused { IfErr result (IsRefused (state self.old) event.now) }
         ensures err { OnErr result (state self.new ≡ state self.old) };
+
+    /// How many references are out.
+    fn references(&self) -> u32
+        ensures { result ≡ length (state self.now).tickets };
+
+    /// How many entries went to make room for others since it was opened, modulo 2^64. No clause says it, as its state doesn't tell.
+    fn purged(&self) -> u64;
 
     /// A plain table in the same state.
     fn to_plain(&self) -> Result<PlainTable, NoMemory>

@@ -30,14 +30,13 @@ use stickd_input::{
     read_command_line, read_file, read_keeping, read_served,
 };
 use stickd_script::{BadLines, FaultKind, ReplayFault, Stopped, replay_loaded, replay_script};
-use tcp_proxy::{Ahead, Later, Plan, ProxyRuntime, run_pooled};
+use tcp_proxy::{Plan, ProxyRuntime, run_pooled};
 use tcp_watch::read_surroundings;
 
 /// The status of a bad command line.
 const BAD_COMMAND_LINE: u8 = 2;
 
 fn main(rt: HostRuntime) -> ExitCode {
-    let rt = Later::new(rt);
     let words = collect_words(&rt);
     match run(&rt, words) {
         Ok(status) => status,
@@ -57,7 +56,7 @@ enum WordsFault {
 }
 
 /// The words of the command line, the program's name first.
-fn collect_words(rt: &Later<HostRuntime>) -> Result<Vec<String>, WordsFault> {
+fn collect_words(rt: &HostRuntime) -> Result<Vec<String>, WordsFault> {
     match env::args(rt) {
         Ok(words) => match words.collect(rt.alloc()) {
             Ok(words) => Ok(words),
@@ -77,7 +76,6 @@ fn run<
         + Clock
         + Log
         + Sync
-        + Ahead
         + RandomSource
         + Files
         + Env
@@ -107,9 +105,10 @@ fn run<
 }
 
 /// Does what a command asks. The status is 1 where that fails, which is then said on standard error.
-fn run_command<
-    R: ProxyRuntime + Ahead + Files + AllocGlobal + Eprint + RandomSource + Env + Input + Print,
->(rt: &R, matches: &ArgMatches<'_>) -> io::Result<ExitCode> {
+fn run_command<R: ProxyRuntime + Files + AllocGlobal + Eprint + RandomSource + Env + Input + Print>(
+    rt: &R,
+    matches: &ArgMatches<'_>,
+) -> io::Result<ExitCode> {
     let done = match matches.subcommand() {
         Some(("adopt", arguments)) => return adopt_named(rt, arguments),
         Some(("check", arguments)) => check(rt, arguments)?,
@@ -332,7 +331,7 @@ fn report_bad_lines<R: Eprint>(rt: &R, bad: &BadLines) -> io::Result<()> {
 }
 
 /// Runs the proxy of a configuration, each of its tables kept as the command line says.
-fn serve<R: ProxyRuntime + Ahead + Files + AllocGlobal + Eprint + RandomSource + Env + Print>(
+fn serve<R: ProxyRuntime + Files + AllocGlobal + Eprint + RandomSource + Env + Print>(
     rt: &R,
     arguments: &ArgMatches<'_>,
 ) -> io::Result<ExitCode> {
@@ -352,7 +351,7 @@ fn serve<R: ProxyRuntime + Ahead + Files + AllocGlobal + Eprint + RandomSource +
 }
 
 /// Runs the proxy of a configuration that was read.
-fn serve_config<'a, R: ProxyRuntime + Ahead + Files + AllocGlobal + Eprint + RandomSource + Print>(
+fn serve_config<'a, R: ProxyRuntime + Files + AllocGlobal + Eprint + RandomSource + Print>(
     rt: &R,
     config: &'a Config,
     keeping: Keeping,

@@ -1,5 +1,5 @@
--- A word that is sent as the name of a table.
-use Rattle.std.specs.Prelude.{ℕ, Bool, false, not, ◌==◌, ◌&&◌, List, length}
+-- A word that is sent as the name of a table, and the command that shows what it holds.
+use Rattle.std.specs.Prelude.{ℕ, Bool, false, not, ◌==◌, ◌&&◌, List, ◌++◌, codes, length}
 use Rattle.std.specs.List.{list_all}
 
 -- a byte that parts words, commands or lines
@@ -9,3 +9,7 @@ parts_none byte = not (byte == 32) && not (byte == 9) && not (byte == 10) && not
 -- it is one word of one command
 abbrev pub is_name : List ℕ → Bool
 is_name word = not (length word == 0) && list_all parts_none word
+
+-- the command that shows the entries of a table
+abbrev pub show_text : List ℕ → List ℕ
+show_text name = codes "show table " ++ name

@@ -8,13 +8,14 @@ use crate::client::{BAD_WORDS, DONE, FAILED, answer_of, say_no_memory, show};
 use crate::errors::is_error;
 use crate::lines::{read_header, split_at_first};
 use crate::saved::Saved;
+use crate::show_table::show_command;
 use base_lines::Parts;
 use base_sequence::NoMemory;
 use std::alloc::Global;
 use std::net::Net;
 use std::{io, str};
 
-/// What asks for the headers of all tables, and, behind a blank, for the entries of one.
+/// What asks for the headers of all tables.
 const SHOW: &[u8] = b"show table";
 
 /// Whether a byte parts no words, commands or lines.
@@ -57,15 +58,6 @@ fn names_of<'a>(alloc: Global, words: &[&'a str]) -> Result<Vec<&'a [u8]>, NoMem
         names.push(word.as_bytes())?;
     }
     Ok(names)
-}
-
-/// The command that asks for the entries of a table.
-fn show_command(alloc: Global, table: &[u8]) -> Result<Vec<u8>, NoMemory> {
-    let mut command = Vec::new(alloc);
-    command.extend_from_slice(SHOW)?;
-    command.push(b' ')?;
-    command.extend_from_slice(table)?;
-    Ok(command)
 }
 
 /// Why a table wasn't saved, with the status that this comes to.

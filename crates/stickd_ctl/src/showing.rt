@@ -6,6 +6,7 @@ use crate::columns::{Texts, columns};
 use crate::errors::is_error;
 use crate::lines::{bare_name, is_row, key_of, name_of, number_of_word, read_header, value_of};
 use crate::ranking::greatest;
+use crate::show_table::show_command;
 use base_lines::{Parts, before_parenthesis, push_decimal, read_number};
 use base_sequence::NoMemory;
 use std::alloc::Global;
@@ -195,13 +196,6 @@ fn say<R: Eprint>(rt: &R, before: &str, text: &[u8]) -> io::Result<u8> {
     let text = str::from_utf8(text).unwrap_or("?");
     eprintln!(rt; "stickd: {before}{text}")?;
     Ok(FAILED)
-}
-
-/// The command that shows a table.
-fn show_command(alloc: Global, table: &[u8]) -> Result<Vec<u8>, NoMemory> {
-    let mut command = Vec::from_slice(alloc, b"show table ")?;
-    command.extend_from_slice(table)?;
-    Ok(command)
 }
 
 /// The name of the only table. None where there are more, or none, which is then said.

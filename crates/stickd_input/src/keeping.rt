@@ -25,26 +25,18 @@ fn read_purge(arguments: &ArgMatches<'_>) -> u32
         .clamp(1, 1024)
 }
 
-/// How many of an IPv6 source's first bits count where it is a key. That it is 1 to 128 was seen as the command line was read.
-fn read_ipv6_prefix(arguments: &ArgMatches<'_>) -> u8
+/// How many of a source's first bits count where it is a key, as an option says that goes from 1 to so many. That it does was seen
+/// as the command line was read.
+fn read_prefix(arguments: &ArgMatches<'_>, option: &str, most: u8) -> u8
+    requires { 1 ≤ most }
     ensures some { 1 ≤ result }
-    ensures few { result ≤ 128 }
+    ensures few { result ≤ most }
 {
+    let most = u32::from(most);
     arguments
-        .get_one::<u32>("ipv6-prefix")
-        .unwrap_or(128)
-        .clamp(1, 128) as u8
-}
-
-/// How many of an IPv4 source's first bits count where it is a key. That it is 1 to 32 was seen as the command line was read.
-fn read_ipv4_prefix(arguments: &ArgMatches<'_>) -> u8
-    ensures some { 1 ≤ result }
-    ensures few { result ≤ 32 }
-{
-    arguments
-        .get_one::<u32>("ipv4-prefix")
-        .unwrap_or(32)
-        .clamp(1, 32) as u8
+        .get_one::<u32>(option)
+        .unwrap_or(most)
+        .clamp(1, most) as u8
 }
 
 /// How each table is kept: in so many shards, and removing so many of its oldest entries for a new one where it is full. And
@@ -70,8 +62,8 @@ pub fn read_keeping(arguments: &ArgMatches<'_>) -> Keeping
         shards: read_shards(arguments),
         purge: read_purge(arguments),
         prefixes: Prefixes {
-            ipv4: read_ipv4_prefix(arguments),
-            ipv6: read_ipv6_prefix(arguments),
+            ipv4: read_prefix(arguments, "ipv4-prefix", 32),
+            ipv6: read_prefix(arguments, "ipv6-prefix", 128),
         },
     }
 }

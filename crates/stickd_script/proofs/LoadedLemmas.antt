@@ -2,8 +2,8 @@
 use Rattle.std.proofs.Common.{◌≡◌, ℕ, refl, sym, ap, subst, Some, None, List, [], ◌∷◌, inl, inr}
 use Rattle.rule_model.specs.declared.sections.Setup.{Setup}
 use Rattle.admit_drive.specs.Tables.{CanOpen, TableState}
-use Rattle.table_loading.specs.Lines.{Fault, NoMemory, Line, Passed, Makes, Wrong, line_of}
-use Rattle.table_loading.specs.Loading.{Commands as Made, FailsAt, IsAnswered, Loads, LoadsAll, lines_of, moment_of}
+use Rattle.table_cli.specs.SavedLines.{Fault, NoMemory, Line, Passed, Makes, Wrong, line_of}
+use Rattle.table_cli.specs.Loading.{Commands as Made, FailsAt, IsAnswered, Loads, LoadsAll, lines_of, moment_of}
 use Rattle.stickd_script.specs.BadLines.{Noting, beginning, noting_at}
 use Rattle.stickd_script.specs.Guests.{IsServed, ScriptState}
 use Rattle.stickd_script.specs.Loaded.{Begins, IsLoaded, IsUnloaded, with_tables}

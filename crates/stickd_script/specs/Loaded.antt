@@ -3,9 +3,9 @@ use Rattle.std.specs.Prelude.{◌≡◌, ◌⊎◌, ℕ, List, []}
 use Rattle.base_lines.specs.Service.{StopsAfter}
 use Rattle.rule_model.specs.declared.sections.Setup.{Setup}
 use Rattle.admit_drive.specs.Tables.{TableState}
-use Rattle.table_loading.specs.Lines.{Fault}
-use Rattle.table_loading.specs.Loading.{FailsAt, LoadsAll, lines_of}
-use Rattle.table_loading.specs.Seen.{seen_fault}
+use Rattle.table_cli.specs.SavedLines.{Fault}
+use Rattle.table_cli.specs.Loading.{FailsAt, LoadsAll, lines_of}
+use Rattle.table_cli.specs.SeenLines.{seen_fault}
 use Rattle.stickd_script.specs.BadLines.{Noted, bad_among, noted}
 use Rattle.stickd_script.specs.Guests.{ScriptState}
 use Rattle.stickd_script.specs.Script.{Says, Stops, answering, refusing}

@@ -3,7 +3,7 @@
 ghost use Rattle.std.specs.Prelude.{◌≡◌, ℕ, List, IfErr, OnOk};
 ghost use Rattle.byte_ports.specs.Bytes.{Grows, IsAtEnd, Takes};
 ghost use Rattle.base_lines.specs.Service.{ServesAll};
-ghost use Rattle.table_loading.specs.Seen.{seen_fault};
+ghost use Rattle.table_cli.specs.SeenLines.{seen_fault};
 ghost use Rattle.stickd_script.specs.BadLines.{bad_lines, noted};
 ghost use Rattle.stickd_script.specs.Guests.{ScriptState};
 ghost use Rattle.stickd_script.specs.Loaded.{Begins, IsLoaded, IsStopped, IsUnloaded, with_tables};
@@ -18,7 +18,7 @@ use rule_model::Setup;
 use shard_book::{Books, Named};
 use std::alloc::Global;
 use stick_table::Table;
-use table_loading::{LoadFault, load};
+use table_cli::{LoadFault, load};
 
 /// Why a replay on loaded tables stopped before the script's end.
 #[derive(Drop)]

@@ -1,2 +1,4 @@
 pub mod ShardLemmas
 pub mod TableLemmas
+pub mod ClockLemmas
+pub mod LineLemmas

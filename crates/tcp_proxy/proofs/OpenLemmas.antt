@@ -1,6 +1,7 @@
 -- The tables of a setup, opened one after another.
-use Rattle.std.proofs.Common.{◌≡◌, ℕ, ◌+◌, ◌<◌, sym, ap, ◌∙◌, Bool, All, List, [], ◌∷◌, ◌++◌, length, map, take, get_or, vec_len, slice_get, Option, Some, None, arith}
+use Rattle.std.proofs.Common.{◌≡◌, ℕ, zero, suc, ◌+◌, ◌*◌, ◌≤◌, ◌<◌, sym, subst, ap, ◌∙◌, Bool, All, List, [], ◌∷◌, ◌++◌, length, map, take, get_or, vec_len, slice_get, Option, Some, None, arith}
 use Rattle.std.specs.Global.{Vec}
+use Rattle.std.proofs.Math.Nat.{mul-le-mul_left, mul-suc}
 use Rattle.std.proofs.lemmas.List.{length-append, length-map, map-append, map_more}
 use Rattle.std.proofs.lemmas.List.Elements.{All-push}
 use Rattle.std.proofs.lemmas.List.FromFn.{length-map-range_with_len}
@@ -9,14 +10,16 @@ use Rattle.std.specs.Option.{option_map}
 use Rattle.rule_model.specs.declared.sections.NamedSpec.{NamedSpec}
 use Rattle.rule_model.specs.declared.sections.Setup.{Setup}
 use Rattle.tcp_relay.specs.Serving.{AreSeats, AreTablesOf}
-use Rattle.shard_book.specs.SeatState.{SeatState, fresh}
+use Rattle.shard_record.specs.Dealing.{DealerState, HasLeft}
+use Rattle.shard_book.specs.SeatState.{fresh}
+use Rattle.shard_locks.specs.Shared.{SharedSeatState, seats_of}
 use Rattle.shard_locks.specs.ShardsState.{ShardsState, fresh_seats}
 use Rattle.tcp_proxy.specs.Opened.{AreDeclared, but_for_seed, declared_table}
 
 -- fresh seats are as many as were asked for
-pub seats_counted : (seats : Vec SeatState) (count : ℕ) (keep : Bool) → seats.items ≡ fresh_seats count keep → vec_len seats ≡ count
+pub seats_counted : (seats : Vec SharedSeatState) (count : ℕ) (keep : Bool) → seats_of seats.items ≡ fresh_seats count keep → vec_len seats ≡ count
 seats_counted seats count keep is =
-    let counted : length seats.items ≡ count = ap length is ∙ length-map-range_with_len (λ number. fresh number keep) 0 count in
+    let counted : length seats.items ≡ count = sym (length-map seats.items (λ (shared : SharedSeatState). shared.seat)) ∙ ap length is ∙ length-map-range_with_len (λ number. fresh number keep) 0 count in
     seats.ok.0 ∙ counted
 
 -- one item more
@@ -26,8 +29,8 @@ one_more old new x count were more =
     omega arith
 
 -- and its seats
-pub seats_more : (old new : List (Vec SeatState)) (seats : Vec SeatState) (count : ℕ) → All (λ (of_table : Vec SeatState). vec_len of_table ≡ count) old → vec_len seats ≡ count → new ≡ old ++ seats ∷ [] → All (λ (of_table : Vec SeatState). vec_len of_table ≡ count) new
-seats_more old new seats count were one more = rw more (All-push (λ (of_table : Vec SeatState). vec_len of_table ≡ count) old seats were one)
+pub seats_more : (old new : List (Vec SharedSeatState)) (seats : Vec SharedSeatState) (count : ℕ) → All (λ (of_table : Vec SharedSeatState). vec_len of_table ≡ count) old → vec_len seats ≡ count → new ≡ old ++ seats ∷ [] → All (λ (of_table : Vec SharedSeatState). vec_len of_table ≡ count) new
+seats_more old new seats count were one more = rw more (All-push (λ (of_table : Vec SharedSeatState). vec_len of_table ≡ count) old seats were one)
 
 -- one table more
 pub declared_more : (shards : ℕ) (keep : Bool) (items : List NamedSpec) (i : ℕ) (named : NamedSpec) (old new : List ShardsState) (table : ShardsState) → AreDeclared shards keep (take i items) old → i < length items → named ≡ get_or items i named
@@ -52,6 +55,36 @@ declared_served setup keep tables declared = record {
 }
 
 -- and so many seats of each go to the threads that serve
-pub seated : (setup : Setup) (keep : Bool) (workers : ℕ) (tables : List ShardsState) (seats : Vec (Vec SeatState)) → AreDeclared setup.shards keep setup.tables tables → length seats.items ≡ length setup.tables
-    → All (λ (of_table : Vec SeatState). vec_len of_table ≡ workers) seats.items → AreSeats (length tables) workers seats
+pub seated : (setup : Setup) (keep : Bool) (workers : ℕ) (tables : List ShardsState) (seats : Vec (Vec SharedSeatState)) → AreDeclared setup.shards keep setup.tables tables → length seats.items ≡ length setup.tables
+    → All (λ (of_table : Vec SharedSeatState). vec_len of_table ≡ workers) seats.items → AreSeats (length tables) workers seats
 seated setup keep workers tables seats declared count each = (count ∙ sym ((declared_served setup keep tables declared).count), each)
+
+-- ---- what is left of a record
+
+-- where so much is left for each of n tables, there is as much left behind the first i as one more takes
+pub one_left : (had each i n all : ℕ) → i < n → had + each * n ≤ all → had + each * i + each ≤ all
+one_left had each i n all below fits =
+    let next : suc i ≡ i + 1 = omega arith in
+    let more : each * suc i ≡ each * i + each = mul-suc each i in
+    let within : each * suc i ≤ each * n = mul-le-mul_left each (omega (arith, below, next)) in
+    omega (arith, more, within, fits)
+
+-- behind one more it is
+pub one_gone : (had each i : ℕ) → had + each * i + each ≡ had + each * (i + 1)
+one_gone had each i =
+    let next : suc i ≡ i + 1 = omega arith in
+    let more : each * (i + 1) ≡ each * i + each = ap (λ n. each * n) (sym next) ∙ mul-suc each i in
+    omega (arith, more)
+
+-- a dealer behind so many tables
+abbrev behind : DealerState → ℕ → ℕ → ℕ → DealerState
+behind dealer shards callers i = record dealer { kept = dealer.kept + shards * i; seated = dealer.seated + callers * i }
+
+pub left_for_one : (dealer now : DealerState) (shards callers i n : ℕ) → i < n → HasLeft dealer (shards * n) (callers * n) → now ≡ behind dealer shards callers i → HasLeft now shards callers
+left_for_one dealer now shards callers i n below left is =
+    subst (λ (d : DealerState). HasLeft d shards callers) (sym is) (record { books = one_left dealer.kept shards i n dealer.books below left.books; seats = one_left dealer.seated callers i n dealer.seats below left.seats })
+
+pub dealt_more : (dealer now later : DealerState) (shards callers i : ℕ) → now ≡ behind dealer shards callers i → later ≡ record now { kept = now.kept + shards; seated = now.seated + callers } → later ≡ behind dealer shards callers (i + 1)
+dealt_more dealer now later shards callers i is next =
+    next ∙ (ap (λ (d : DealerState). record d { kept = d.kept + shards; seated = d.seated + callers }) is
+    ∙ (λ j. record dealer { kept = one_gone dealer.kept shards i j; seated = one_gone dealer.seated callers i j }))

@@ -1,8 +1,8 @@
 //! The tables of a setup are settled once nobody calls them; `running` calls it.
 
 use rule_model::Setup;
-use shard_book::{Seat, TrackRef};
-use shard_locks::Shards;
+use shard_locks::{Shards, SharedRef, SharedSeat};
+use shard_record::Naming;
 use shard_settling::{Fault, Settled, Unsettled, settle};
 use std::alloc::Global;
 use std::fmt::{Display, Formatter, Write};
@@ -10,9 +10,9 @@ use std::{fmt, io, mem, str};
 use stick_table::Table;
 
 /// What callers of the tables of a setup leave: of each table its seats, and the references that are out.
-pub(crate) struct Left {
-    pub seats: Vec<Vec<Seat>>,
-    pub refs: Vec<Vec<TrackRef>>,
+pub(crate) struct Left<J: Naming> {
+    pub seats: Vec<Vec<SharedSeat<J>>>,
+    pub refs: Vec<Vec<SharedRef<J>>>,
 }
 
 /// How many events the shards of a settled table have counted, and how many references are out there.
@@ -30,7 +30,7 @@ impl Display for Tally {
 }
 
 /// What a settled table has counted, up to 2^64 - 1.
-fn tally_of<T: Table>(settled: &Settled<T>) -> Tally {
+fn tally_of<T: Table, J: Naming>(settled: &Settled<T, J>) -> Tally {
     let mut tally = Tally {
         calls: 0,
         references: 0,
@@ -56,7 +56,7 @@ fn code_of(fault: Fault) -> &'static str {
 }
 
 /// The references are given up: their tickets stay out.
-pub(crate) fn give_up(mut refs: Vec<TrackRef>) {
+pub(crate) fn give_up<J: Naming>(mut refs: Vec<SharedRef<J>>) {
     while let Some(reference) = refs.pop() {
         reference.abandon();
     }
@@ -64,7 +64,7 @@ pub(crate) fn give_up(mut refs: Vec<TrackRef>) {
 }
 
 /// All references of all tables are given up.
-pub(crate) fn give_up_all(mut refs: Vec<Vec<TrackRef>>) {
+pub(crate) fn give_up_all<J: Naming>(mut refs: Vec<Vec<SharedRef<J>>>) {
     while let Some(of_table) = refs.pop() {
         give_up(of_table);
     }
@@ -72,11 +72,11 @@ pub(crate) fn give_up_all(mut refs: Vec<Vec<TrackRef>>) {
 }
 
 /// Settles a table.
-fn settle_table<T: Table>(
+fn settle_table<T: Table, J: Naming>(
     alloc: Global,
-    table: Shards<T>,
-    seats: Vec<Seat>,
-    refs: Vec<TrackRef>,
+    table: Shards<T, J>,
+    seats: Vec<SharedSeat<J>>,
+    refs: Vec<SharedRef<J>>,
 ) -> Result<Tally, Fault> {
     match settle(alloc, table, seats, refs) {
         Ok(settled) => Ok(tally_of(&settled)),
@@ -113,12 +113,12 @@ fn take_list<T>(alloc: Global, lists: &mut Vec<Vec<T>>, place: usize) -> Vec<T> 
 /// Settles each table of a setup by the seats and the references that its callers left, and prints, in order of declaration,
 /// `settled NAME: C calls, R references`, or `unsettled NAME: S1` and its kin on standard error. Answers whether all were
 /// settled.
-pub(crate) fn settle_all<T: Table, R: Print + Eprint>(
+pub(crate) fn settle_all<T: Table, J: Naming, R: Print + Eprint>(
     alloc: Global,
     rt: &R,
     setup: &Setup,
-    tables: Vec<Shards<T>>,
-    left: Left,
+    tables: Vec<Shards<T, J>>,
+    left: Left<J>,
 ) -> io::Result<bool> {
     let Left {
         mut seats,

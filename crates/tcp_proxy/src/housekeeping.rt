@@ -3,9 +3,9 @@
 use crate::shared::{ProxyRuntime, Shared};
 use base_clock::RunningClock;
 use log::{Log, info};
-use shard_book::Seat;
 use shard_housekeeping::{Kept, Pace, housekeep};
-use shard_locks::Shards;
+use shard_locks::{Shards, SharedSeat};
+use shard_record::Naming;
 use std::sync::atomic::{AtomicBool, Ordering};
 use std::thread;
 use std::time::{Clock, Duration};
@@ -41,7 +41,7 @@ impl Pace for Once {
 }
 
 /// How many shards the tables have together.
-fn count_shards<T: Table>(tables: &[Shards<T>]) -> u64 {
+fn count_shards<T: Table, J: Naming>(tables: &[Shards<T, J>]) -> u64 {
     let mut count = 0u64;
     for table in tables {
         count = count.saturating_add(u64::from(table.shards()));
@@ -50,10 +50,10 @@ fn count_shards<T: Table>(tables: &[Shards<T>]) -> u64 {
 }
 
 /// Has shards expire what is over, and begin long records again, each second. What that comes to is counted round by round.
-pub(crate) fn keep_tables<T: Table, R: ProxyRuntime>(
-    shared: &Shared<'_, T, R>,
-    mut seats: Vec<Seat>,
-) -> Vec<Seat> {
+pub(crate) fn keep_tables<T: Table, J: Naming, R: ProxyRuntime>(
+    shared: &Shared<'_, T, J, R>,
+    mut seats: Vec<SharedSeat<J>>,
+) -> Vec<SharedSeat<J>> {
     let mut clock = RunningClock::new(shared.rt, shared.start);
     let counts = &shared.running.board.service;
     let shards = count_shards(shared.tables);

@@ -1,6 +1,5 @@
 //! What a run counts by, is drained by, and tells others by; `running` makes it before the threads start.
 
-use crate::later::Ahead;
 use crate::plan::Plan;
 use crate::reporting::Reports;
 use crate::running_program::{Board, Running};
@@ -56,7 +55,7 @@ fn lasts_where(is_watched: bool) -> Option<LastTimes> {
 }
 
 /// The socket to the service manager, where it takes messages. Where there is none to be had, that is said.
-fn open_notifier<R: ProxyRuntime + Ahead + Files + AllocGlobal + Eprint>(
+fn open_notifier<R: ProxyRuntime + Files + AllocGlobal + Eprint>(
     rt: &R,
     plan: Plan<'_>,
 ) -> Option<Notifier> {
@@ -80,10 +79,7 @@ fn open_status() -> Option<ProcessStatus> {
 }
 
 /// The name of the machine. Empty where the system doesn't say it.
-fn read_node<R: ProxyRuntime + Ahead + Files + AllocGlobal + Eprint>(
-    alloc: Global,
-    rt: &R,
-) -> Vec<u8> {
+fn read_node<R: ProxyRuntime + Files + AllocGlobal + Eprint>(alloc: Global, rt: &R) -> Vec<u8> {
     match fs::read(rt, HOSTNAME) {
         Ok(name) => name,
         Err(_) => Vec::new(alloc),
@@ -103,7 +99,7 @@ fn server_text(alloc: Global, setup: &Setup) -> Result<String, NoMemory> {
 
 impl Instruments {
     /// Those of a run.
-    pub fn new<R: ProxyRuntime + Ahead + Files + AllocGlobal + Eprint>(
+    pub fn new<R: ProxyRuntime + Files + AllocGlobal + Eprint>(
         alloc: Global,
         rt: &R,
         setup: &Setup,
@@ -146,7 +142,6 @@ impl Instruments {
         rt: &'a R,
         plan: Plan<'a>,
         sockets: &'a Sockets,
-        begins_at: u64,
     ) -> Running<'a, R> {
         Running {
             rt,
@@ -166,7 +161,6 @@ impl Instruments {
             reports: reports_of(plan),
             status: self.status.as_ref(),
             start: sockets.start,
-            begins_at,
         }
     }
 }

@@ -3,28 +3,30 @@
 
 ghost use Rattle.std.specs.Prelude.{◌≡◌, ◌<◌, ◌^◌, map};
 ghost use Rattle.rule_model.specs.declared.sections.NamedSpec.{NamedSpec as ItsSpec};
-ghost use Rattle.table_loading.specs.Lives as spec;
+ghost use Rattle.table_cli.specs.Lives as spec;
 
-use crate::later::Ahead;
-use crate::service_threads::SeatedTable;
+use crate::plan::Plan;
+use crate::running::report;
+use crate::service_threads::{Asked, SeatedTable, ServiceThread, seats_of};
 use crate::shared::ProxyRuntime;
-use base_clock::{Clock, RunningClock, StoppedClock};
+use base_clock::{Clock, RunningClock, Start, StoppedClock};
 use base_sequence::NoMemory;
 use byte_ports::MemorySink;
 use log::{Log, info};
 use rule_model::Setup;
-use shard_book::{Named, Seat};
-use shard_locks::{Seated, Shards};
+use shard_book::Named;
+use shard_locks::{Seated, Shards, SharedSeat};
+use shard_record::Naming;
 use std::alloc::Global;
 use std::fs::{self, OpenFile, OpenOptions};
 use std::io::{self, Write};
+use std::mem;
 use std::os::unix::fs::OpenOptionsExt;
 use std::rt::Files;
-use std::time::Instant;
 use stick_table::Table;
-use stickd_ctl::{Saved, is_error};
-use table_cli::answer;
-use table_loading::{life_of, load};
+use stickd_ctl::{Saved, is_error, show_command};
+use table_cli::{answer, life_of, load};
+use tcp_relay::FaultKind;
 
 /// The permissions of a saved file: its owner's alone, since it names clients.
 const SAVED_MODE: u32 = 0o600;
@@ -41,13 +43,14 @@ pub(crate) fn longest_life(setup: &Setup) -> u32
 }
 
 /// Tables, each asked by one of these seats, under the names of the setup.
-fn seat_all<'a, T: Table, R>(
+fn seat_all<'a, T: Table, J: Naming, R>(
     alloc: Global,
     rt: &'a R,
     setup: &Setup,
-    tables: &'a [Shards<T>],
-    seats: Vec<Seat>,
-) -> Result<Vec<SeatedTable<'a, T, R>>, NoMemory> {
+    tables: &'a [Shards<T, J>],
+    seats: Vec<SharedSeat<J>>,
+) -> Result<Asked<'a, T, J, R>, NoMemory> {
+    let back = Vec::with_capacity(alloc, tables.len())?;
     let mut seated = Vec::with_capacity(alloc, tables.len())?;
     for (place, seat) in seats.into_iter().enumerate() {
         let (Some(table), Some(named)) = (tables.get(place), setup.tables.as_slice().get(place))
@@ -58,36 +61,22 @@ fn seat_all<'a, T: Table, R>(
         let keeper = Seated::new(table, rt, seat);
         seated.push(Named { name, keeper })?;
     }
-    Ok(seated)
-}
-
-/// The seats of tables that are asked no more.
-fn seats_of<T: Table, R>(
-    alloc: Global,
-    tables: Vec<SeatedTable<'_, T, R>>,
-) -> Result<Vec<Seat>, NoMemory> {
-    let mut seats = Vec::with_capacity(alloc, tables.len())?;
-    for named in tables {
-        seats.push(named.keeper.into_seat())?;
-    }
-    Ok(seats)
-}
-
-/// Says that there is no memory.
-fn say_no_memory<R: Eprint>(rt: &R) -> io::Result<()> {
-    eprintln!(rt; "stickd: out of memory")
+    Ok(Asked {
+        tables: seated,
+        back,
+    })
 }
 
 /// Makes the entries that a file keeps, by one seat of each table, which come back. None where the file can't be read or isn't what
 /// was saved, which is said on standard error.
-pub(crate) fn load_tables<T: Table, R: ProxyRuntime + Ahead + Files + AllocGlobal + Eprint>(
+fn load_tables<T: Table, J: Naming, R: ProxyRuntime + Files + AllocGlobal + Eprint>(
     alloc: Global,
     rt: &R,
     setup: &Setup,
-    tables: &[Shards<T>],
-    seats: Vec<Seat>,
+    tables: &[Shards<T, J>],
+    seats: Vec<SharedSeat<J>>,
     path: &str,
-) -> io::Result<Option<Vec<Seat>>> {
+) -> io::Result<Option<Vec<SharedSeat<J>>>> {
     let text = match fs::read(rt, path) {
         Ok(text) => text,
         Err(reason) => {
@@ -95,35 +84,21 @@ pub(crate) fn load_tables<T: Table, R: ProxyRuntime + Ahead + Files + AllocGloba
             return Ok(None);
         }
     };
-    let Ok(mut seated) = seat_all(alloc, rt, setup, tables, seats) else {
-        say_no_memory(rt)?;
+    let Ok(mut asked) = seat_all(alloc, rt, setup, tables, seats) else {
+        report(rt, FaultKind::NoMemory)?;
         return Ok(None);
     };
-    if let Err(fault) = load(alloc, seated.as_mut_slice(), text.as_slice()) {
+    if let Err(fault) = load(alloc, asked.tables.as_mut_slice(), text.as_slice()) {
         eprintln!(rt; "stickd: {path}: {fault}")?;
         return Ok(None);
     }
-    match seats_of(alloc, seated) {
-        Ok(seats) => Ok(Some(seats)),
-        Err(_) => {
-            say_no_memory(rt)?;
-            Ok(None)
-        }
-    }
-}
-
-/// What a table is asked that is saved.
-fn show_command(alloc: Global, name: &[u8]) -> Result<Vec<u8>, NoMemory> {
-    let mut command = Vec::new(alloc);
-    command.extend_from_slice(b"show table ")?;
-    command.extend_from_slice(name)?;
-    Ok(command)
+    Ok(Some(seats_of(asked.tables, asked.back)))
 }
 
 /// Adds what the table of a place holds, at a moment.
-fn save_one<T: Table, R: ProxyRuntime + Ahead + Files + AllocGlobal + Eprint>(
+fn save_one<T: Table, J: Naming, R: ProxyRuntime + Files + AllocGlobal + Eprint>(
     alloc: Global,
-    tables: &mut [SeatedTable<'_, T, R>],
+    tables: &mut [SeatedTable<'_, T, J, R>],
     place: usize,
     moment: u64,
     saved: &mut Saved,
@@ -144,9 +119,9 @@ fn save_one<T: Table, R: ProxyRuntime + Ahead + Files + AllocGlobal + Eprint>(
 }
 
 /// What tables hold at a moment.
-fn text_of<T: Table, R: ProxyRuntime + Ahead + Files + AllocGlobal + Eprint>(
+fn text_of<T: Table, J: Naming, R: ProxyRuntime + Files + AllocGlobal + Eprint>(
     alloc: Global,
-    tables: &mut [SeatedTable<'_, T, R>],
+    tables: &mut [SeatedTable<'_, T, J, R>],
     moment: u64,
 ) -> Result<Vec<u8>, NoMemory>
     requires { moment < 2 ^ 62 }
@@ -159,7 +134,7 @@ fn text_of<T: Table, R: ProxyRuntime + Ahead + Files + AllocGlobal + Eprint>(
 }
 
 /// Writes a file anew, whole, as it is to lie on the disk.
-fn write_whole<R: ProxyRuntime + Ahead + Files + AllocGlobal + Eprint>(
+fn write_whole<R: ProxyRuntime + Files + AllocGlobal + Eprint>(
     rt: &R,
     path: &str,
     text: &[u8],
@@ -176,7 +151,7 @@ fn write_whole<R: ProxyRuntime + Ahead + Files + AllocGlobal + Eprint>(
 }
 
 /// Writes a text to a new file beside one of this path, whose place it then takes. Where that fails, the old one stays.
-fn replace_file<R: ProxyRuntime + Ahead + Files + AllocGlobal + Eprint>(
+fn replace_file<R: ProxyRuntime + Files + AllocGlobal + Eprint>(
     alloc: Global,
     rt: &R,
     path: &str,
@@ -192,23 +167,23 @@ fn replace_file<R: ProxyRuntime + Ahead + Files + AllocGlobal + Eprint>(
     }
 }
 
-/// Writes what the tables hold to a file, by one seat of each table. The seats that come back, and whether the file is written; where
-/// it isn't, that is said on standard error. Where memory was short for the seats, none come back.
-pub(crate) fn save_all<T: Table, R: ProxyRuntime + Ahead + Files + AllocGlobal + Eprint>(
+/// Writes what the tables hold to a file, by one seat of each table. The seats that come back, and whether the file is written;
+/// where it isn't, that is said on standard error. Where memory was short for the seats, none come back.
+fn save_all<T: Table, J: Naming, R: ProxyRuntime + Files + AllocGlobal + Eprint>(
     alloc: Global,
     rt: &R,
     setup: &Setup,
-    tables: &[Shards<T>],
-    seats: Vec<Seat>,
-    start: Instant,
+    tables: &[Shards<T, J>],
+    seats: Vec<SharedSeat<J>>,
+    start: Start,
     path: &str,
-) -> io::Result<(Vec<Seat>, bool)> {
+) -> io::Result<(Vec<SharedSeat<J>>, bool)> {
     let moment = RunningClock::new(rt, start).now();
-    let Ok(mut seated) = seat_all(alloc, rt, setup, tables, seats) else {
-        say_no_memory(rt)?;
+    let Ok(mut asked) = seat_all(alloc, rt, setup, tables, seats) else {
+        report(rt, FaultKind::NoMemory)?;
         return Ok((Vec::new(alloc), false));
     };
-    let is_saved = match text_of(alloc, seated.as_mut_slice(), moment) {
+    let is_saved = match text_of(alloc, asked.tables.as_mut_slice(), moment) {
         Ok(text) => match replace_file(alloc, rt, path, text.as_slice()) {
             Ok(()) => {
                 info!(rt; "saved to {path}");
@@ -220,10 +195,45 @@ pub(crate) fn save_all<T: Table, R: ProxyRuntime + Ahead + Files + AllocGlobal +
             }
         },
         Err(_) => {
-            say_no_memory(rt)?;
+            report(rt, FaultKind::NoMemory)?;
             false
         }
     };
-    let seats = seats_of(alloc, seated).unwrap_or(Vec::new(alloc));
-    Ok((seats, is_saved))
+    Ok((seats_of(asked.tables, asked.back), is_saved))
+}
+
+/// Makes the entries of the plan's file, if it names one, by these seats, which come back. None where that can't be done, which is
+/// said.
+pub(crate) fn load_where<T: Table, J: Naming, R: ProxyRuntime + Files + AllocGlobal + Eprint>(
+    alloc: Global,
+    rt: &R,
+    setup: &Setup,
+    plan: Plan<'_>,
+    tables: &[Shards<T, J>],
+    seats: Vec<SharedSeat<J>>,
+) -> io::Result<Option<Vec<SharedSeat<J>>>> {
+    match plan.keep.load {
+        Some(path) => load_tables(alloc, rt, setup, tables, seats, path),
+        None => Ok(Some(seats)),
+    }
+}
+
+/// Writes what the tables hold to the plan's file, if it names one and serving ended well, by the seats of a thread that has ended.
+/// Answers whether nothing is left undone.
+pub(crate) fn save_where<T: Table, J: Naming, R: ProxyRuntime + Files + AllocGlobal + Eprint>(
+    alloc: Global,
+    rt: &R,
+    setup: &Setup,
+    plan: Plan<'_>,
+    tables: &[Shards<T, J>],
+    service_threads: &mut [ServiceThread<J>],
+    start: Start,
+) -> io::Result<bool> {
+    let (Some(path), Some(thread)) = (plan.keep.save, service_threads.first_mut()) else {
+        return Ok(true);
+    };
+    let seats = mem::replace(&mut thread.seats, Vec::new(alloc));
+    let (seats, is_saved) = save_all(alloc, rt, setup, tables, seats, start, path)?;
+    thread.seats = seats;
+    Ok(is_saved)
 }

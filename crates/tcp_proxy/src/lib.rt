@@ -7,7 +7,6 @@ mod ending;
 mod housekeeping;
 mod instruments;
 mod keeping;
-mod later;
 mod listeners;
 mod opening;
 mod plan;
@@ -20,7 +19,6 @@ mod shared;
 mod sockets;
 mod timetable;
 
-pub use later::{Ahead, Later};
 pub use plan::{
     About, KeepPlan, METRICS_CLIENTS, Plan, STATS_CLIENTS, SocketPlan, StatsPlan, WatchPlan,
 };

@@ -4,7 +4,6 @@ ghost use Rattle.std.specs.Prelude.{◌≡◌};
 ghost use Rattle.tcp_proxy.specs.Backlog.{fewer_than};
 
 use crate::binding::{BindFault, say_no_memory, say_unbound};
-use crate::later::Ahead;
 use crate::plan::Plan;
 use crate::shared::ProxyRuntime;
 use base_lines::read_number;
@@ -22,7 +21,7 @@ use tcp_watch::take_tcp;
 const MOST_WAITING: &str = "/proc/sys/net/core/somaxconn";
 
 /// The listeners of a `bind` and of those that the plan has besides. That of the `bind` may be handed over.
-pub(crate) fn bind_listeners<R: ProxyRuntime + Ahead + Files + AllocGlobal + Eprint>(
+pub(crate) fn bind_listeners<R: ProxyRuntime + Files + AllocGlobal + Eprint>(
     alloc: Global,
     rt: &R,
     bind: Endpoint,
@@ -52,7 +51,7 @@ pub(crate) fn bind_listeners<R: ProxyRuntime + Ahead + Files + AllocGlobal + Epr
 }
 
 /// Binds a listener.
-fn bind_one<R: ProxyRuntime + Ahead + Files + AllocGlobal + Eprint>(
+fn bind_one<R: ProxyRuntime + Files + AllocGlobal + Eprint>(
     rt: &R,
     bind: Endpoint,
     plan: Plan<'_>,
@@ -64,7 +63,7 @@ fn bind_one<R: ProxyRuntime + Ahead + Files + AllocGlobal + Eprint>(
 }
 
 /// Takes the listener that the service manager hands over. A warning where it listens elsewhere than the `bind` says.
-fn take_handed<R: ProxyRuntime + Ahead + Files + AllocGlobal + Eprint>(
+fn take_handed<R: ProxyRuntime + Files + AllocGlobal + Eprint>(
     rt: &R,
     number: u32,
     bind: Endpoint,
@@ -85,7 +84,7 @@ fn take_handed<R: ProxyRuntime + Ahead + Files + AllocGlobal + Eprint>(
 }
 
 /// The listener of a number that was handed over, whose clients are asked as the plan says whether they are still there.
-fn take_listener<R: ProxyRuntime + Ahead + Files + AllocGlobal + Eprint>(
+fn take_listener<R: ProxyRuntime + Files + AllocGlobal + Eprint>(
     rt: &R,
     number: u32,
     plan: Plan<'_>,
@@ -109,7 +108,7 @@ fn listener_of(socket: TcpListener, bind: Endpoint) -> Listener
 
 /// A socket that listens, of whose clients so many may wait to be accepted as the plan says, and are asked as it says whether they are
 /// still there. std's own queue has 128 places; listening once more widens it.
-fn bind_listener<R: ProxyRuntime + Ahead + Files + AllocGlobal + Eprint>(
+fn bind_listener<R: ProxyRuntime + Files + AllocGlobal + Eprint>(
     rt: &R,
     bind: Endpoint,
     plan: Plan<'_>,
@@ -136,15 +135,13 @@ pub(crate) fn fewer_places(asked: u32, most: Option<u64>) -> Option<u64>
 }
 
 /// What the system says of how many connections wait at most. None where that can't be read.
-fn read_most_waiting<R: ProxyRuntime + Ahead + Files + AllocGlobal + Eprint>(
-    rt: &R,
-) -> Option<u64> {
+fn read_most_waiting<R: ProxyRuntime + Files + AllocGlobal + Eprint>(rt: &R) -> Option<u64> {
     let text = fs::read(rt, MOST_WAITING).ok()?;
     read_number(text.as_slice().trim_ascii())
 }
 
 /// Warns where the system lets fewer connections wait than were asked for.
-fn warn_of_backlog<R: ProxyRuntime + Ahead + Files + AllocGlobal + Eprint>(rt: &R, backlog: u32) {
+fn warn_of_backlog<R: ProxyRuntime + Files + AllocGlobal + Eprint>(rt: &R, backlog: u32) {
     if let Some(most) = fewer_places(backlog, read_most_waiting(rt)) {
         warn!(rt; "--backlog {backlog} is more than the system allows, which is {most}: sysctl net.core.somaxconn={backlog} allows it");
     }

@@ -1,15 +1,16 @@
 //! The tables of a setup are opened for threads to share; `running` calls it first.
 
-ghost use Rattle.std.specs.Prelude.{◌≡◌, ◌≤◌, ◌+◌, ◌++◌, ◌∷◌, [], length, vec_len, IfOk, OnOk};
+ghost use Rattle.std.specs.Prelude.{◌≡◌, ◌≤◌, ◌+◌, ◌*◌, ◌++◌, ◌∷◌, [], length, vec_len, IfOk, IfSome, OnOk};
 ghost use Rattle.stick_model.specs.Limits.{IsTableSpec};
+ghost use Rattle.shard_record.specs.Dealing.{HasLeft};
 ghost use Rattle.admit_drive.specs.Tables.{CanOpen};
 ghost use Rattle.tcp_relay.specs.Serving.{AreSeats, AreTablesOf};
-ghost use Rattle.tcp_proxy.specs.Opened.{AreDeclared, but_for_seed, declared_table};
+ghost use Rattle.tcp_proxy.specs.Opened.{AreDeclared, HasPlaces, but_for_seed, declared_table};
 
 use base_sequence::NoMemory;
 use rule_model::{NamedSpec, Setup};
-use shard_book::Seat;
-use shard_locks::Shards;
+use shard_locks::{Shards, SharedSeat};
+use shard_record::{Dealer, Naming, Opened};
 use std::alloc::Global;
 use std::io;
 use std::random::RandomSource;
@@ -30,28 +31,37 @@ impl From<NoMemory> for OpenFault {
     }
 }
 
+/// The record of the calls of all tables of a setup, before it has a name; and how many threads are to call each table beside the
+/// one that does the housekeeping: the workers, and those that answer clients.
+#[derive(Drop)]
+pub(crate) struct CallRecord {
+    pub opened: Opened,
+    pub workers: u32,
+    pub clients: u32,
+}
+
 /// A table, and the seats by which it is asked.
 #[derive(Drop)]
-struct OpenTable<T: Table> {
-    table: Shards<T>,
-    workers: Vec<Seat>,
-    commands: Vec<Seat>,
-    keeper: Seat,
+struct OpenTable<T: Table, J: Naming> {
+    table: Shards<T, J>,
+    workers: Vec<SharedSeat<J>>,
+    commands: Vec<SharedSeat<J>>,
+    keeper: SharedSeat<J>,
 }
 
 /// The tables of a setup, and of each the seats by which it is asked: one for each worker, one for each thread that answers
 /// commands, and one for housekeeping.
 #[derive(Drop)]
-pub(crate) struct OpenTables<T: Table> {
-    pub tables: Vec<Shards<T>>,
-    pub workers: Vec<Vec<Seat>>,
-    pub commands: Vec<Vec<Seat>>,
-    pub keepers: Vec<Seat>,
+pub(crate) struct OpenTables<T: Table, J: Naming> {
+    pub tables: Vec<Shards<T, J>>,
+    pub workers: Vec<Vec<SharedSeat<J>>>,
+    pub commands: Vec<Vec<SharedSeat<J>>>,
+    pub keepers: Vec<SharedSeat<J>>,
 }
 
-impl<T: Table> OpenTables<T> {
+impl<T: Table, J: Naming> OpenTables<T, J> {
     /// One table more.
-    fn add(&mut self, opened: OpenTable<T>) -> Result<(), NoMemory>
+    fn add(&mut self, opened: OpenTable<T, J>) -> Result<(), NoMemory>
         ensures tables { OnOk result (self.new.tables.items ≡ self.old.tables.items ++ opened.table ∷ []) }
         ensures workers { OnOk result (self.new.workers.items ≡ self.old.workers.items ++ opened.workers ∷ []) }
         ensures commands { OnOk result (self.new.commands.items ≡ self.old.commands.items ++ opened.commands ∷ []) }
@@ -65,6 +75,31 @@ impl<T: Table> OpenTables<T> {
     }
 }
 
+/// A record for the calls of all tables of a setup, by so many workers and so many threads that answer clients. None where there
+/// is no memory for it, or where its books or seats are more than 2^32 - 1.
+pub(crate) fn open_record(
+    alloc: Global,
+    setup: &Setup,
+    workers: u32,
+    clients: u32,
+) -> Option<CallRecord>
+    requires workers { (1 ≤ workers) × (workers ≤ 64) }
+    requires clients { (1 ≤ clients) × (clients ≤ 128) }
+    ensures callers { IfSome result (λ calls. (calls.workers ≡ workers) × (calls.clients ≡ clients)) }
+    ensures clients { IfSome result (λ calls. (1 ≤ calls.clients) × (calls.clients ≤ 128)) }
+    ensures places { IfSome result (λ calls. HasPlaces setup.now calls) }
+{
+    let tables = u32::try_from(setup.tables.as_slice().len()).ok()?;
+    let books = setup.shards.checked_mul(tables)?;
+    let seats = (workers + clients + 1).checked_mul(tables)?;
+    let opened = Opened::new(alloc, books, seats).ok()?;
+    Some(CallRecord {
+        opened,
+        workers,
+        clients,
+    })
+}
+
 /// A number that nobody outside can foresee.
 fn draw_seed(rt: &impl RandomSource) -> io::Result<u64> {
     let mut bytes = [0u8; 8];
@@ -73,7 +108,7 @@ fn draw_seed(rt: &impl RandomSource) -> io::Result<u64> {
 }
 
 /// The last of some seats.
-fn take_last(seats: &mut Vec<Seat>) -> Seat
+fn take_last<J: Naming>(seats: &mut Vec<SharedSeat<J>>) -> SharedSeat<J>
     requires { 1 ≤ vec_len seats.old }
     ensures { vec_len seats.new + 1 ≡ vec_len seats.old }
 {
@@ -81,27 +116,31 @@ fn take_last(seats: &mut Vec<Seat>) -> Seat
 }
 
 /// A table and its seats. Strangers choose its keys: so its hashes are made with this seed.
-fn open_table<T: Table>(
+fn open_table<T: Table, J: Naming>(
     alloc: Global,
+    dealer: &mut Dealer<J>,
     named: &NamedSpec,
     seed: u64,
     shards: u32,
     workers: u32,
     clients: u32,
     keep: bool,
-) -> Result<OpenTable<T>, NoMemory>
+) -> Result<OpenTable<T, J>, NoMemory>
     requires spec { IsTableSpec named.now.spec }
     requires shards { (1 ≤ shards) × (shards ≤ 64) }
     requires places { shards ≤ named.now.spec.size }
     requires workers { (1 ≤ workers) × (workers ≤ 64) }
     requires clients { (1 ≤ clients) × (clients ≤ 128) }
+    requires left { HasLeft dealer.old shards (workers + clients + 1) }
+    ensures dealt { OnOk result (dealer.new ≡ record dealer.old { kept = dealer.old.kept + shards; seated = dealer.old.seated + (workers + clients + 1) }) }
     ensures table { IfOk result (λ opened. but_for_seed opened.table ≡ declared_table shards keep named.now) }
     ensures workers { IfOk result (λ opened. vec_len opened.workers ≡ workers) }
     ensures commands { IfOk result (λ opened. vec_len opened.commands ≡ clients) }
 {
     let mut spec = named.spec.copy()?;
     spec.seed = seed;
-    let (table, mut seats) = Shards::new(alloc, spec, shards, workers + clients + 1, keep)?;
+    let callers = workers + clients + 1;
+    let (table, mut seats) = Shards::new(alloc, dealer, spec, shards, callers, keep)?;
     let keeper = take_last(&mut seats);
     let commands = seats.split_off(workers as usize)?;
     Ok(OpenTable {
@@ -113,18 +152,21 @@ fn open_table<T: Table>(
 }
 
 /// Opens the tables of a setup, in order of declaration, each in the setup's number of shards and by a seed of its own.
-/// With `keep` their seats keep receipts. There are so many workers, 1 to 64, and so many threads that answer clients, 1 to 128.
-pub(crate) fn open_tables<T: Table>(
+/// With `keep` their seats keep receipts. One record has the calls of all. There are so many workers, 1 to 64, and so many threads
+/// that answer clients, 1 to 128.
+fn open_tables<T: Table, J: Naming>(
     alloc: Global,
     rt: &impl RandomSource,
+    dealer: &mut Dealer<J>,
     setup: &Setup,
     workers: u32,
     clients: u32,
     keep: bool,
-) -> Result<OpenTables<T>, OpenFault>
+) -> Result<OpenTables<T, J>, OpenFault>
     requires can_open { CanOpen setup.now }
     requires workers { (1 ≤ workers) × (workers ≤ 64) }
     requires clients { (1 ≤ clients) × (clients ≤ 128) }
+    requires left { HasLeft dealer.old (setup.now.shards * length setup.now.tables) ((workers + clients + 1) * length setup.now.tables) }
     ensures tables { IfOk result (λ opened. AreDeclared setup.now.shards keep setup.now.tables opened.tables.items) }
     ensures served { IfOk result (λ opened. AreTablesOf setup.now opened.tables.items) }
     ensures workers { IfOk result (λ opened. AreSeats (length opened.tables.items) workers opened.workers) }
@@ -142,8 +184,47 @@ pub(crate) fn open_tables<T: Table>(
             Ok(seed) => seed,
             Err(reason) => return Err(OpenFault::NoSeed(reason)),
         };
-        let one = open_table(alloc, named, seed, setup.shards, workers, clients, keep)?;
+        let one = open_table(
+            alloc,
+            dealer,
+            named,
+            seed,
+            setup.shards,
+            workers,
+            clients,
+            keep,
+        )?;
         opened.add(one)?;
     }
     Ok(opened)
+}
+
+/// Opens the tables of a setup as `open_tables` does, with a record that gets its name here.
+pub(crate) fn open_recorded<T: Table, J: Naming>(
+    alloc: Global,
+    rt: &impl RandomSource,
+    setup: &Setup,
+    calls: CallRecord,
+    keep: bool,
+) -> Result<OpenTables<T, J>, OpenFault>
+    requires can_open { CanOpen setup.now }
+    requires workers { (1 ≤ calls.workers) × (calls.workers ≤ 64) }
+    requires clients { (1 ≤ calls.clients) × (calls.clients ≤ 128) }
+    requires name { (calls.opened.first.table_id ≡ J.record_id) × (calls.opened.books ≡ J.books) }
+    requires places { HasPlaces setup.now calls }
+    ensures tables { IfOk result (λ opened. AreDeclared setup.now.shards keep setup.now.tables opened.tables.items) }
+    ensures served { IfOk result (λ opened. AreTablesOf setup.now opened.tables.items) }
+    ensures workers { IfOk result (λ opened. AreSeats (length opened.tables.items) calls.workers opened.workers) }
+    ensures commands { IfOk result (λ opened. AreSeats (length opened.tables.items) calls.clients opened.commands) }
+    ensures keepers { IfOk result (λ opened. length opened.keepers.items ≡ length setup.now.tables) }
+{
+    let CallRecord {
+        opened,
+        workers,
+        clients,
+    } = calls;
+    let Ok(mut dealer) = Dealer::new(alloc, opened) else {
+        return Err(OpenFault::NoMemory);
+    };
+    open_tables(alloc, rt, &mut dealer, setup, workers, clients, keep)
 }

@@ -3,46 +3,40 @@
 ghost use Rattle.std.specs.Prelude.{◌≡◌, ◌≤◌, length, is_some, true};
 ghost use Rattle.admit_drive.specs.Tables.{CanOpen};
 ghost use Rattle.tcp_relay.specs.Serving.{AreSeats, AreTablesOf};
+ghost use Rattle.tcp_proxy.specs.Opened.{HasPlaces};
 
 use crate::ending::{Left, give_up_all, settle_all};
 use crate::instruments::Instruments;
-use crate::keeping::{load_tables, longest_life, save_all};
-use crate::later::Ahead;
-use crate::opening::{OpenTables, open_tables};
-use crate::plan::{Duties, Plan};
-use crate::service_threads::{Duty, NOBODY, ServiceThread};
+use crate::keeping::{load_where, longest_life, save_where};
+use crate::opening::{CallRecord, OpenTables, open_record, open_recorded};
+use crate::plan::Plan;
+use crate::service_threads::{NOBODY, ServiceThread, make_service_threads};
 use crate::serving::serve_all;
 use crate::shared::{ProxyRuntime, Shared};
 use crate::sockets::{Sockets, bind_sockets};
 use base_sequence::NoMemory;
 use log::{Log, info};
 use rule_addresses::Endpoint;
-use rule_model::{Name, Setup};
+use rule_model::Setup;
 use rule_warnings::{StartPlan, Warning, allowed_descriptors, warnings_of};
-use shard_book::Seat;
-use shard_locks::Shards;
+use shard_locks::{Shards, SharedSeat};
+use shard_record::Naming;
 use std::alloc::Global;
+use std::io;
+use std::marker::Brand;
 use std::random::RandomSource;
 use std::rt::Files;
 use std::sync::atomic::AtomicBool;
-use std::time::{Duration, Instant};
-use std::{io, mem};
 use stick_pooled::StickTable;
 use stick_table::Table;
 use tcp_relay::{FaultKind, ServeFault, Served};
 use tcp_watch::Notice;
 
-/// The names of a setup's tables.
-fn names_of(alloc: Global, setup: &Setup) -> Result<Vec<Name>, NoMemory> {
-    let mut names = Vec::new(alloc);
-    for named in setup.tables.as_slice() {
-        names.push(named.name.copy()?)?;
-    }
-    Ok(names)
-}
-
 /// The seats of each table, and one more of each.
-fn with_more(mut seats: Vec<Vec<Seat>>, more: Vec<Seat>) -> Result<Vec<Vec<Seat>>, NoMemory> {
+fn with_more<J: Naming>(
+    mut seats: Vec<Vec<SharedSeat<J>>>,
+    more: Vec<SharedSeat<J>>,
+) -> Result<Vec<Vec<SharedSeat<J>>>, NoMemory> {
     for (place, seat) in more.into_iter().enumerate() {
         if let Some(of_table) = seats.get_mut(place) {
             of_table.push(seat)?;
@@ -52,29 +46,18 @@ fn with_more(mut seats: Vec<Vec<Seat>>, more: Vec<Seat>) -> Result<Vec<Vec<Seat>
 }
 
 /// All seats of each table, with those of the threads beside the listener.
-fn all_seats(
-    mut seats: Vec<Vec<Seat>>,
-    service_threads: Vec<ServiceThread>,
-) -> Result<Vec<Vec<Seat>>, NoMemory> {
+fn all_seats<J: Naming>(
+    mut seats: Vec<Vec<SharedSeat<J>>>,
+    service_threads: Vec<ServiceThread<J>>,
+) -> Result<Vec<Vec<SharedSeat<J>>>, NoMemory> {
     for service_thread in service_threads {
         seats = with_more(seats, service_thread.seats)?;
     }
     Ok(seats)
 }
 
-/// The last seat of each table, which is taken out of its list.
-fn take_one_of_each(alloc: Global, seats: &mut Vec<Vec<Seat>>) -> Result<Vec<Seat>, NoMemory> {
-    let mut taken = Vec::new(alloc);
-    for of_table in seats.iter_mut() {
-        if let Some(seat) = of_table.pop() {
-            taken.push(seat)?;
-        }
-    }
-    Ok(taken)
-}
-
 /// Says why serving ended with a fault.
-fn report<R: Eprint>(rt: &R, kind: FaultKind) -> io::Result<()> {
+pub(crate) fn report<R: Eprint>(rt: &R, kind: FaultKind) -> io::Result<()> {
     match kind {
         FaultKind::Waiting => eprintln!(rt; "stickd: a thread can't wait for connections"),
         FaultKind::Thread => eprintln!(rt; "stickd: a thread can't be started"),
@@ -83,12 +66,12 @@ fn report<R: Eprint>(rt: &R, kind: FaultKind) -> io::Result<()> {
 }
 
 /// Runs the proxy of a setup that has a `bind` and a server: opens its tables, binds its sockets, and serves. It stops once
-/// the connections of the plan have ended, or those that are open as it drains, and then settles the tables and prints what they come
-/// to; or where a thread can't wait for connections. Answers whether all went well; what didn't is said on standard
+/// the connections of the plan have ended, or those that are open as it drains, and then settles the tables and prints what they
+/// come to; or where a thread can't wait for connections. Answers whether all went well; what didn't is said on standard
 /// error. An error is one of printing.
 pub fn run_proxy<
     T: Table + Send,
-    R: ProxyRuntime + Ahead + Files + AllocGlobal + Eprint + RandomSource + Print,
+    R: ProxyRuntime + Files + AllocGlobal + Eprint + RandomSource + Print,
 >(alloc: Global, rt: &R, setup: &Setup, plan: Plan<'_>) -> io::Result<bool>
     requires can_open { CanOpen setup.now }
     requires threads { (1 ≤ plan.threads) × (plan.threads ≤ 64) }
@@ -106,27 +89,59 @@ pub fn run_proxy<
         report(rt, FaultKind::NoMemory)?;
         return Ok(false);
     };
-    let duties = plan.duties(instruments.awaits_signals());
-    let keep = plan.stop_after.is_some();
-    let opened = match open_tables::<T>(alloc, rt, setup, plan.threads, duties.sum(), keep) {
-        Ok(opened) => opened,
-        Err(fault) => {
-            eprintln!(rt; "stickd: {fault}")?;
-            return Ok(false);
-        }
+    let clients = plan.duties(instruments.awaits_signals()).sum();
+    let Some(calls) = open_record(alloc, setup, plan.threads, clients) else {
+        report(rt, FaultKind::NoMemory)?;
+        return Ok(false);
     };
-    start(alloc, rt, setup, bind, plan, &instruments, opened)
+    run_recorded::<Brand, T, R>(alloc, rt, setup, bind, plan, &instruments, calls)
 }
 
-/// Binds the sockets, says what may surprise, and serves by the tables that were opened.
-fn start<T: Table + Send, R: ProxyRuntime + Ahead + Files + AllocGlobal + Eprint + Print>(
+/// Opens the tables, whose calls one record keeps, binds the sockets, and serves.
+fn run_recorded<
+    J: Naming + Send + Sync,
+    T: Table + Send,
+    R: ProxyRuntime + Files + AllocGlobal + Eprint + RandomSource + Print,
+>(
     alloc: Global,
     rt: &R,
     setup: &Setup,
     bind: Endpoint,
     plan: Plan<'_>,
     instruments: &Instruments,
-    opened: OpenTables<T>,
+    calls: CallRecord,
+) -> io::Result<bool>
+    requires can_open { CanOpen setup.now }
+    requires server { is_some setup.now.server ≡ true }
+    requires threads { (1 ≤ plan.threads) × (plan.threads ≤ 64) }
+    requires workers { calls.workers ≡ plan.threads }
+    requires clients { (1 ≤ calls.clients) × (calls.clients ≤ 128) }
+    requires name { (calls.opened.first.table_id ≡ J.record_id) × (calls.opened.books ≡ J.books) }
+    requires places { HasPlaces setup.now calls }
+{
+    let keep = plan.stop_after.is_some();
+    match open_recorded::<T, J>(alloc, rt, setup, calls, keep) {
+        Ok(tables) => start(alloc, rt, setup, bind, plan, instruments, tables),
+        Err(fault) => {
+            eprintln!(rt; "stickd: {fault}")?;
+            Ok(false)
+        }
+    }
+}
+
+/// Binds the sockets, says what may surprise, and serves by the tables that were opened.
+fn start<
+    T: Table + Send,
+    J: Naming + Send + Sync,
+    R: ProxyRuntime + Files + AllocGlobal + Eprint + Print,
+>(
+    alloc: Global,
+    rt: &R,
+    setup: &Setup,
+    bind: Endpoint,
+    plan: Plan<'_>,
+    instruments: &Instruments,
+    opened: OpenTables<T, J>,
 ) -> io::Result<bool>
     requires can_open { CanOpen setup.now }
     requires server { is_some setup.now.server ≡ true }
@@ -152,11 +167,10 @@ fn start<T: Table + Send, R: ProxyRuntime + Ahead + Files + AllocGlobal + Eprint
         report(rt, FaultKind::NoMemory)?;
         return Ok(false);
     };
-    rt.set_ahead(begins_at(setup, plan));
     let Some(mut sockets) = bind_sockets(alloc, rt, bind, plan)? else {
         return Ok(false);
     };
-    sockets.start = earlier(sockets.start, begins_at(setup, plan));
+    sockets.start.moment = begins_at(setup, plan);
     say_warnings(rt, warnings.as_slice());
     serve_and_settle(
         alloc,
@@ -171,54 +185,13 @@ fn start<T: Table + Send, R: ProxyRuntime + Ahead + Files + AllocGlobal + Eprint
     )
 }
 
-/// The moment at which the run begins, in ms: where entries are loaded, the longest life of all, so that each was refreshed since 0.
-fn begins_at(setup: &Setup, plan: Plan<'_>) -> u64 {
+/// The moment at which the run begins, in ms: where entries are loaded, the longest life of all, so that each was refreshed since
+/// 0.
+fn begins_at(setup: &Setup, plan: Plan<'_>) -> u32 {
     match plan.keep.load {
-        Some(_path) => u64::from(longest_life(setup)),
+        Some(_path) => longest_life(setup),
         None => 0,
     }
-}
-
-/// An instant so many ms earlier. The clock that the proxy runs by is ahead by as many.
-fn earlier(start: Instant, by: u64) -> Instant {
-    start
-        .checked_sub(Duration::from_millis(by))
-        .unwrap_or(start)
-}
-
-/// Makes the entries of the plan's file, if it names one, by these seats, which come back. None where that can't be done, which is said.
-fn load_where<T: Table, R: ProxyRuntime + Ahead + Files + AllocGlobal + Eprint>(
-    alloc: Global,
-    rt: &R,
-    setup: &Setup,
-    plan: Plan<'_>,
-    tables: &[Shards<T>],
-    seats: Vec<Seat>,
-) -> io::Result<Option<Vec<Seat>>> {
-    match plan.keep.load {
-        Some(path) => load_tables(alloc, rt, setup, tables, seats, path),
-        None => Ok(Some(seats)),
-    }
-}
-
-/// Writes what the tables hold to the plan's file, if it names one and serving ended well, by the seats of a thread that has ended.
-/// Answers whether nothing is left undone.
-fn save_where<T: Table, R: ProxyRuntime + Ahead + Files + AllocGlobal + Eprint>(
-    alloc: Global,
-    rt: &R,
-    setup: &Setup,
-    plan: Plan<'_>,
-    tables: &[Shards<T>],
-    service_threads: &mut [ServiceThread],
-    start: Instant,
-) -> io::Result<bool> {
-    let (Some(path), Some(thread)) = (plan.keep.save, service_threads.first_mut()) else {
-        return Ok(true);
-    };
-    let seats = mem::replace(&mut thread.seats, Vec::new(alloc));
-    let (seats, is_saved) = save_all(alloc, rt, setup, tables, seats, start, path)?;
-    thread.seats = seats;
-    Ok(is_saved)
 }
 
 /// Says on standard error what may surprise whoever starts it so, a warning a line. Whether that can be said changes nothing.
@@ -247,16 +220,16 @@ fn start_plan(plan: Plan<'_>, descriptors: Option<u64>) -> StartPlan
 
 /// How serving ended: the fault, if any; how many connections were admitted, rejected, and not accepted; and what the threads
 /// that served them have left.
-struct Ended {
+struct Ended<J: Naming> {
     fault: Option<FaultKind>,
     admitted: u64,
     rejected: u64,
     unaccepted: u64,
-    left: Left,
+    left: Left<J>,
 }
 
 /// How serving ended.
-fn end_of(served: Result<Served, ServeFault>) -> Ended {
+fn end_of<J: Naming>(served: Result<Served<J>, ServeFault<J>>) -> Ended<J> {
     let (fault, served) = match served {
         Ok(served) => (None, served),
         Err(ServeFault { kind, served }) => (Some(kind), served),
@@ -277,35 +250,8 @@ fn end_of(served: Result<Served, ServeFault>) -> Ended {
     }
 }
 
-/// The threads beside the listener, by their duties, and the one that does the housekeeping. All have their memory.
-fn make_service_threads(
-    alloc: Global,
-    setup: &Setup,
-    duties: Duties,
-    mut seats: Vec<Vec<Seat>>,
-    keepers: Vec<Seat>,
-) -> Result<Vec<ServiceThread>, NoMemory> {
-    let mut service_threads = Vec::new(alloc);
-    let counts = [
-        (Duty::Commands, duties.commands),
-        (Duty::Stats, duties.stats),
-        (Duty::Metrics, duties.metrics),
-        (Duty::Reporting, duties.reporting),
-    ];
-    for (duty, count) in counts {
-        for _ in 0..count {
-            let names = names_of(alloc, setup)?;
-            let seats = take_one_of_each(alloc, &mut seats)?;
-            service_threads.push(ServiceThread::new(duty, names, seats))?;
-        }
-    }
-    let names = Vec::new(alloc);
-    service_threads.push(ServiceThread::new(Duty::Housekeeping, names, keepers))?;
-    Ok(service_threads)
-}
-
 /// The same on pooled tables, of which an event costs the same whatever their size.
-pub fn run_pooled<R: ProxyRuntime + Ahead + Files + AllocGlobal + Eprint + RandomSource + Print>(
+pub fn run_pooled<R: ProxyRuntime + Files + AllocGlobal + Eprint + RandomSource + Print>(
     alloc: Global,
     rt: &R,
     setup: &Setup,
@@ -321,7 +267,8 @@ pub fn run_pooled<R: ProxyRuntime + Ahead + Files + AllocGlobal + Eprint + Rando
 /// Serves, removes the sockets' files, and then settles the tables.
 fn serve_and_settle<
     T: Table + Send,
-    R: ProxyRuntime + Ahead + Files + AllocGlobal + Eprint + Print,
+    J: Naming + Send + Sync,
+    R: ProxyRuntime + Files + AllocGlobal + Eprint + Print,
 >(
     alloc: Global,
     rt: &R,
@@ -329,9 +276,9 @@ fn serve_and_settle<
     plan: Plan<'_>,
     sockets: &Sockets,
     instruments: &Instruments,
-    tables: Vec<Shards<T>>,
-    workers: Vec<Vec<Seat>>,
-    mut service_threads: Vec<ServiceThread>,
+    tables: Vec<Shards<T, J>>,
+    workers: Vec<Vec<SharedSeat<J>>>,
+    mut service_threads: Vec<ServiceThread<J>>,
 ) -> io::Result<bool>
     requires server { is_some setup.now.server ≡ true }
     requires tables { AreTablesOf setup.now tables.items }
@@ -339,7 +286,7 @@ fn serve_and_settle<
     requires threads { (1 ≤ plan.threads) × (plan.threads ≤ 64) }
 {
     let stop = AtomicBool::new(false);
-    let running = instruments.running(rt, plan, sockets, begins_at(setup, plan));
+    let running = instruments.running(rt, plan, sockets);
     running.notify(Notice::Ready.bytes());
     let shared = Shared {
         alloc,
@@ -378,7 +325,7 @@ fn serve_and_settle<
 }
 
 /// Says what the clients of the command socket came to, on all threads together.
-fn log_clients<R: Log>(rt: &R, service_threads: &[ServiceThread]) {
+fn log_clients<J: Naming, R: Log>(rt: &R, service_threads: &[ServiceThread<J>]) {
     let mut all = NOBODY;
     for service_thread in service_threads {
         all = all.with(service_thread.served);
@@ -389,13 +336,13 @@ fn log_clients<R: Log>(rt: &R, service_threads: &[ServiceThread]) {
 
 /// Says how serving ended, and settles the tables where it ended well: by their receipts where those were kept, else by counts and
 /// references.
-fn settle_where<T: Table, R: ProxyRuntime + Ahead + Files + AllocGlobal + Eprint + Print>(
+fn settle_where<T: Table, J: Naming, R: ProxyRuntime + Files + AllocGlobal + Eprint + Print>(
     alloc: Global,
     rt: &R,
     setup: &Setup,
-    tables: Vec<Shards<T>>,
-    ended: Ended,
-    service_threads: Vec<ServiceThread>,
+    tables: Vec<Shards<T, J>>,
+    ended: Ended<J>,
+    service_threads: Vec<ServiceThread<J>>,
 ) -> io::Result<bool> {
     let Ended {
         fault,

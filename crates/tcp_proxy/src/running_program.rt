@@ -5,11 +5,11 @@ ghost use Rattle.tcp_proxy.specs.Draining.{shutdown_of};
 
 use crate::plan::About;
 use crate::reporting::Reports;
-use base_clock::{Clock, RunningClock};
+use base_clock::{Clock, RunningClock, Start};
 use std::net::{Net, TcpListener};
 use std::os::unix::net::UnixListener;
 use std::sync::atomic::{AtomicU64, Ordering};
-use std::time::{self, Instant};
+use std::time;
 use tcp_relay::{Control, Listener};
 use tcp_stats::{Count, Counts, Rate, Snapshot, TableFacts};
 use tcp_watch::{Notice, Notifier, ProcessStatus, Program, Shutdown};
@@ -142,9 +142,8 @@ pub(crate) struct Running<'a, R> {
     pub reports: Reports,
     /// Where a signal that stops the run may wait, if one may.
     pub status: Option<&'a ProcessStatus>,
-    /// The moment 0, and that at which the run began.
-    pub start: Instant,
-    pub begins_at: u64,
+    /// Where its clocks begin.
+    pub start: Start,
 }
 
 impl<'a, R: Net + time::Clock> Running<'a, R> {
@@ -197,7 +196,7 @@ impl<'r, R: Net + time::Clock> Program for Running<'r, R> {
             release_date: self.about.release_date,
             pid: u32::try_from(libc::getpid()).unwrap_or(0),
             node: self.node,
-            uptime_ms: self.now().saturating_sub(self.begins_at),
+            uptime_ms: self.now().saturating_sub(u64::from(self.start.moment)),
             threads: u64::from(self.threads),
             is_draining: self.control.drain.has_begun(),
             limit: u64::from(self.connections),

@@ -1,15 +1,18 @@
-//! The threads beside the listener: one does housekeeping, one reports, others answer clients of the sockets; `running` makes them, and
-//! `serving` starts them.
+//! The threads beside the listener: one does housekeeping, one reports, others answer clients of the sockets; `running` makes them,
+//! and `serving` starts them.
 
 use crate::counted::Counted;
 use crate::housekeeping::keep_tables;
+use crate::plan::Duties;
 use crate::reporting::report_on;
 use crate::running_program::{Running, ServiceCounts};
 use crate::shared::{ProxyRuntime, Shared};
 use base_clock::{Clock, RunningClock};
-use rule_model::Name;
-use shard_book::{Keeper, Named, Seat};
-use shard_locks::Seated;
+use base_sequence::NoMemory;
+use rule_model::{Name, Setup};
+use shard_book::{Keeper, Named};
+use shard_locks::{Seated, SharedSeat};
+use shard_record::Naming;
 use std::alloc::Global;
 use std::net::TcpListener;
 use std::os::unix::net::UnixListener;
@@ -56,16 +59,16 @@ pub(crate) enum Duty {
 /// A thread beside the listener: its seat of each table, the tables' names where it asks them by name, and what it has counted of
 /// clients that sent commands once it ends.
 #[derive(Drop)]
-pub(crate) struct ServiceThread {
+pub(crate) struct ServiceThread<J: Naming> {
     pub duty: Duty,
     pub names: Vec<Name>,
-    pub seats: Vec<Seat>,
+    pub seats: Vec<SharedSeat<J>>,
     pub served: Served,
 }
 
-impl ServiceThread {
+impl<J: Naming> ServiceThread<J> {
     /// A thread with this duty.
-    pub fn new(duty: Duty, names: Vec<Name>, seats: Vec<Seat>) -> ServiceThread {
+    pub fn new(duty: Duty, names: Vec<Name>, seats: Vec<SharedSeat<J>>) -> ServiceThread<J> {
         ServiceThread {
             duty,
             names,
@@ -75,7 +78,7 @@ impl ServiceThread {
     }
 
     /// Does its duty until the proxy stops. Its seats come back with their calls.
-    pub fn run<T: Table, R: ProxyRuntime>(&mut self, shared: &Shared<'_, T, R>) {
+    pub fn run<T: Table, R: ProxyRuntime>(&mut self, shared: &Shared<'_, T, J, R>) {
         let seats = mem::replace(&mut self.seats, Vec::new(shared.alloc));
         let names = mem::replace(&mut self.names, Vec::new(shared.alloc));
         self.seats = match self.duty {
@@ -89,19 +92,20 @@ impl ServiceThread {
 }
 
 /// A table as a thread asks it, by its seat.
-pub(crate) type SeatedTable<'a, T, R> = Named<Seated<'a, T, R>>;
+pub(crate) type SeatedTable<'a, T, J, R> = Named<Seated<'a, T, J, R>>;
 
 /// Tables that are asked, and a place for each of their seats.
-struct Asked<'a, T: Table, R> {
-    tables: Vec<SeatedTable<'a, T, R>>,
-    back: Vec<Seat>,
+#[derive(Drop)]
+pub(crate) struct Asked<'a, T: Table, J: Naming, R> {
+    pub tables: Vec<SeatedTable<'a, T, J, R>>,
+    pub back: Vec<SharedSeat<J>>,
 }
 
 /// Empty lists for so many, once there is memory for them. None where the proxy stops before.
-fn await_memory<'a, T: Table, R: ProxyRuntime>(
-    shared: &Shared<'a, T, R>,
+fn await_memory<'a, T: Table, J: Naming, R: ProxyRuntime>(
+    shared: &Shared<'a, T, J, R>,
     count: usize,
-) -> Option<Asked<'a, T, R>> {
+) -> Option<Asked<'a, T, J, R>> {
     for _try in shared.rt.forever() {
         let tables = Vec::with_capacity(shared.alloc, count);
         let back = Vec::with_capacity(shared.alloc, count);
@@ -117,11 +121,11 @@ fn await_memory<'a, T: Table, R: ProxyRuntime>(
 }
 
 /// Seats a thread at the tables. Its seats come back where the proxy stops before there is memory for it.
-fn seat<'a, T: Table, R: ProxyRuntime>(
-    shared: &Shared<'a, T, R>,
+fn seat<'a, T: Table, J: Naming, R: ProxyRuntime>(
+    shared: &Shared<'a, T, J, R>,
     names: Vec<Name>,
-    seats: Vec<Seat>,
-) -> Result<Asked<'a, T, R>, Vec<Seat>> {
+    seats: Vec<SharedSeat<J>>,
+) -> Result<Asked<'a, T, J, R>, Vec<SharedSeat<J>>> {
     let count = seats.as_slice().len();
     let Some(mut asked) = await_memory(shared, count) else {
         return Err(seats);
@@ -138,10 +142,10 @@ fn seat<'a, T: Table, R: ProxyRuntime>(
 }
 
 /// The seats of tables that are asked no more.
-fn seats_of<T: Table, R: ProxyRuntime>(
-    tables: Vec<SeatedTable<'_, T, R>>,
-    mut back: Vec<Seat>,
-) -> Vec<Seat> {
+pub(crate) fn seats_of<T: Table, J: Naming, R>(
+    tables: Vec<SeatedTable<'_, T, J, R>>,
+    mut back: Vec<SharedSeat<J>>,
+) -> Vec<SharedSeat<J>> {
     for named in tables {
         // The place is there.
         let _ = back.push(named.keeper.into_seat());
@@ -189,12 +193,12 @@ fn serve_scrapes<K: Keeper, C: Clock + Drop, P: Program, R: Wait + time::Clock>(
 }
 
 /// Answers the commands of the command socket's clients, and counts them.
-fn answer_commands<T: Table, R: ProxyRuntime>(
-    shared: &Shared<'_, T, R>,
+fn answer_commands<T: Table, J: Naming, R: ProxyRuntime>(
+    shared: &Shared<'_, T, J, R>,
     names: Vec<Name>,
-    seats: Vec<Seat>,
+    seats: Vec<SharedSeat<J>>,
     served: &mut Served,
-) -> Vec<Seat> {
+) -> Vec<SharedSeat<J>> {
     let Asked { tables, back } = match seat(shared, names, seats) {
         Ok(asked) => asked,
         Err(seats) => return seats,
@@ -215,10 +219,10 @@ fn answer_commands<T: Table, R: ProxyRuntime>(
 }
 
 /// What tells of the running proxy by these tables.
-fn teller_of<'a, T: Table, R: ProxyRuntime>(
-    shared: &Shared<'a, T, R>,
-    tables: Vec<SeatedTable<'a, T, R>>,
-) -> Teller<'a, Seated<'a, T, R>, RunningClock<'a, R>, Running<'a, R>> {
+fn teller_of<'a, T: Table, J: Naming, R: ProxyRuntime>(
+    shared: &Shared<'a, T, J, R>,
+    tables: Vec<SeatedTable<'a, T, J, R>>,
+) -> Teller<'a, Seated<'a, T, J, R>, RunningClock<'a, R>, Running<'a, R>> {
     Teller {
         alloc: shared.alloc,
         tables,
@@ -228,11 +232,11 @@ fn teller_of<'a, T: Table, R: ProxyRuntime>(
 }
 
 /// Answers the clients of the stats socket.
-fn answer_stats<T: Table, R: ProxyRuntime>(
-    shared: &Shared<'_, T, R>,
+fn answer_stats<T: Table, J: Naming, R: ProxyRuntime>(
+    shared: &Shared<'_, T, J, R>,
     names: Vec<Name>,
-    seats: Vec<Seat>,
-) -> Vec<Seat> {
+    seats: Vec<SharedSeat<J>>,
+) -> Vec<SharedSeat<J>> {
     let Some(listener) = shared.running.stats else {
         return seats;
     };
@@ -251,11 +255,11 @@ fn answer_stats<T: Table, R: ProxyRuntime>(
 }
 
 /// Answers the clients that scrape metrics.
-fn answer_scrapes<T: Table, R: ProxyRuntime>(
-    shared: &Shared<'_, T, R>,
+fn answer_scrapes<T: Table, J: Naming, R: ProxyRuntime>(
+    shared: &Shared<'_, T, J, R>,
     names: Vec<Name>,
-    seats: Vec<Seat>,
-) -> Vec<Seat> {
+    seats: Vec<SharedSeat<J>>,
+) -> Vec<SharedSeat<J>> {
     let Some(listener) = shared.running.metrics else {
         return seats;
     };
@@ -268,11 +272,11 @@ fn answer_scrapes<T: Table, R: ProxyRuntime>(
 }
 
 /// Reports until the proxy stops.
-fn report_seated<T: Table, R: ProxyRuntime>(
-    shared: &Shared<'_, T, R>,
+fn report_seated<T: Table, J: Naming, R: ProxyRuntime>(
+    shared: &Shared<'_, T, J, R>,
     names: Vec<Name>,
-    seats: Vec<Seat>,
-) -> Vec<Seat> {
+    seats: Vec<SharedSeat<J>>,
+) -> Vec<SharedSeat<J>> {
     let Asked { tables, back } = match seat(shared, names, seats) {
         Ok(asked) => asked,
         Err(seats) => return seats,
@@ -280,4 +284,54 @@ fn report_seated<T: Table, R: ProxyRuntime>(
     let mut teller = teller_of(shared, tables);
     report_on(shared.running, &mut teller, shared.stop);
     seats_of(teller.tables, back)
+}
+
+/// The names of a setup's tables.
+fn names_of(alloc: Global, setup: &Setup) -> Result<Vec<Name>, NoMemory> {
+    let mut names = Vec::new(alloc);
+    for named in setup.tables.as_slice() {
+        names.push(named.name.copy()?)?;
+    }
+    Ok(names)
+}
+
+/// The last seat of each table, which is taken out of its list.
+fn take_one_of_each<J: Naming>(
+    alloc: Global,
+    seats: &mut Vec<Vec<SharedSeat<J>>>,
+) -> Result<Vec<SharedSeat<J>>, NoMemory> {
+    let mut taken = Vec::new(alloc);
+    for of_table in seats.iter_mut() {
+        if let Some(seat) = of_table.pop() {
+            taken.push(seat)?;
+        }
+    }
+    Ok(taken)
+}
+
+/// The threads beside the listener, by their duties, and the one that does the housekeeping. All have their memory.
+pub(crate) fn make_service_threads<J: Naming>(
+    alloc: Global,
+    setup: &Setup,
+    duties: Duties,
+    mut seats: Vec<Vec<SharedSeat<J>>>,
+    keepers: Vec<SharedSeat<J>>,
+) -> Result<Vec<ServiceThread<J>>, NoMemory> {
+    let mut service_threads = Vec::new(alloc);
+    let counts = [
+        (Duty::Commands, duties.commands),
+        (Duty::Stats, duties.stats),
+        (Duty::Metrics, duties.metrics),
+        (Duty::Reporting, duties.reporting),
+    ];
+    for (duty, count) in counts {
+        for _ in 0..count {
+            let names = names_of(alloc, setup)?;
+            let seats = take_one_of_each(alloc, &mut seats)?;
+            service_threads.push(ServiceThread::new(duty, names, seats))?;
+        }
+    }
+    let names = Vec::new(alloc);
+    service_threads.push(ServiceThread::new(Duty::Housekeeping, names, keepers))?;
+    Ok(service_threads)
 }

@@ -5,7 +5,8 @@ ghost use Rattle.tcp_relay.specs.Serving.{AreSeats};
 
 use crate::service_threads::ServiceThread;
 use crate::shared::{ProxyRuntime, Shared};
-use shard_book::Seat;
+use shard_locks::SharedSeat;
+use shard_record::Naming;
 use std::alloc::Global;
 use std::sync::atomic::Ordering;
 use std::thread;
@@ -21,7 +22,7 @@ impl Gate for Open {
 }
 
 /// The fault of a thread that can't be started, before any connection was served.
-fn unserved(alloc: Global, seats: Vec<Vec<Seat>>) -> ServeFault {
+fn unserved<J: Naming>(alloc: Global, seats: Vec<Vec<SharedSeat<J>>>) -> ServeFault<J> {
     ServeFault {
         kind: FaultKind::Thread,
         served: Served {
@@ -35,10 +36,10 @@ fn unserved(alloc: Global, seats: Vec<Vec<Seat>>) -> ServeFault {
 }
 
 /// Starts the threads beside the listener. Answers whether all could be started.
-fn start_all<'s, E, T: Table + Send, R: ProxyRuntime>(
+fn start_all<'s, J: Naming + Send + Sync, E, T: Table + Send, R: ProxyRuntime>(
     scope: &Scope<'s, E>,
-    shared: &'s Shared<'_, T, R>,
-    service_threads: &'s mut [ServiceThread],
+    shared: &'s Shared<'_, T, J, R>,
+    service_threads: &'s mut [ServiceThread<J>],
 ) -> bool {
     for service_thread in service_threads.iter_mut() {
         if scope.spawn(move || service_thread.run(shared)).is_err() {
@@ -50,17 +51,17 @@ fn start_all<'s, E, T: Table + Send, R: ProxyRuntime>(
 
 /// Serves connections until serving stops, with commands and housekeeping beside it. All seats come back, those of the threads
 /// beside it in their own lists.
-pub(crate) fn serve_all<T: Table + Send, R: ProxyRuntime>(
-    shared: &Shared<'_, T, R>,
-    seats: Vec<Vec<Seat>>,
-    service_threads: &mut [ServiceThread],
-) -> Result<Served, ServeFault>
+pub(crate) fn serve_all<T: Table + Send, J: Naming + Send + Sync, R: ProxyRuntime>(
+    shared: &Shared<'_, T, J, R>,
+    seats: Vec<Vec<SharedSeat<J>>>,
+    service_threads: &mut [ServiceThread<J>],
+) -> Result<Served<J>, ServeFault<J>>
     requires seats { AreSeats (length shared.now.tables.now) shared.now.threads seats }
 {
     thread::scope(
         thread::scope_env(),
         shared.rt,
-        |scope| -> Result<Served, ServeFault>
+        |scope| -> Result<Served<J>, ServeFault<J>>
             requires seats { AreSeats (length shared.now.tables.now) shared.now.threads seats }
         {
             let all_started = start_all(scope, shared, service_threads);
@@ -73,11 +74,11 @@ pub(crate) fn serve_all<T: Table + Send, R: ProxyRuntime>(
 }
 
 /// Serves connections, where all threads beside the listener could be started.
-fn serve_where<T: Table + Send, R: ProxyRuntime>(
-    shared: &Shared<'_, T, R>,
-    seats: Vec<Vec<Seat>>,
+fn serve_where<T: Table + Send, J: Naming + Send + Sync, R: ProxyRuntime>(
+    shared: &Shared<'_, T, J, R>,
+    seats: Vec<Vec<SharedSeat<J>>>,
     all_started: bool,
-) -> Result<Served, ServeFault>
+) -> Result<Served<J>, ServeFault<J>>
     requires seats { AreSeats (length shared.now.tables.now) shared.now.threads seats }
 {
     if !all_started {

@@ -4,16 +4,18 @@ ghost use Rattle.std.specs.Prelude.{◌≡◌, ◌≤◌, is_some, true};
 ghost use Rattle.tcp_relay.specs.Serving.{AreTablesOf};
 
 use crate::running_program::Running;
+use base_clock::Start;
 use log::Log;
 use rule_model::Setup;
 use shard_locks::Shards;
+use shard_record::Naming;
 use std::alloc::Global;
 use std::net::{Net, TcpListener, TcpStream};
 use std::os::unix::net::UnixListener;
 use std::sync::Wait;
 use std::sync::atomic::AtomicBool;
 use std::thread::Threads;
-use std::time::{Clock, Instant};
+use std::time::Clock;
 use stick_table::Table;
 use tcp_relay::{Limits, Listener};
 
@@ -32,11 +34,11 @@ impl<
 
 /// What the threads of the proxy share, each by reference: the tables of its setup, its sockets, and whether it stops.
 #[derive(Drop)]
-pub(crate) struct Shared<'a, T: Table, R> {
+pub(crate) struct Shared<'a, T: Table, J: Naming, R> {
     pub alloc: Global,
     pub rt: &'a R,
     pub setup: &'a Setup,
-    pub tables: &'a [Shards<T>],
+    pub tables: &'a [Shards<T, J>],
     pub listeners: &'a [Listener],
     pub socket: &'a UnixListener,
     /// How long a client of the socket may send or take nothing, in ms.
@@ -48,8 +50,8 @@ pub(crate) struct Shared<'a, T: Table, R> {
     pub stop_after: Option<u64>,
     /// A shard's record begins again once it has so many calls.
     pub roll_at: u64,
-    /// The moment 0.
-    pub start: Instant,
+    /// Where the threads' clocks begin.
+    pub start: Start,
     /// What is known of the run, and who looks at it.
     pub running: &'a Running<'a, R>,
     pub stop: &'a AtomicBool,

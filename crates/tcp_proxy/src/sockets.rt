@@ -1,10 +1,10 @@
 //! Where connections and commands come in, and those that look at the proxy; `running` binds all by it.
 
 use crate::binding::{BindFault, say_unbound};
-use crate::later::Ahead;
 use crate::listeners::bind_listeners;
 use crate::plan::{Plan, SocketPlan, StatsPlan};
 use crate::shared::ProxyRuntime;
+use base_clock::Start;
 use base_lines::read_number;
 use log::{Log, info};
 use rule_addresses::Endpoint;
@@ -36,12 +36,12 @@ pub(crate) struct Sockets {
     pub socket: Socket,
     pub stats: Option<Socket>,
     pub metrics: Option<TcpListener>,
-    /// The moment 0.
-    pub start: Instant,
+    /// Where the clocks begin.
+    pub start: Start,
 }
 
 /// Binds all, or takes what is handed over. None where one can't be bound, which is said on standard error.
-pub(crate) fn bind_sockets<R: ProxyRuntime + Ahead + Files + AllocGlobal + Eprint>(
+pub(crate) fn bind_sockets<R: ProxyRuntime + Files + AllocGlobal + Eprint>(
     alloc: Global,
     rt: &R,
     bind: Endpoint,
@@ -55,7 +55,7 @@ pub(crate) fn bind_sockets<R: ProxyRuntime + Ahead + Files + AllocGlobal + Eprin
 }
 
 /// Binds all. Where one can't be bound, the files of those before it stay, and the next start replaces them.
-fn bind_all<R: ProxyRuntime + Ahead + Files + AllocGlobal + Eprint>(
+fn bind_all<R: ProxyRuntime + Files + AllocGlobal + Eprint>(
     alloc: Global,
     rt: &R,
     bind: Endpoint,
@@ -72,7 +72,7 @@ fn bind_all<R: ProxyRuntime + Ahead + Files + AllocGlobal + Eprint>(
         (None, Some(stats)) => Some(bind_stats(rt, stats)?),
         (None, None) => None,
     };
-    let start = Instant::now(rt)?;
+    let start = Start::at(Instant::now(rt)?);
     let path = plan.socket.path;
     let socket = match plan.manager.handed.commands {
         Some(number) => take_socket(rt, number)?,
@@ -89,7 +89,7 @@ fn bind_all<R: ProxyRuntime + Ahead + Files + AllocGlobal + Eprint>(
 }
 
 /// Says where clients come in.
-fn say_places<R: ProxyRuntime + Ahead + Files + AllocGlobal + Eprint>(
+fn say_places<R: ProxyRuntime + Files + AllocGlobal + Eprint>(
     rt: &R,
     bind: Endpoint,
     plan: Plan<'_>,
@@ -112,7 +112,7 @@ fn say_places<R: ProxyRuntime + Ahead + Files + AllocGlobal + Eprint>(
 }
 
 /// Binds a Unix socket at a path.
-fn bind_unix<R: ProxyRuntime + Ahead + Files + AllocGlobal + Eprint>(
+fn bind_unix<R: ProxyRuntime + Files + AllocGlobal + Eprint>(
     rt: &R,
     path: &str,
     access: Access,
@@ -127,7 +127,7 @@ fn bind_unix<R: ProxyRuntime + Ahead + Files + AllocGlobal + Eprint>(
 }
 
 /// Binds the stats socket.
-fn bind_stats<R: ProxyRuntime + Ahead + Files + AllocGlobal + Eprint>(
+fn bind_stats<R: ProxyRuntime + Files + AllocGlobal + Eprint>(
     rt: &R,
     stats: StatsPlan<'_>,
 ) -> Result<Socket, BindFault> {
@@ -139,7 +139,7 @@ fn bind_stats<R: ProxyRuntime + Ahead + Files + AllocGlobal + Eprint>(
 }
 
 /// Takes a Unix socket that the service manager hands over, whose file is the manager's own.
-fn take_socket<R: ProxyRuntime + Ahead + Files + AllocGlobal + Eprint>(
+fn take_socket<R: ProxyRuntime + Files + AllocGlobal + Eprint>(
     rt: &R,
     number: u32,
 ) -> Result<Socket, BindFault> {
@@ -158,7 +158,7 @@ fn take_patient(number: u32) -> io::Result<UnixListener> {
 }
 
 /// Binds the listener at which metrics are scraped.
-fn bind_metrics<R: ProxyRuntime + Ahead + Files + AllocGlobal + Eprint>(
+fn bind_metrics<R: ProxyRuntime + Files + AllocGlobal + Eprint>(
     rt: &R,
     place: Endpoint,
 ) -> Result<TcpListener, BindFault> {
@@ -169,7 +169,7 @@ fn bind_metrics<R: ProxyRuntime + Ahead + Files + AllocGlobal + Eprint>(
 }
 
 /// A TCP listener at which clients are waited for no longer than a patience each time.
-fn bind_patient<R: ProxyRuntime + Ahead + Files + AllocGlobal + Eprint>(
+fn bind_patient<R: ProxyRuntime + Files + AllocGlobal + Eprint>(
     rt: &R,
     place: Endpoint,
 ) -> io::Result<TcpListener> {
@@ -178,11 +178,7 @@ fn bind_patient<R: ProxyRuntime + Ahead + Files + AllocGlobal + Eprint>(
 
 impl Socket {
     /// Removes the file that was made for the socket at this path.
-    fn remove_file<R: ProxyRuntime + Ahead + Files + AllocGlobal + Eprint>(
-        &self,
-        rt: &R,
-        path: &str,
-    ) {
+    fn remove_file<R: ProxyRuntime + Files + AllocGlobal + Eprint>(&self, rt: &R, path: &str) {
         if let Some(file) = self.file {
             remove_own(rt, path, file);
         }
@@ -191,7 +187,7 @@ impl Socket {
 
 impl Sockets {
     /// Removes the files that were made.
-    pub fn remove_files<R: ProxyRuntime + Ahead + Files + AllocGlobal + Eprint>(
+    pub fn remove_files<R: ProxyRuntime + Files + AllocGlobal + Eprint>(
         &self,
         rt: &R,
         plan: Plan<'_>,
@@ -204,7 +200,7 @@ impl Sockets {
 }
 
 /// Who may connect to the command socket.
-fn access_of<R: ProxyRuntime + Ahead + Files + AllocGlobal + Eprint>(
+fn access_of<R: ProxyRuntime + Files + AllocGlobal + Eprint>(
     rt: &R,
     socket: SocketPlan<'_>,
 ) -> Result<Access, BindFault> {
@@ -225,10 +221,7 @@ fn access_of<R: ProxyRuntime + Ahead + Files + AllocGlobal + Eprint>(
 }
 
 /// The number of a group that is named by its number, or else by its name in /etc/group.
-fn find_group<R: ProxyRuntime + Ahead + Files + AllocGlobal + Eprint>(
-    rt: &R,
-    word: &str,
-) -> Option<u32> {
+fn find_group<R: ProxyRuntime + Files + AllocGlobal + Eprint>(rt: &R, word: &str) -> Option<u32> {
     if let Some(number) = read_number(word.as_bytes()) {
         return u32::try_from(number).ok();
     }

@@ -22,6 +22,7 @@ use Rattle.admit_port.proofs.CommonLemmas.{setup_same}
 use Rattle.admit_port.specs.DriveCode.{CanGoOn, IsConnection}
 use Rattle.admit_port.specs.Ports.{ArePorts, HoldsOf, parts_of}
 use Rattle.tcp_relay.specs.Connections.{IsVisitor}
+use Rattle.tcp_relay.specs.Passed.{HasPassedLimits, HavePassedStill}
 use Rattle.tcp_relay.specs.Seating.{AreIn}
 
 abbrev shards_of : SeatedState → ℕ
@@ -97,7 +98,7 @@ visitor tables shards (one ∷ more) conn count each living can = record {
   given = can.given;
 }
 
-abbrev ports_of : List SeatedState → List SeatedState
+abbrev pub ports_of : List SeatedState → List SeatedState
 ports_of seated = map (λ (one : SeatedState). one) seated
 
 -- a worker's tables by their seats, lent as ports
@@ -116,8 +117,20 @@ module _ (tables shards : ℕ) (seated : Vec SeatedState Global) (lent : List Se
     as_many : length new ≡ vec_len seated
     as_many = sym (length-map new shards_of) ∙ ap length same_parts ∙ length-map seated.items shards_of ∙ ap length (sym value) ∙ len
 
+    same_items : take (vec_len seated) (new ++ drop (length new) seated.items) ≡ new
+    same_items = ap (λ n. take n (new ++ drop (length new) seated.items)) (sym as_many) ∙ take-append-le (length new) new (drop (length new) seated.items) (omega arith) ∙ take-length new
+
     pub each_still : AreIn shards_of shards (take (vec_len seated) (new ++ drop (length new) seated.items))
-    each_still = subst (AreIn shards_of shards) (sym (ap (λ n. take n (new ++ drop (length new) seated.items)) (sym as_many) ∙ take-append-le (length new) new (drop (length new) seated.items) (omega arith) ∙ take-length new)) (in_shards shards seated.items new same_parts each)
+    each_still = subst (AreIn shards_of shards) (sym same_items) (in_shards shards seated.items new same_parts each)
+
+    -- what has passed by the ports has passed by the seats
+    pub passed_still : (setup : Setup) (samples : Samples) (conn : Conn RefState) → HasPassedLimits setup samples (ports_of new) conn → HasPassedLimits setup samples (take (vec_len seated) (new ++ drop (length new) seated.items)) conn
+    passed_still setup samples conn passed = subst (λ seats. HasPassedLimits setup samples seats conn) (same_ports new ∙ sym same_items) passed
+
+    pub still_passed : HavePassedStill (ports_of lent) (ports_of new) → HavePassedStill seated.items (take (vec_len seated) (new ++ drop (length new) seated.items))
+    still_passed still =
+        subst (λ seats. HavePassedStill seats (take (vec_len seated) (new ++ drop (length new) seated.items))) (same_ports lent ∙ value)
+        (subst (HavePassedStill (ports_of lent)) (same_ports new ∙ sym same_items) still)
 
     pub visitor_still : (conn : Conn RefState) → IsConnection conn → CanGoOn seated_meaning (ports_of new) conn → IsVisitor tables shards conn
     visitor_still conn living can = visitor tables shards new conn (as_many ∙ count) (in_shards shards seated.items new same_parts each) living (subst (λ ports. CanGoOn seated_meaning ports conn) (same_ports new) can)

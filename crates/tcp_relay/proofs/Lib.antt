@@ -5,3 +5,11 @@ pub mod ServingLemmas
 mod LookLemmas
 mod ShareLemmas
 mod DrainLemmas
+mod PassedCalls
+mod PassedTold
+mod PassedLooks
+mod PassedHeld
+mod PassedSeats
+mod PassedHeard
+mod PassedGoes
+mod PassedStays

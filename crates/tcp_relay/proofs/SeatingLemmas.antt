@@ -6,7 +6,7 @@ use Rattle.std.proofs.lemmas.Bool.{cases_Bool, ltb-true}
 use Rattle.std.proofs.lemmas.List.{map_push, take_more}
 use Rattle.std.proofs.lemmas.List.Elements.{AllWithin-more_set}
 use Rattle.std.proofs.lemmas.Option.{slice_get-map}
-use Rattle.shard_book.specs.SeatState.{SeatState}
+use Rattle.shard_locks.specs.Shared.{SharedSeatState}
 use Rattle.shard_locks.specs.ShardsState.{SeatedState, ShardsState}
 use Rattle.tcp_relay.specs.Seating.{AreIn, Has, HaveFew, HaveRoom, held_in, put_in}
 
@@ -63,9 +63,14 @@ more_back {X = X} {Z = Z} lists place less before all list grown within same one
       ],
     )
 
+-- none stand for none
+pub none_in : {X Y : Type 0} (xs : List X) (part : X → Y) → length xs ≡ 0 → map part xs ≡ []
+none_in [] part none = refl
+none_in (x ∷ xs) part none = absurd (omega (arith, none))
+
 -- the row has one table more
-pub row_more : (tables : List ShardsState) (place : ℕ) (row new : List SeatedState) (one : SeatedState) (table : ShardsState) (seat : SeatState) → place < length tables → map table_in row ≡ take place tables → new ≡ row ++ one ∷ []
-    → one ≡ record { table = table; seat = seat } → table ≡ get_or tables place table → map table_in new ≡ take (place + 1) tables
+pub row_more : (tables : List ShardsState) (place : ℕ) (row new : List SeatedState) (one : SeatedState) (table : ShardsState) (seat : SharedSeatState) → place < length tables → map table_in row ≡ take place tables → new ≡ row ++ one ∷ []
+    → one ≡ record { table = table; seat = seat.seat; known = seat.known } → table ≡ get_or tables place table → map table_in new ≡ take (place + 1) tables
 row_more tables place row new one table seat within so_far grown is at =
     ap (map table_in) grown ∙ map_push table_in row one ∙ ap (λ those. those ++ one.table ∷ []) so_far ∙ ap (λ (t : ShardsState). take place tables ++ t ∷ []) (ap table_in is ∙ at) ∙ sym (take_more tables place table within)
 

@@ -8,6 +8,8 @@ pub mod Fates
 pub mod ListenerTurns
 pub mod Listening
 pub mod Numbers
+pub mod Passed
 pub mod Seating
 pub mod Serving
 pub mod Sweeps
+pub mod Meeting

@@ -3,7 +3,7 @@ use Rattle.std.specs.Prelude.{◌≡◌, ◌≤◌, ◌*◌, ℕ, Bool, true, fa
 use Rattle.std.specs.declared.vec.Vec.{Vec}
 use Rattle.std.specs.declared.alloc.Global.{Global}
 use Rattle.rule_model.specs.declared.sections.Setup.{Setup}
-use Rattle.shard_book.specs.SeatState.{SeatState}
+use Rattle.shard_locks.specs.Shared.{SharedSeatState}
 use Rattle.shard_locks.specs.ShardsState.{ShardsState}
 use Rattle.tcp_relay.specs.declared.served.FaultKind.{FaultKind}
 use Rattle.tcp_relay.specs.declared.served.FaultKind.TheVariants.{Waiting, Thread, NoMemory}
@@ -24,7 +24,7 @@ abbrev pub AreLeft : {X Z Z' : Type 0} → ℕ → ℕ → ℕ → Vec (Vec X Z)
 AreLeft tables threads most refs = (length refs.items ≡ tables) × All (λ list. vec_len list ≤ threads * (most * 3)) refs.items
 
 -- all seats of so many tables and threads, and what their connections have left
-abbrev pub IsServed : ℕ → ℕ → ℕ → Served → Type 0
+abbrev pub IsServed : {J : Type 0} → ℕ → ℕ → ℕ → Served J → Type 0
 IsServed tables threads most served = AreSeats tables threads served.seats × AreLeft tables threads most served.refs
 
 -- ---- faults
@@ -36,13 +36,13 @@ IsCause all_started has_failed Waiting = (all_started ≡ true) × (has_failed �
 IsCause all_started has_failed NoMemory = ⊥
 
 -- nothing was served, and the seats are those that were given
-abbrev pub IsUnserved : Vec (Vec SeatState Global) Global → Served → Type 0
+abbrev pub IsUnserved : {J : Type 0} → Vec (Vec SharedSeatState Global) Global → Served J → Type 0
 IsUnserved seats served = (served.admitted ≡ 0) × (served.rejected ≡ 0) × (served.unaccepted ≡ 0) × (served.seats ≡ seats)
 
 -- without memory nothing was served; else all seats come back, and what the threads have left
-abbrev pub IsFaultOf : ℕ → ℕ → ℕ → Vec (Vec SeatState Global) Global → FaultKind → Served → Type 0
+abbrev pub IsFaultOf : {J : Type 0} → ℕ → ℕ → ℕ → Vec (Vec SharedSeatState Global) Global → FaultKind → Served J → Type 0
 IsFaultOf tables threads most seats NoMemory served = IsUnserved seats served
 IsFaultOf tables threads most seats other served = IsServed tables threads most served
 
-abbrev pub IsFault : ℕ → ℕ → ℕ → Vec (Vec SeatState Global) Global → ServeFault → Type 0
+abbrev pub IsFault : {J : Type 0} → ℕ → ℕ → ℕ → Vec (Vec SharedSeatState Global) Global → ServeFault J → Type 0
 IsFault tables threads most seats fault = IsFaultOf tables threads most seats fault.kind fault.served

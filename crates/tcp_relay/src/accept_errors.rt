@@ -2,6 +2,9 @@
 
 ghost use Rattle.std.specs.Prelude.{◌≡◌};
 ghost use Rattle.tcp_relay.specs.Accepting.{fault_of, heard_as, is_of_one_client, shortage_of};
+ghost use Rattle.tcp_relay.specs.Counting.{missing};
+
+use tcp_stats::Count;
 
 /// What an error of accepting a client means (accept(2)).
 #[derive(Clone, Copy, Debug, PartialEq, Eq)]
@@ -35,6 +38,51 @@ pub(crate) enum Shortage {
     Memory,
     /// It can't go on for another reason.
     Other,
+}
+
+impl Shortage {
+    /// As what it is counted that no client could be accepted.
+    pub(crate) fn count(self) -> Count
+        ensures { result ≡ missing self }
+    {
+        match self {
+            Shortage::Descriptors => Count::NoDescriptors,
+            Shortage::Memory => Count::NoMemory,
+            Shortage::Other => Count::Unaccepted,
+        }
+    }
+}
+
+/// Why no client was accepted.
+#[derive(Clone, Copy, Debug, PartialEq, Eq)]
+pub(crate) struct Unaccepted {
+    /// What the error means.
+    pub(crate) fault: AcceptFault,
+    /// The error's number (errno(3)), if it has one.
+    pub(crate) error: Option<u32>,
+}
+
+impl Unaccepted {
+    /// That none waits.
+    pub(crate) fn none_waits() -> Unaccepted
+        ensures { result.fault ≡ AcceptFault.NoneWaits }
+    {
+        Unaccepted {
+            fault: AcceptFault::NoneWaits,
+            error: None,
+        }
+    }
+
+    /// What an error of accepting means, by its number.
+    pub(crate) fn of(error: Option<u32>) -> Unaccepted
+        ensures fault { result.fault ≡ fault_of error }
+        ensures error { result.error ≡ error }
+    {
+        Unaccepted {
+            fault: fault_of(error),
+            error,
+        }
+    }
 }
 
 /// What the system is short of, by an error's number (accept(2), socket(2)).
@@ -71,7 +119,7 @@ fn is_of_one_client(code: u32) -> bool
 }
 
 /// What an error means, by its number. One without a number comes where the peer's address can't be read.
-pub(crate) fn fault_of(code: Option<u32>) -> AcceptFault
+fn fault_of(code: Option<u32>) -> AcceptFault
     ensures { result ≡ fault_of code }
 {
     let Some(code) = code else {

@@ -3,7 +3,7 @@
 ghost use Rattle.std.specs.Prelude.{◌≡◌, ◌≢◌, ◌&&◌, true, false, is_some, IsOk};
 ghost use Rattle.tcp_relay.specs.Accepting.{can_accept, is_shortage, pause_of};
 
-use crate::accept_errors::{AcceptFault, Shortage, shortage_of};
+use crate::accept_errors::AcceptFault;
 use crate::connection_counter::ConnectionCounter;
 use std::io;
 use std::net::{Net, SocketAddr};
@@ -173,13 +173,13 @@ impl Acceptor {
         )
     }
 
-    /// Has a socket at hand for the server there. An error says what the system is short of for that.
+    /// Has a socket at hand for the server there. An error is that of socket(2), by which the system is short of one.
     pub(crate) fn ready_server(
         &mut self,
         rt: &impl Net,
         server: SocketAddr,
         keepalive: Option<Keepalive>,
-    ) -> Result<(), Shortage>
+    ) -> io::Result<()>
         ensures ready { IsOk result → is_some self.new.server ≡ true }
         ensures same { (self.new.number ≡ self.old.number) × (self.new.may_have ≡ self.old.may_have) }
         ensures short { IsOk result → self.new.is_short ≡ self.old.is_short }
@@ -192,21 +192,13 @@ impl Acceptor {
                 self.server = Some(socket);
                 Ok(())
             }
-            Err(error) => Err(shortage_in(&error)),
+            Err(error) => Err(error),
         }
     }
 
     /// The socket for a client's server, which is its own now.
     pub(crate) fn take_server(&mut self) -> Option<ServerSocket> {
         self.server.take()
-    }
-}
-
-/// What the system is short of, as an error says it.
-fn shortage_in(error: &io::Error) -> Shortage {
-    match error.raw_os_error() {
-        Some(code) => shortage_of(code.unsigned_abs()),
-        None => Shortage::Other,
     }
 }
 

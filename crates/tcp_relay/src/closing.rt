@@ -12,6 +12,7 @@ use crate::visiting::end_admitted;
 use crate::width::Width;
 use crate::worker::Worker;
 use base_clock::{Clock, RunningClock};
+use shard_record::Naming;
 use stick_table::Table;
 use tcp_link::{Buffer, Link, ServerSocket};
 
@@ -41,9 +42,9 @@ fn ending_of(link: &Link, cause: Option<Ending>) -> Ending
 }
 
 /// Ends the connection in a place, if it is open there, for this cause, or as it is over.
-pub(crate) fn close<'a, T: Table, R: ServeRuntime, G, W: Width>(
+pub(crate) fn close<'a, T: Table, J: Naming, R: ServeRuntime, G, W: Width>(
     shared: &Shared<'a, R, G, W>,
-    worker: &mut Worker<'a, T, R, W>,
+    worker: &mut Worker<'a, T, J, R, W>,
     clock: &mut RunningClock<'_, R>,
     place: usize,
     cause: Option<Ending>,
@@ -60,9 +61,9 @@ pub(crate) fn close<'a, T: Table, R: ServeRuntime, G, W: Width>(
 
 /// Closes the connections of which a peer had been silent for too long at a moment in ms. What the system was short of is tried
 /// again too.
-pub(crate) fn close_silent<'a, T: Table, R: ServeRuntime, G, W: Width>(
+pub(crate) fn close_silent<'a, T: Table, J: Naming, R: ServeRuntime, G, W: Width>(
     shared: &Shared<'a, R, G, W>,
-    worker: &mut Worker<'a, T, R, W>,
+    worker: &mut Worker<'a, T, J, R, W>,
     event_loop: &mut EventLoop<'_, R>,
     as_of: u64,
 ) {
@@ -80,9 +81,9 @@ pub(crate) fn close_silent<'a, T: Table, R: ServeRuntime, G, W: Width>(
 }
 
 /// Closes all connections, as a drain has come to its end.
-pub(crate) fn close_all<'a, T: Table, R: ServeRuntime, G, W: Width>(
+pub(crate) fn close_all<'a, T: Table, J: Naming, R: ServeRuntime, G, W: Width>(
     shared: &Shared<'a, R, G, W>,
-    worker: &mut Worker<'a, T, R, W>,
+    worker: &mut Worker<'a, T, J, R, W>,
     event_loop: &mut EventLoop<'_, R>,
 ) {
     for place in 0..worker.places.count() {
@@ -92,9 +93,9 @@ pub(crate) fn close_all<'a, T: Table, R: ServeRuntime, G, W: Width>(
 }
 
 /// Tries the servers again that refused a connection a second ago. A connection for which the system has no socket waits on.
-pub(crate) fn retry_due<'a, T: Table, R: ServeRuntime, G, W: Width>(
+pub(crate) fn retry_due<'a, T: Table, J: Naming, R: ServeRuntime, G, W: Width>(
     shared: &Shared<'a, R, G, W>,
-    worker: &mut Worker<'a, T, R, W>,
+    worker: &mut Worker<'a, T, J, R, W>,
     event_loop: &mut EventLoop<'_, R>,
     buffer: &mut Buffer,
 ) {
@@ -107,9 +108,9 @@ pub(crate) fn retry_due<'a, T: Table, R: ServeRuntime, G, W: Width>(
 }
 
 /// Tries the server of the connection in a place again.
-fn retry<'a, T: Table, R: ServeRuntime, G, W: Width>(
+fn retry<'a, T: Table, J: Naming, R: ServeRuntime, G, W: Width>(
     shared: &Shared<'a, R, G, W>,
-    worker: &mut Worker<'a, T, R, W>,
+    worker: &mut Worker<'a, T, J, R, W>,
     event_loop: &mut EventLoop<'_, R>,
     buffer: &mut Buffer,
     place: usize,

@@ -8,23 +8,24 @@ ghost use Rattle.tcp_relay.specs.Connections.{IsVisitor};
 use crate::width::Width;
 use admit_core::Conn;
 use mio::Registry;
-use shard_book::TrackRef;
+use shard_locks::SharedRef;
+use shard_record::Naming;
 use std::marker::PhantomData;
 use tcp_link::{Buffer, Lateness, Link, Ready, ServerSocket, Timeouts};
 
 /// A connection that a worker holds: its sockets as long as it is open; without them, it holds references of which a release
 /// was refused.
-pub(crate) struct Connection<'a, W: Width> {
-    pub(crate) conn: Conn<'a, TrackRef>,
+pub(crate) struct Connection<'a, J: Naming, W: Width> {
+    pub(crate) conn: Conn<'a, SharedRef<J>>,
     pub(crate) link: Option<Link>,
     pub(crate) of: PhantomData<W>,
     ghost is: { IsVisitor W.tables W.shards conn },
     ghost rests: { is_some link ≡ true → needed conn ≡ Rest },
 }
 
-impl<'a, W: Width> Connection<'a, W> {
+impl<'a, J: Naming, W: Width> Connection<'a, J, W> {
     /// A connection that is open.
-    pub(crate) fn open(conn: Conn<'a, TrackRef>, link: Link) -> Connection<'a, W>
+    pub(crate) fn open(conn: Conn<'a, SharedRef<J>>, link: Link) -> Connection<'a, J, W>
         requires connection { IsVisitor W.tables W.shards conn }
         requires rests { needed conn ≡ Rest }
     {
@@ -36,7 +37,7 @@ impl<'a, W: Width> Connection<'a, W> {
     }
 
     /// A connection that still holds references once it is closed.
-    pub(crate) fn kept(conn: Conn<'a, TrackRef>) -> Connection<'a, W>
+    pub(crate) fn kept(conn: Conn<'a, SharedRef<J>>) -> Connection<'a, J, W>
         requires connection { IsVisitor W.tables W.shards conn }
     {
         Connection {
@@ -47,7 +48,7 @@ impl<'a, W: Width> Connection<'a, W> {
     }
 
     /// The connection and its sockets, where it is open; else itself.
-    pub(crate) fn parts(self) -> Result<(Conn<'a, TrackRef>, Link), Connection<'a, W>>
+    pub(crate) fn parts(self) -> Result<(Conn<'a, SharedRef<J>>, Link), Connection<'a, J, W>>
         ensures connection { IfOk result (λ parts. IsVisitor W.tables W.shards parts.0) }
         ensures rests { IfOk result (λ parts. needed parts.0 ≡ Rest) }
     {

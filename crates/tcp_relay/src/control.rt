@@ -1,5 +1,6 @@
 //! What others see of serving, and how they end it; `serve` is given it, and `turning` goes by it.
 
+use crate::accept_errors::{AcceptFault, Shortage};
 use crate::drain::Drain;
 use crate::fates::Ending;
 use std::net::SocketAddr;
@@ -50,6 +51,23 @@ impl<'a> Control<'a> {
             error: None,
         };
         self.note(Count::Rejected, occasion);
+    }
+
+    /// Notes that no client could be accepted, as the system was short of something, and the number of its error.
+    pub(crate) fn note_shortage(&self, shortage: Shortage, error: Option<u32>) {
+        let occasion = Occasion {
+            source: None,
+            error,
+        };
+        self.note(shortage.count(), occasion);
+    }
+
+    /// The same of an error of accepting, where it says so.
+    pub(crate) fn note_fault(&self, fault: AcceptFault, error: Option<u32>) {
+        match fault {
+            AcceptFault::NoneWaits | AcceptFault::Gone | AcceptFault::Unreadable => {}
+            AcceptFault::Short(shortage) => self.note_shortage(shortage, error),
+        }
     }
 
     /// Notes that the server of a client couldn't be connected to.

@@ -2,6 +2,7 @@
 
 ghost use Rattle.std.specs.Prelude.{◌≡◌, ◌≢◌, false, true};
 ghost use Rattle.tcp_relay.specs.Counting.{missing, verdict_of, with_end, with_fault, with_one, with_one_if};
+ghost use Rattle.tcp_relay.specs.Meeting.{raised};
 ghost use Rattle.tcp_stats.specs.CountValues.{count_of};
 ghost use Rattle.tcp_stats.specs.declared.count.Count.TheVariants.{Accepted};
 
@@ -62,11 +63,7 @@ impl Counted {
         ensures counts { self.new.counts ≡ with_one (missing shortage) self.old.counts }
         ensures news { self.new.is_news ≡ true }
     {
-        match shortage {
-            Shortage::Descriptors => self.count(Count::NoDescriptors),
-            Shortage::Memory => self.count(Count::NoMemory),
-            Shortage::Other => self.count(Count::Unaccepted),
-        }
+        self.count(shortage.count());
     }
 
     /// Accepting has failed.
@@ -104,6 +101,16 @@ impl Counted {
         self.count(Count::Ended);
         self.counts.add(Count::BytesIn, ended.bytes_in);
         self.counts.add(Count::BytesOut, ended.bytes_out);
+    }
+
+    /// Raises a count to a number, where it is less.
+    pub(crate) fn raise(&mut self, count: Count, number: u64)
+        ensures counts { self.new.counts ≡ raised count number self.old.counts }
+        ensures kept { self.old.is_news ≡ true → self.new.is_news ≡ true }
+    {
+        let more = number.saturating_sub(self.counts.get(count));
+        self.counts.add(count, more);
+        self.is_news = self.is_news || more > 0;
     }
 
     /// Publishes what isn't published yet, where there are cells for it.

@@ -12,18 +12,18 @@ use crate::seating::take_row;
 use crate::shares::share_of;
 use crate::width::Width;
 use crate::worker::{Tally, Worker};
-use shard_book::{Seat, TrackRef};
-use shard_locks::Shards;
+use shard_locks::{Shards, SharedRef, SharedSeat};
+use shard_record::Naming;
 use stick_table::Table;
 
 /// As many workers as there are rows for their seats, each with a seat of each table and its share of the places for so many
 /// connections.
-pub(crate) fn seat_workers<'a, T: Table, R, W: Width>(
+pub(crate) fn seat_workers<'a, T: Table, J: Naming, R, W: Width>(
     rt: &'a R,
-    tables: &'a [Shards<T>],
-    seats: &mut Vec<Vec<Seat>>,
-    workers: &mut Vec<Worker<'a, T, R, W>>,
-    rooms: Rooms<'a, T, R, W>,
+    tables: &'a [Shards<T, J>],
+    seats: &mut Vec<Vec<SharedSeat<J>>>,
+    workers: &mut Vec<Worker<'a, T, J, R, W>>,
+    rooms: Rooms<'a, T, J, R, W>,
     connections: usize,
 )
     requires most { most_of connections (length rooms.rows.items) ≡ W.most }
@@ -67,11 +67,11 @@ pub(crate) fn seat_workers<'a, T: Table, R, W: Width>(
 
 /// What workers have done together, with their seats and the references that their connections still hold; and whether one
 /// of them couldn't wait for connections. The lists take no memory more.
-pub(crate) fn gather<T: Table, R, W: Width>(
-    mut workers: Vec<Worker<'_, T, R, W>>,
-    mut seats: Vec<Vec<Seat>>,
-    mut refs: Vec<Vec<TrackRef>>,
-) -> (Served, bool)
+pub(crate) fn gather<T: Table, J: Naming, R, W: Width>(
+    mut workers: Vec<Worker<'_, T, J, R, W>>,
+    mut seats: Vec<Vec<SharedSeat<J>>>,
+    mut refs: Vec<Vec<SharedRef<J>>>,
+) -> (Served<J>, bool)
     requires seats { (length seats.items ≡ W.tables) × HaveEach 0 (length workers.items) seats.items }
     requires refs { (length refs.items ≡ W.tables) × HaveEach 0 (length workers.items * (W.most * 3)) refs.items }
     ensures seats { AreSeats W.tables (length workers.entry.items) result.0.seats }

@@ -1,7 +1,9 @@
-//! Laws of shares, of looks for silent peers and of drains; each is the contract of an empty function, which no code calls.
+//! Laws of shares, of looks for silent peers, of drains and of what has passed a limit; each is the contract of an empty function,
+//! which no code calls.
 
 ghost use Rattle.tcp_relay.specs.Accepting.{SharesLaw};
 ghost use Rattle.tcp_relay.specs.Draining.{DrainLaw};
+ghost use Rattle.tcp_relay.specs.Passed.{PassedStaysLaw};
 ghost use Rattle.tcp_relay.specs.Sweeps.{LookLaw};
 
 /// The workers' shares come to all connections.
@@ -17,4 +19,9 @@ pub fn looks()
 /// Once a drain has begun no client is accepted any more, and at its moment open connections are closed, whatever calls began it.
 pub fn drains()
     ensures { DrainLaw }
+{}
+
+/// Whatever a connection does by a worker's seats, a reference that has passed by what they knew has passed by what they know then.
+pub fn passed_stays()
+    ensures { PassedStaysLaw }
 {}

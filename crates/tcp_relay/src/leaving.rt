@@ -12,16 +12,14 @@ use crate::seating::put_aside;
 use crate::width::Width;
 use admit_core::Conn;
 use rule_model::Slot;
-use shard_book::TrackRef;
+use shard_locks::SharedRef;
+use shard_record::Naming;
 
 /// How many references a connection holds at most.
 pub(crate) const MOST_HELD: usize = 3;
 
-/// The number of a table, and a reference to an entry of it.
-type Entry = (u32, TrackRef);
-
 /// Whether a connection holds a reference.
-fn holds(conn: &Conn<'_, TrackRef>) -> bool
+fn holds<J: Naming>(conn: &Conn<'_, SharedRef<J>>) -> bool
     ensures sc0 { result ≡ false → held_at (progress_of conn.now).held Sc0 ≡ None }
     ensures sc1 { result ≡ false → held_at (progress_of conn.now).held Sc1 ≡ None }
     ensures sc2 { result ≡ false → held_at (progress_of conn.now).held Sc2 ≡ None }
@@ -32,7 +30,7 @@ fn holds(conn: &Conn<'_, TrackRef>) -> bool
 }
 
 /// Lets a connection go that holds nothing. One that holds a reference is still there.
-pub(crate) fn let_go<'a>(conn: Conn<'a, TrackRef>) -> Option<Conn<'a, TrackRef>>
+pub(crate) fn let_go<'a, J: Naming>(conn: Conn<'a, SharedRef<J>>) -> Option<Conn<'a, SharedRef<J>>>
     ensures kept { IfSome result (λ kept. kept ≡ conn.entry) }
     ensures sc0 { IfNone result (held_at (progress_of conn.entry).held Sc0 ≡ None) }
     ensures sc1 { IfNone result (held_at (progress_of conn.entry).held Sc1 ≡ None) }
@@ -48,7 +46,7 @@ pub(crate) fn let_go<'a>(conn: Conn<'a, TrackRef>) -> Option<Conn<'a, TrackRef>>
 }
 
 /// Puts a reference, if there is one, to the others of its table.
-fn put_held(refs: &mut Vec<Vec<TrackRef>>, held: Option<Entry>)
+fn put_held<J: Naming>(refs: &mut Vec<Vec<SharedRef<J>>>, held: Option<(u32, SharedRef<J>)>)
     requires table { IfSome held (λ entry. entry.0 < length refs.old.items) }
     requires room { HaveRoom 1 refs.old.items }
     ensures kept { held_in refs.new.items ≡ put_in_if held (held_in refs.old.items) }
@@ -63,7 +61,10 @@ fn put_held(refs: &mut Vec<Vec<TrackRef>>, held: Option<Entry>)
 }
 
 /// Puts the references that a connection still holds to the others of their tables, and closes its sockets.
-fn put_connection<W: Width>(refs: &mut Vec<Vec<TrackRef>>, connection: Connection<'_, W>)
+fn put_connection<J: Naming, W: Width>(
+    refs: &mut Vec<Vec<SharedRef<J>>>,
+    connection: Connection<'_, J, W>,
+)
     requires tables { length refs.old.items ≡ W.tables }
     requires room { HaveRoom 3 refs.old.items }
     ensures kept { held_in refs.new.items ≡ left_by connection.entry.conn (held_in refs.old.items) }
@@ -83,7 +84,10 @@ fn put_connection<W: Width>(refs: &mut Vec<Vec<TrackRef>>, connection: Connectio
 }
 
 /// The same of a place, in which there may be none.
-fn put_place<W: Width>(refs: &mut Vec<Vec<TrackRef>>, place: Option<Connection<'_, W>>)
+fn put_place<J: Naming, W: Width>(
+    refs: &mut Vec<Vec<SharedRef<J>>>,
+    place: Option<Connection<'_, J, W>>,
+)
     requires tables { length refs.old.items ≡ W.tables }
     requires room { HaveRoom 3 refs.old.items }
     ensures kept { held_in refs.new.items ≡ left_if (option_map (λ connection. connection.conn) place.entry) (held_in refs.old.items) }
@@ -98,9 +102,9 @@ fn put_place<W: Width>(refs: &mut Vec<Vec<TrackRef>>, place: Option<Connection<'
 }
 
 /// Puts the references that connections still hold to the others of their tables.
-pub(crate) fn put_connections<W: Width>(
-    refs: &mut Vec<Vec<TrackRef>>,
-    mut held: Vec<Option<Connection<'_, W>>>,
+pub(crate) fn put_connections<J: Naming, W: Width>(
+    refs: &mut Vec<Vec<SharedRef<J>>>,
+    mut held: Vec<Option<Connection<'_, J, W>>>,
 )
     requires few { vec_len held ≤ W.most }
     requires tables { length refs.old.items ≡ W.tables }

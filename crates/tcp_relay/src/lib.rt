@@ -24,6 +24,7 @@ mod leaving;
 mod limits;
 mod listener_turn;
 mod listeners;
+mod met;
 mod places;
 mod reserved;
 mod runtime;

@@ -3,7 +3,7 @@
 ghost use Rattle.std.specs.Prelude.{◌≡◌};
 ghost use Rattle.tcp_relay.specs.Listening.{behind};
 
-use crate::accept_errors::{AcceptFault, fault_of};
+use crate::accept_errors::{AcceptFault, Unaccepted};
 use libc::net::{SHUT_RDWR, shutdown};
 use mio::unix::SourceFd;
 use mio::{Interest, Poll, Token};
@@ -74,10 +74,12 @@ impl<'a> Listeners<'a> {
 
     /// Accepts a client at the first listener at which one waits, from this place on and round to it. So none is kept waiting
     /// by clients of another.
-    pub(crate) fn accept(&self, from: usize) -> Result<Accepted, AcceptFault> {
+    pub(crate) fn accept(&self, from: usize) -> Result<Accepted, Unaccepted> {
         let (before, after) = self.each.split_at(from.min(self.each.len()));
         match accept_first(after, from, self.each.len()) {
-            Err(AcceptFault::NoneWaits) => accept_first(before, 0, self.each.len()),
+            Err(unaccepted) if unaccepted.fault == AcceptFault::NoneWaits => {
+                accept_first(before, 0, self.each.len())
+            }
             told => told,
         }
     }
@@ -106,18 +108,18 @@ fn accept_first(
     listeners: &[Listener],
     first: usize,
     count: usize,
-) -> Result<Accepted, AcceptFault> {
+) -> Result<Accepted, Unaccepted> {
     for (place, listener) in listeners.iter().enumerate() {
         match accept_at(listener, behind(first.saturating_add(place), count)) {
-            Err(AcceptFault::NoneWaits) => {}
+            Err(unaccepted) if unaccepted.fault == AcceptFault::NoneWaits => {}
             told => return told,
         }
     }
-    Err(AcceptFault::NoneWaits)
+    Err(Unaccepted::none_waits())
 }
 
 /// Accepts a client at a listener, of which the one at the place `next` is asked first then.
-fn accept_at(listener: &Listener, next: usize) -> Result<Accepted, AcceptFault> {
+fn accept_at(listener: &Listener, next: usize) -> Result<Accepted, Unaccepted> {
     match listener.socket.accept() {
         Ok((client, peer)) => Ok(Accepted {
             client,
@@ -125,7 +127,7 @@ fn accept_at(listener: &Listener, next: usize) -> Result<Accepted, AcceptFault> 
             port: listener.port,
             next,
         }),
-        Err(error) => Err(fault_of(error.raw_os_error().map(i32::unsigned_abs))),
+        Err(error) => Err(Unaccepted::of(error.raw_os_error().map(i32::unsigned_abs))),
     }
 }
 

@@ -9,14 +9,15 @@ use crate::connection::Connection;
 use crate::width::Width;
 use admit_core::Conn;
 use mio::Registry;
-use shard_book::TrackRef;
+use shard_locks::SharedRef;
+use shard_record::Naming;
 use std::mem;
 use tcp_link::{Buffer, Lateness, Link, Ready, ServerSocket, Timeouts};
 
 /// The connections that a worker holds, by the numbers of their places: what is reported of a socket names its place. A
 /// connection whose references can't be given back keeps its place, so that no memory is needed for them.
-pub(crate) struct Places<'a, W: Width> {
-    held: Vec<Option<Connection<'a, W>>>,
+pub(crate) struct Places<'a, J: Naming, W: Width> {
+    held: Vec<Option<Connection<'a, J, W>>>,
     /// Places that are free again.
     free: Vec<usize>,
     /// How many places there are at most.
@@ -28,13 +29,13 @@ pub(crate) struct Places<'a, W: Width> {
     ghost room: { W.most ≤ vec_capacity held },
 }
 
-impl<'a, W: Width> Places<'a, W> {
+impl<'a, J: Naming, W: Width> Places<'a, J, W> {
     /// No connection, and so many places at most.
     pub(crate) fn new(
-        held: Vec<Option<Connection<'a, W>>>,
+        held: Vec<Option<Connection<'a, J, W>>>,
         free: Vec<usize>,
         most: usize,
-    ) -> Places<'a, W>
+    ) -> Places<'a, J, W>
         requires most { most ≤ W.most }
         requires empty { vec_len held ≡ 0 }
         requires room { W.most ≤ vec_capacity held }
@@ -109,7 +110,7 @@ impl<'a, W: Width> Places<'a, W> {
     }
 
     /// Puts a connection in its place.
-    fn put(&mut self, place: usize, connection: Connection<'a, W>)
+    fn put(&mut self, place: usize, connection: Connection<'a, J, W>)
         requires free { slice_get self.old.held.items place ≡ Some None }
     {
         let slot = &mut self.held[place];
@@ -120,7 +121,7 @@ impl<'a, W: Width> Places<'a, W> {
     }
 
     /// Puts a connection that is open in its place.
-    pub(crate) fn put_open(&mut self, place: usize, conn: Conn<'a, TrackRef>, link: Link)
+    pub(crate) fn put_open(&mut self, place: usize, conn: Conn<'a, SharedRef<J>>, link: Link)
         requires free { slice_get self.old.held.items place ≡ Some None }
         requires connection { IsVisitor W.tables W.shards conn }
         requires rests { needed conn ≡ Rest }
@@ -130,7 +131,7 @@ impl<'a, W: Width> Places<'a, W> {
     }
 
     /// Puts a connection that still holds references in its place.
-    pub(crate) fn put_kept(&mut self, place: usize, conn: Conn<'a, TrackRef>)
+    pub(crate) fn put_kept(&mut self, place: usize, conn: Conn<'a, SharedRef<J>>)
         requires free { slice_get self.old.held.items place ≡ Some None }
         requires connection { IsVisitor W.tables W.shards conn }
     {
@@ -188,7 +189,7 @@ impl<'a, W: Width> Places<'a, W> {
     }
 
     /// Takes the connection in a place, if it is open. The place stays claimed.
-    pub(crate) fn take(&mut self, place: usize) -> Option<(Conn<'a, TrackRef>, Link)>
+    pub(crate) fn take(&mut self, place: usize) -> Option<(Conn<'a, SharedRef<J>>, Link)>
         ensures free { IfSome result (λ _. slice_get self.new.held.items place ≡ Some None) }
         ensures connection { IfSome result (λ taken. IsVisitor W.tables W.shards taken.0) }
         ensures rests { IfSome result (λ taken. needed taken.0 ≡ Rest) }
@@ -208,7 +209,7 @@ impl<'a, W: Width> Places<'a, W> {
     }
 
     /// All connections that are left.
-    pub(crate) fn into_connections(self) -> Vec<Option<Connection<'a, W>>>
+    pub(crate) fn into_connections(self) -> Vec<Option<Connection<'a, J, W>>>
         ensures all { result ≡ self.entry.held }
         ensures few { vec_len result ≤ W.most }
     {
@@ -223,8 +224,8 @@ impl<'a, W: Width> Places<'a, W> {
 }
 
 /// Gives the connection in a place its turn. Whether it is over now.
-fn turn_at<W: Width>(
-    held: &mut [Option<Connection<'_, W>>],
+fn turn_at<J: Naming, W: Width>(
+    held: &mut [Option<Connection<'_, J, W>>],
     registry: &Registry,
     ready: Ready,
     moment: u64,
@@ -237,8 +238,8 @@ fn turn_at<W: Width>(
 }
 
 /// Tries the server of the connection in a place again. Whether it is over now.
-fn retry_at<W: Width>(
-    held: &mut [Option<Connection<'_, W>>],
+fn retry_at<J: Naming, W: Width>(
+    held: &mut [Option<Connection<'_, J, W>>],
     place: usize,
     server: ServerSocket,
     registry: &Registry,
@@ -252,8 +253,8 @@ fn retry_at<W: Width>(
 }
 
 /// Which timeout of the connection in a place is over, if one is.
-fn lateness_at<W: Width>(
-    held: &mut [Option<Connection<'_, W>>],
+fn lateness_at<J: Naming, W: Width>(
+    held: &mut [Option<Connection<'_, J, W>>],
     place: usize,
     moment: u64,
     since: u64,

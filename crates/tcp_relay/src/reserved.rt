@@ -11,30 +11,30 @@ use crate::seating::{discard_lists, reserve_lists};
 use crate::width::Width;
 use crate::worker::Worker;
 use base_sequence::NoMemory;
-use shard_book::TrackRef;
-use shard_locks::Seated;
+use shard_locks::{Seated, SharedRef};
+use shard_record::Naming;
 use std::alloc::Global;
 use stick_table::Table;
 
 /// For each worker, empty lists with places for what it keeps. It can't be dropped, as connections can't.
-pub(crate) struct Rooms<'a, T: Table, R, W: Width> {
+pub(crate) struct Rooms<'a, T: Table, J: Naming, R, W: Width> {
     pub(crate) all_buffers: Vec<Buffers>,
     /// Places for each table with a seat.
-    pub(crate) rows: Vec<Vec<Seated<'a, T, R>>>,
+    pub(crate) rows: Vec<Vec<Seated<'a, T, J, R>>>,
     /// Places for its connections.
-    pub(crate) held: Vec<Vec<Option<Connection<'a, W>>>>,
+    pub(crate) held: Vec<Vec<Option<Connection<'a, J, W>>>>,
     /// Places for the numbers of places that are free again.
     pub(crate) free: Vec<Vec<usize>>,
 }
 
 /// Empty lists with places for all that serving keeps. It can't be dropped, as references can't.
-pub(crate) struct Reserved<'a, T: Table, R, W: Width> {
-    pub(crate) workers: Vec<Worker<'a, T, R, W>>,
+pub(crate) struct Reserved<'a, T: Table, J: Naming, R, W: Width> {
+    pub(crate) workers: Vec<Worker<'a, T, J, R, W>>,
     /// Room for what the workers share to be told of connections.
     pub(crate) parts: TurnParts,
-    pub(crate) rooms: Rooms<'a, T, R, W>,
+    pub(crate) rooms: Rooms<'a, T, J, R, W>,
     /// For each table, places for all references that connections can hold.
-    pub(crate) refs: Vec<Vec<TrackRef>>,
+    pub(crate) refs: Vec<Vec<SharedRef<J>>>,
 }
 
 /// What can be dropped, for so many workers with so many connections each.
@@ -53,12 +53,12 @@ fn reserve_plain(
 }
 
 /// Room for so many workers and tables, and so many connections of each worker.
-pub(crate) fn reserve<'a, T: Table, R, W: Width>(
+pub(crate) fn reserve<'a, T: Table, J: Naming, R, W: Width>(
     alloc: Global,
     workers: usize,
     tables: usize,
     connections: usize,
-) -> Result<Reserved<'a, T, R, W>, NoMemory>
+) -> Result<Reserved<'a, T, J, R, W>, NoMemory>
     requires workers { workers ≤ 64 }
     requires connections { connections ≤ 2 ^ 32 }
     ensures workers { IfOk result (λ room. (vec_len room.workers ≡ 0) × (workers ≤ vec_capacity room.workers)) }

@@ -7,8 +7,8 @@ ghost use Rattle.std.specs.Prelude.{◌≡◌, ◌+◌, ◌≤◌, ◌<◌, ℕ,
 ghost use Rattle.tcp_relay.specs.Seating.{HaveEach, HaveFew, HaveRoom, held_in, put_in};
 
 use base_sequence::NoMemory;
-use shard_book::{Seat, TrackRef};
-use shard_locks::{Seated, Shards};
+use shard_locks::{Seated, Shards, SharedRef, SharedSeat};
+use shard_record::Naming;
 use std::alloc::Global;
 use stick_table::Table;
 
@@ -45,12 +45,12 @@ pub(crate) fn discard_lists<T>(mut lists: Vec<Vec<T>>)
 }
 
 /// Each table, asked by a seat of its own, in a row.
-pub(crate) fn take_row<'a, T: Table, R>(
+pub(crate) fn take_row<'a, T: Table, J: Naming, R>(
     rt: &'a R,
-    tables: &'a [Shards<T>],
-    seats: &mut Vec<Vec<Seat>>,
-    mut row: Vec<Seated<'a, T, R>>,
-) -> Vec<Seated<'a, T, R>>
+    tables: &'a [Shards<T, J>],
+    seats: &mut Vec<Vec<SharedSeat<J>>>,
+    mut row: Vec<Seated<'a, T, J, R>>,
+) -> Vec<Seated<'a, T, J, R>>
     requires some { All (λ list. 1 ≤ vec_len list) seats.old.items }
     requires tables { length tables.now ≡ length seats.old.items }
     requires empty { vec_len row ≡ 0 }
@@ -71,7 +71,10 @@ pub(crate) fn take_row<'a, T: Table, R>(
 }
 
 /// Puts the seats of a row back, each to its table.
-pub(crate) fn put_row<T: Table, R>(seats: &mut Vec<Vec<Seat>>, mut row: Vec<Seated<'_, T, R>>)
+pub(crate) fn put_row<T: Table, J: Naming, R>(
+    seats: &mut Vec<Vec<SharedSeat<J>>>,
+    mut row: Vec<Seated<'_, T, J, R>>,
+)
     requires room { HaveRoom 1 seats.old.items }
     requires row { vec_len row ≡ length seats.old.items }
     ensures tables { length seats.new.items ≡ length seats.old.items }
@@ -84,7 +87,11 @@ pub(crate) fn put_row<T: Table, R>(seats: &mut Vec<Vec<Seat>>, mut row: Vec<Seat
 }
 
 /// Puts a reference to the others of its table.
-pub(crate) fn put_aside(refs: &mut Vec<Vec<TrackRef>>, table: u32, reference: TrackRef)
+pub(crate) fn put_aside<J: Naming>(
+    refs: &mut Vec<Vec<SharedRef<J>>>,
+    table: u32,
+    reference: SharedRef<J>,
+)
     requires table { table < length refs.old.items }
     requires room { HaveRoom 1 refs.old.items }
     ensures kept { held_in refs.new.items ≡ put_in table reference (held_in refs.old.items) }

@@ -20,22 +20,21 @@ use crate::watch::Watch;
 use crate::width::Width;
 use crate::worker::Worker;
 use crate::{Control, FaultKind, Gate, Limits, ServeFault, ServeRuntime, Served};
-use base_clock::{Clock, RunningClock};
+use base_clock::{Clock, RunningClock, Start};
 use rule_model::Setup;
-use shard_book::Seat;
-use shard_locks::Shards;
+use shard_locks::{Shards, SharedSeat};
+use shard_record::Naming;
 use std::alloc::Global;
 use std::marker::{Brand, PhantomData};
 use std::net::Net;
 use std::thread;
-use std::time::Instant;
 use stick_table::Table;
 
 /// One worker's connections: until the last number is drawn, or a drain has begun, and all its connections have ended; or it
 /// can't wait for them.
-fn serve_each<'a, T: Table, R: ServeRuntime, G: Gate, W: Width>(
+fn serve_each<'a, T: Table, J: Naming, R: ServeRuntime, G: Gate, W: Width>(
     shared: &Shared<'a, R, G, W>,
-    worker: &mut Worker<'a, T, R, W>,
+    worker: &mut Worker<'a, T, J, R, W>,
 ) {
     let (Some(mut buffers), Some(watch)) = (worker.buffers.take(), worker.watch.take()) else {
         worker.tally.has_failed = true;
@@ -83,10 +82,10 @@ fn watch_one(
 
 /// Has each worker watch the listeners, before the connections of one take the descriptors that another needs for that. One that
 /// can't has failed.
-fn watch_each<T: Table, R, W: Width>(
+fn watch_each<T: Table, J: Naming, R, W: Width>(
     rt: &impl Net,
     listeners: &Listeners<'_>,
-    workers: &mut [Worker<'_, T, R, W>],
+    workers: &mut [Worker<'_, T, J, R, W>],
     parts: &mut TurnParts,
 ) {
     let mut number = 0u32;
@@ -100,10 +99,10 @@ fn watch_each<T: Table, R, W: Width>(
 }
 
 /// The same. There are as many workers afterwards.
-fn watch_all<T: Table, R, W: Width>(
+fn watch_all<T: Table, J: Naming, R, W: Width>(
     rt: &impl Net,
     listeners: &Listeners<'_>,
-    workers: &mut Vec<Worker<'_, T, R, W>>,
+    workers: &mut Vec<Worker<'_, T, J, R, W>>,
     parts: &mut TurnParts,
 )
     ensures workers { vec_len workers.new ≡ vec_len workers.old }
@@ -112,7 +111,7 @@ fn watch_all<T: Table, R, W: Width>(
 }
 
 /// Whether a worker has failed.
-fn has_failed<T: Table, R, W: Width>(workers: &[Worker<'_, T, R, W>]) -> bool {
+fn has_failed<T: Table, J: Naming, R, W: Width>(workers: &[Worker<'_, T, J, R, W>]) -> bool {
     for worker in workers {
         if worker.tally.has_failed {
             return true;
@@ -123,10 +122,14 @@ fn has_failed<T: Table, R, W: Width>(workers: &[Worker<'_, T, R, W>]) -> bool {
 
 /// Starts a thread for each worker, and waits until all have ended. Answers whether all could be started; behind the first
 /// that can't, none is started. Nor is any where one can't watch the listeners, which has failed then.
-fn run_each<'a, T: Table + Send, R: ServeRuntime, G: Gate + Sync, W: Width + Send + Sync>(
-    shared: &Shared<'a, R, G, W>,
-    workers: &mut [Worker<'a, T, R, W>],
-) -> bool {
+fn run_each<
+    'a,
+    T: Table + Send,
+    J: Naming + Send + Sync,
+    R: ServeRuntime,
+    G: Gate + Sync,
+    W: Width + Send + Sync,
+>(shared: &Shared<'a, R, G, W>, workers: &mut [Worker<'a, T, J, R, W>]) -> bool {
     if has_failed(workers) {
         return true;
     }
@@ -145,10 +148,14 @@ fn run_each<'a, T: Table + Send, R: ServeRuntime, G: Gate + Sync, W: Width + Sen
 }
 
 /// The same. There are as many workers afterwards.
-fn run_all<'a, T: Table + Send, R: ServeRuntime, G: Gate + Sync, W: Width + Send + Sync>(
-    shared: &Shared<'a, R, G, W>,
-    workers: &mut Vec<Worker<'a, T, R, W>>,
-) -> bool
+fn run_all<
+    'a,
+    T: Table + Send,
+    J: Naming + Send + Sync,
+    R: ServeRuntime,
+    G: Gate + Sync,
+    W: Width + Send + Sync,
+>(shared: &Shared<'a, R, G, W>, workers: &mut Vec<Worker<'a, T, J, R, W>>) -> bool
     ensures workers { vec_len workers.new ≡ vec_len workers.old }
 {
     run_each(shared, workers.as_mut_slice())
@@ -156,7 +163,11 @@ fn run_all<'a, T: Table + Send, R: ServeRuntime, G: Gate + Sync, W: Width + Send
 
 /// What serving comes to: a fault where a thread couldn't be started, which is told first, or couldn't wait for
 /// connections.
-fn told(served: Served, all_started: bool, has_failed: bool) -> Result<Served, ServeFault>
+fn told<J: Naming>(
+    served: Served<J>,
+    all_started: bool,
+    has_failed: bool,
+) -> Result<Served<J>, ServeFault<J>>
     ensures ok { IfOk result (λ kept. (kept ≡ served) × (all_started ≡ true) × (has_failed ≡ false)) }
     ensures fault { IfErr result (λ fault. (fault.served ≡ served) × IsCause all_started has_failed fault.kind) }
 {
@@ -176,20 +187,26 @@ fn told(served: Served, all_started: bool, has_failed: bool) -> Result<Served, S
 }
 
 /// Serves by workers that are known to be of as many tables as there are, in as many shards each as they are.
-fn serve_wide<W: Width + Send + Sync, T: Table + Send, R: ServeRuntime, G: Gate + Sync>(
+fn serve_wide<
+    W: Width + Send + Sync,
+    T: Table + Send,
+    J: Naming + Send + Sync,
+    R: ServeRuntime,
+    G: Gate + Sync,
+>(
     alloc: Global,
     rt: &R,
     listeners: &[Listener],
-    tables: &[Shards<T>],
-    mut seats: Vec<Vec<Seat>>,
+    tables: &[Shards<T, J>],
+    mut seats: Vec<Vec<SharedSeat<J>>>,
     setup: &Setup,
     gate: &G,
     threads: u32,
     limits: Limits,
     stop_after: Option<u64>,
-    start: Instant,
+    start: Start,
     control: Control<'_>,
-) -> Result<Served, ServeFault>
+) -> Result<Served<J>, ServeFault<J>>
     requires width { W.tables ≡ length tables.now }
     requires shards { W.shards ≡ setup.now.shards }
     requires most { W.most ≡ most_of limits.connections threads }
@@ -205,7 +222,7 @@ fn serve_wide<W: Width + Send + Sync, T: Table + Send, R: ServeRuntime, G: Gate 
     };
     let connections = limits.connections as usize;
     let most = share_of(connections, threads as usize, 0);
-    let Ok(room) = reserve::<T, R, W>(alloc, threads as usize, tables.len(), most) else {
+    let Ok(room) = reserve::<T, J, R, W>(alloc, threads as usize, tables.len(), most) else {
         return Err(without_memory(alloc, seats));
     };
     let Reserved {
@@ -241,7 +258,7 @@ fn serve_wide<W: Width + Send + Sync, T: Table + Send, R: ServeRuntime, G: Gate 
 }
 
 /// The fault of missing memory, with the seats as they were.
-fn without_memory(alloc: Global, seats: Vec<Vec<Seat>>) -> ServeFault
+fn without_memory<J: Naming>(alloc: Global, seats: Vec<Vec<SharedSeat<J>>>) -> ServeFault<J>
     ensures kind { result.kind ≡ MemoryFault }
     ensures unserved { IsUnserved seats result.served }
 {
@@ -272,20 +289,20 @@ fn without_memory(alloc: Global, seats: Vec<Vec<Seat>>) -> ServeFault
 /// while. A reference whose release is refused stays held, and is handed back; its thread accepts no connection more. All memory
 /// that the threads' lists need is taken before the first starts. Whatever comes of it, all seats come back, and the references
 /// that are still held.
-pub fn serve<T: Table + Send, R: ServeRuntime, G: Gate + Sync>(
+pub fn serve<T: Table + Send, J: Naming + Send + Sync, R: ServeRuntime, G: Gate + Sync>(
     alloc: Global,
     rt: &R,
     listeners: &[Listener],
-    tables: &[Shards<T>],
-    seats: Vec<Vec<Seat>>,
+    tables: &[Shards<T, J>],
+    seats: Vec<Vec<SharedSeat<J>>>,
     setup: &Setup,
     gate: &G,
     threads: u32,
     limits: Limits,
     stop_after: Option<u64>,
-    start: Instant,
+    start: Start,
     control: Control<'_>,
-) -> Result<Served, ServeFault>
+) -> Result<Served<J>, ServeFault<J>>
     requires server { is_some setup.now.server ≡ true }
     requires tables { AreTablesOf setup.now tables.now }
     requires seats { AreSeats (length tables.now) threads seats }
@@ -294,7 +311,7 @@ pub fn serve<T: Table + Send, R: ServeRuntime, G: Gate + Sync>(
     ensures ok { IfOk result (λ served. IsServed (length tables.now) threads (most_of limits.connections threads) served) }
     ensures err { IfErr result (λ fault. IsFault (length tables.now) threads (most_of limits.connections threads) seats fault) }
 {
-    serve_wide::<Brand, T, R, G>(
+    serve_wide::<Brand, T, J, R, G>(
         alloc, rt, listeners, tables, seats, setup, gate, threads, limits, stop_after, start,
         control,
     )

@@ -6,11 +6,11 @@ use crate::connection_counter::ConnectionCounter;
 use crate::control::Control;
 use crate::listeners::Listeners;
 use crate::width::Width;
+use base_clock::Start;
 use rule_model::Setup;
 use std::alloc::Global;
 use std::marker::PhantomData;
 use std::net::SocketAddr;
-use std::time::Instant;
 use tcp_link::{Keepalive, Timeouts};
 
 /// What all workers share, each by reference.
@@ -30,7 +30,7 @@ pub(crate) struct Shared<'a, R, G, W: Width> {
     pub(crate) gate: &'a G,
     pub(crate) control: Control<'a>,
     /// The moment 0.
-    pub(crate) start: Instant,
+    pub(crate) start: Start,
     pub(crate) of: PhantomData<W>,
     ghost tables: { length setup.now.tables ≡ W.tables },
     ghost shards: { setup.now.shards ≡ W.shards },

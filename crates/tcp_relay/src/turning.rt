@@ -2,7 +2,7 @@
 
 ghost use Rattle.std.specs.Prelude.{◌≡◌, Some, None, slice_get};
 
-use crate::accept_errors::AcceptFault;
+use crate::accept_errors::{AcceptFault, Shortage, shortage_of};
 use crate::acceptor::Acceptor;
 use crate::addresses::samples;
 use crate::buffers::Buffers;
@@ -11,6 +11,7 @@ use crate::drain::Phase;
 use crate::fates::{Ended, Ending};
 use crate::listener_turn::WorkerTurn;
 use crate::listeners::Accepted;
+use crate::met::{count_met, met_by};
 use crate::shared::Shared;
 use crate::sweep::Sweep;
 use crate::visiting::{end_admitted, end_at, judge_one};
@@ -20,6 +21,7 @@ use crate::worker::Worker;
 use crate::{Gate, ServeRuntime};
 use base_clock::{Clock, RunningClock};
 use mio::{Events, net};
+use shard_record::Naming;
 use std::thread;
 use std::time::Duration;
 use stick_table::Table;
@@ -45,9 +47,9 @@ pub(crate) struct EventLoop<'r, R> {
 }
 
 /// Takes a client in: it is judged, and carried to the server if it is admitted.
-fn take_in<'a, T: Table, R: ServeRuntime, G: Gate, W: Width>(
+fn take_in<'a, T: Table, J: Naming, R: ServeRuntime, G: Gate, W: Width>(
     shared: &Shared<'a, R, G, W>,
-    worker: &mut Worker<'a, T, R, W>,
+    worker: &mut Worker<'a, T, J, R, W>,
     event_loop: &mut EventLoop<'_, R>,
     buffer: &mut Buffer,
     number: u64,
@@ -125,8 +127,8 @@ fn start<R: ServeRuntime, G, W: Width>(
 }
 
 /// What becomes of a client that couldn't be accepted.
-fn note_fault<T: Table, R, W: Width>(
-    worker: &mut Worker<'_, T, R, W>,
+fn note_fault<T: Table, J: Naming, R, W: Width>(
+    worker: &mut Worker<'_, T, J, R, W>,
     acceptor: &mut Acceptor,
     fault: AcceptFault,
 ) {
@@ -140,9 +142,9 @@ fn note_fault<T: Table, R, W: Width>(
 }
 
 /// Accepts a client, if there is one, for the number that is drawn and a place that is free.
-fn accept_one<'a, T: Table, R: ServeRuntime, G: Gate, W: Width>(
+fn accept_one<'a, T: Table, J: Naming, R: ServeRuntime, G: Gate, W: Width>(
     shared: &Shared<'a, R, G, W>,
-    worker: &mut Worker<'a, T, R, W>,
+    worker: &mut Worker<'a, T, J, R, W>,
     event_loop: &mut EventLoop<'_, R>,
     buffer: &mut Buffer,
     number: u64,
@@ -160,18 +162,33 @@ fn accept_one<'a, T: Table, R: ServeRuntime, G: Gate, W: Width>(
             worker.counted.count_accepted();
             take_in(shared, worker, event_loop, buffer, number, place, accepted);
         }
-        Err(fault) => {
+        Err(unaccepted) => {
             worker.places.free(place);
-            let fault = fault.heard(shared.control.drain.has_begun());
+            let fault = unaccepted.fault.heard(shared.control.drain.has_begun());
             note_fault(worker, &mut event_loop.acceptor, fault);
+            shared.control.note_fault(fault, unaccepted.error);
         }
     }
 }
 
-/// Tries to accept a client. First a socket for its server is had: one that is accepted can be carried.
-fn try_to_accept<'a, T: Table, R: ServeRuntime, G: Gate, W: Width>(
+/// No socket can be had for a client's server, by an error with this number, if it has one. So no client is accepted now.
+fn note_short<'a, T: Table, J: Naming, R, G, W: Width>(
     shared: &Shared<'a, R, G, W>,
-    worker: &mut Worker<'a, T, R, W>,
+    worker: &mut Worker<'_, T, J, R, W>,
+    acceptor: &mut Acceptor,
+    error: Option<u32>,
+) {
+    let shortage = error.map_or(Shortage::Other, shortage_of);
+    worker.tally.count_unaccepted();
+    worker.counted.count_shortage(shortage);
+    shared.control.note_shortage(shortage, error);
+    acceptor.run_short();
+}
+
+/// Tries to accept a client. First a socket for its server is had: one that is accepted can be carried.
+fn try_to_accept<'a, T: Table, J: Naming, R: ServeRuntime, G: Gate, W: Width>(
+    shared: &Shared<'a, R, G, W>,
+    worker: &mut Worker<'a, T, J, R, W>,
     event_loop: &mut EventLoop<'_, R>,
     buffer: &mut Buffer,
     number: u64,
@@ -179,10 +196,9 @@ fn try_to_accept<'a, T: Table, R: ServeRuntime, G: Gate, W: Width>(
     let ready = event_loop
         .acceptor
         .ready_server(shared.rt, shared.server, shared.keepalive);
-    if let Err(shortage) = ready {
-        worker.tally.count_unaccepted();
-        worker.counted.count_shortage(shortage);
-        event_loop.acceptor.run_short();
+    if let Err(error) = ready {
+        let error = error.raw_os_error().map(i32::unsigned_abs);
+        note_short(shared, worker, &mut event_loop.acceptor, error);
         return;
     }
     match worker.places.claim() {
@@ -192,9 +208,9 @@ fn try_to_accept<'a, T: Table, R: ServeRuntime, G: Gate, W: Width>(
 }
 
 /// Accepts the clients that wait, as far as this worker can. Whether none waits now.
-fn accept_some<'a, T: Table, R: ServeRuntime, G: Gate, W: Width>(
+fn accept_some<'a, T: Table, J: Naming, R: ServeRuntime, G: Gate, W: Width>(
     shared: &Shared<'a, R, G, W>,
-    worker: &mut Worker<'a, T, R, W>,
+    worker: &mut Worker<'a, T, J, R, W>,
     event_loop: &mut EventLoop<'_, R>,
     buffer: &mut Buffer,
 ) -> bool {
@@ -214,9 +230,9 @@ fn accept_some<'a, T: Table, R: ServeRuntime, G: Gate, W: Width>(
 }
 
 /// Gives a connection its turn, of which a socket is ready.
-fn turn<'a, T: Table, R: ServeRuntime, G, W: Width>(
+fn turn<'a, T: Table, J: Naming, R: ServeRuntime, G, W: Width>(
     shared: &Shared<'a, R, G, W>,
-    worker: &mut Worker<'a, T, R, W>,
+    worker: &mut Worker<'a, T, J, R, W>,
     event_loop: &mut EventLoop<'_, R>,
     buffer: &mut Buffer,
     ready: Ready,
@@ -252,9 +268,9 @@ fn tells_of_connections(events: &Events) -> bool {
 }
 
 /// Gives each that is ready its turn, the listener first. Whether that was the listener alone, where no client waits now.
-fn turn_each<'a, T: Table, R: ServeRuntime, G: Gate, W: Width>(
+fn turn_each<'a, T: Table, J: Naming, R: ServeRuntime, G: Gate, W: Width>(
     shared: &Shared<'a, R, G, W>,
-    worker: &mut Worker<'a, T, R, W>,
+    worker: &mut Worker<'a, T, J, R, W>,
     event_loop: &mut EventLoop<'_, R>,
     events: &Events,
     buffer: &mut Buffer,
@@ -276,9 +292,9 @@ fn turn_each<'a, T: Table, R: ServeRuntime, G: Gate, W: Width>(
 }
 
 /// Waits until something is ready, for no longer than it may. False where that failed.
-fn wait<'a, T: Table, R: ServeRuntime, G: Gate, W: Width>(
+fn wait<'a, T: Table, J: Naming, R: ServeRuntime, G: Gate, W: Width>(
     shared: &Shared<'a, R, G, W>,
-    worker: &Worker<'a, T, R, W>,
+    worker: &Worker<'a, T, J, R, W>,
     event_loop: &mut EventLoop<'_, R>,
     events: &mut Events,
 ) -> bool {
@@ -304,9 +320,9 @@ fn wait<'a, T: Table, R: ServeRuntime, G: Gate, W: Width>(
 /// Waits until something is ready, and gives each its turn. Then, where that is due, silent peers are looked for, and servers
 /// that refused are tried again; at the end of a drain all are closed. What was counted is published. Where each client that came
 /// was rejected, and that was all, it rests a moment before the next. False where waiting failed.
-pub(crate) fn turn_all<'a, T: Table, R: ServeRuntime, G: Gate, W: Width>(
+pub(crate) fn turn_all<'a, T: Table, J: Naming, R: ServeRuntime, G: Gate, W: Width>(
     shared: &Shared<'a, R, G, W>,
-    worker: &mut Worker<'a, T, R, W>,
+    worker: &mut Worker<'a, T, J, R, W>,
     event_loop: &mut EventLoop<'_, R>,
     buffers: &mut Buffers,
 ) -> bool {
@@ -333,6 +349,7 @@ pub(crate) fn turn_all<'a, T: Table, R: ServeRuntime, G: Gate, W: Width>(
         close_all(shared, worker, event_loop);
     }
     let cells = shared.control.cells_of(event_loop.watch.worker());
+    count_met(&mut worker.counted, met_by(worker.seated.as_slice()));
     worker.counted.publish(cells);
     if only_accepts && worker.places.open() == open && worker.tally.has_only_rejected(tally) {
         thread::sleep(shared.rt, Duration::from_micros(REST));

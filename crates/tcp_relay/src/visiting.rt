@@ -5,6 +5,7 @@ ghost use Rattle.admit_core.specs.Conn.{needed, progress_of};
 ghost use Rattle.admit_core.specs.Connection.{closed_of};
 ghost use Rattle.admit_core.specs.declared.need.Need.TheVariants.{Rest};
 ghost use Rattle.tcp_relay.specs.Connections.{IsVisitor};
+ghost use Rattle.tcp_relay.specs.Passed.{HasPassedLimits, HavePassedStill};
 ghost use Rattle.tcp_relay.specs.Seating.{AreIn};
 
 use crate::fates::Ended;
@@ -17,25 +18,27 @@ use admit_core::Conn;
 use admit_port::{finish, judge};
 use base_clock::{Clock, RunningClock, StoppedClock};
 use rule_eval::Samples;
-use shard_book::TrackRef;
-use shard_locks::Seated;
+use shard_locks::{Seated, SharedRef};
+use shard_record::Naming;
 use stick_table::Table;
 
 /// Has a connection judged by the rules, all at the moment at which they begin, and passes it through the gate. Whether it is
-/// admitted.
-pub(crate) fn judge_one<'a, T: Table, R: ServeRuntime, G: Gate, W: Width>(
+/// admitted: then its source has passed the limit that the rules begin with, by the records that the seats know.
+pub(crate) fn judge_one<'a, T: Table, J: Naming, R: ServeRuntime, G: Gate, W: Width>(
     shared: &Shared<'a, R, G, W>,
-    seated: &mut Vec<Seated<'a, T, R>>,
+    seated: &mut Vec<Seated<'a, T, J, R>>,
     clock: &mut RunningClock<'_, R>,
     number: u64,
     samples: Samples,
-) -> (Conn<'a, TrackRef>, bool)
+) -> (Conn<'a, SharedRef<J>>, bool)
     requires count { vec_len seated.old ≡ W.tables }
     requires shards { AreIn (λ one. one.table.shards) W.shards seated.old.items }
     ensures count { vec_len seated.new ≡ W.tables }
     ensures shards { AreIn (λ one. one.table.shards) W.shards seated.new.items }
     ensures connection { IsVisitor W.tables W.shards result.0 }
     ensures rests { result.1 ≡ true → needed result.0 ≡ Rest }
+    ensures passed { result.1 ≡ true → HasPassedLimits shared.now.setup.now samples seated.new.items result.0 }
+    ensures still { HavePassedStill seated.old.items seated.new.items }
 {
     let mut conn = Conn::new(shared.setup, samples);
     let mut stopped = StoppedClock::at(clock.now());
@@ -46,11 +49,11 @@ pub(crate) fn judge_one<'a, T: Table, R: ServeRuntime, G: Gate, W: Width>(
 }
 
 /// Closes an admitted connection, after so many bytes came in and went out.
-fn closed<'a, W: Width>(
-    mut conn: Conn<'a, TrackRef>,
+fn closed<'a, J: Naming, W: Width>(
+    mut conn: Conn<'a, SharedRef<J>>,
     bytes_in: u64,
     bytes_out: u64,
-) -> Conn<'a, TrackRef>
+) -> Conn<'a, SharedRef<J>>
     requires connection { IsVisitor W.tables W.shards conn }
     requires rests { needed conn ≡ Rest }
     ensures closed { progress_of result ≡ closed_of (progress_of conn.entry) bytes_in bytes_out }
@@ -62,18 +65,19 @@ fn closed<'a, W: Width>(
 
 /// Ends a connection that was rejected or closed: what is left to be counted is counted, and its references go back, all at one
 /// moment. One whose references can't be given back still holds them, and is still there.
-fn leave<'a, T: Table, R: ServeRuntime, G, W: Width>(
+fn leave<'a, T: Table, J: Naming, R: ServeRuntime, G, W: Width>(
     shared: &Shared<'a, R, G, W>,
-    seated: &mut Vec<Seated<'a, T, R>>,
+    seated: &mut Vec<Seated<'a, T, J, R>>,
     clock: &mut RunningClock<'_, R>,
-    mut conn: Conn<'a, TrackRef>,
-) -> Option<Conn<'a, TrackRef>>
+    mut conn: Conn<'a, SharedRef<J>>,
+) -> Option<Conn<'a, SharedRef<J>>>
     requires count { vec_len seated.old ≡ W.tables }
     requires shards { AreIn (λ one. one.table.shards) W.shards seated.old.items }
     requires connection { IsVisitor W.tables W.shards conn }
     ensures count { vec_len seated.new ≡ W.tables }
     ensures shards { AreIn (λ one. one.table.shards) W.shards seated.new.items }
     ensures connection { IfSome result (IsVisitor W.tables W.shards) }
+    ensures still { HavePassedStill seated.old.items seated.new.items }
 {
     let mut stopped = StoppedClock::at(clock.now());
     let ports = seated.as_mut_slice();
@@ -83,12 +87,12 @@ fn leave<'a, T: Table, R: ServeRuntime, G, W: Width>(
 }
 
 /// Ends the connection of a place that is claimed, and counts it.
-pub(crate) fn end_at<'a, T: Table, R: ServeRuntime, G, W: Width>(
+pub(crate) fn end_at<'a, T: Table, J: Naming, R: ServeRuntime, G, W: Width>(
     shared: &Shared<'a, R, G, W>,
-    worker: &mut Worker<'a, T, R, W>,
+    worker: &mut Worker<'a, T, J, R, W>,
     clock: &mut RunningClock<'_, R>,
     place: usize,
-    conn: Conn<'a, TrackRef>,
+    conn: Conn<'a, SharedRef<J>>,
     is_admitted: bool,
 )
     requires connection { IsVisitor W.tables W.shards conn }
@@ -105,12 +109,12 @@ pub(crate) fn end_at<'a, T: Table, R: ServeRuntime, G, W: Width>(
 }
 
 /// Ends an admitted connection of a place that is claimed, and counts how.
-pub(crate) fn end_admitted<'a, T: Table, R: ServeRuntime, G, W: Width>(
+pub(crate) fn end_admitted<'a, T: Table, J: Naming, R: ServeRuntime, G, W: Width>(
     shared: &Shared<'a, R, G, W>,
-    worker: &mut Worker<'a, T, R, W>,
+    worker: &mut Worker<'a, T, J, R, W>,
     clock: &mut RunningClock<'_, R>,
     place: usize,
-    conn: Conn<'a, TrackRef>,
+    conn: Conn<'a, SharedRef<J>>,
     ended: Ended,
 )
     requires connection { IsVisitor W.tables W.shards conn }
@@ -118,7 +122,7 @@ pub(crate) fn end_admitted<'a, T: Table, R: ServeRuntime, G, W: Width>(
     requires free { slice_get worker.old.places.held.items place ≡ Some None }
 {
     worker.counted.count_end(ended);
-    let conn = closed::<W>(conn, ended.bytes_in, ended.bytes_out);
+    let conn = closed::<J, W>(conn, ended.bytes_in, ended.bytes_out);
     end_at(shared, worker, clock, place, conn, true);
     shared.control.gauge.leave();
 }

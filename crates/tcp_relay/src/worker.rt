@@ -12,8 +12,8 @@ use crate::places::Places;
 use crate::seating::put_row;
 use crate::watch::Watch;
 use crate::width::Width;
-use shard_book::{Seat, TrackRef};
-use shard_locks::Seated;
+use shard_locks::{Seated, SharedRef, SharedSeat};
+use shard_record::Naming;
 use std::marker::PhantomData;
 use stick_table::Table;
 
@@ -86,14 +86,14 @@ impl Tally {
 
 /// A worker: the tables, each asked by its seat, what it has counted, and the connections that it holds. It is lent to a thread,
 /// and shows afterwards what that has done.
-pub(crate) struct Worker<'a, T: Table, R, W: Width> {
+pub(crate) struct Worker<'a, T: Table, J: Naming, R, W: Width> {
     pub(crate) tally: Tally,
     pub(crate) counted: Counted,
     /// Whether the references of a connection couldn't be given back.
     pub(crate) keeps: bool,
     /// Each table, asked by its seat.
-    pub(crate) seated: Vec<Seated<'a, T, R>>,
-    pub(crate) places: Places<'a, W>,
+    pub(crate) seated: Vec<Seated<'a, T, J, R>>,
+    pub(crate) places: Places<'a, J, W>,
     /// What its thread waits and carries by, until that takes it.
     pub(crate) buffers: Option<Buffers>,
     /// What its thread waits for, from when it watches until that takes it.
@@ -103,13 +103,13 @@ pub(crate) struct Worker<'a, T: Table, R, W: Width> {
     ghost shards: { AreIn (λ one. one.table.shards) W.shards seated.items },
 }
 
-impl<'a, T: Table, R, W: Width> Worker<'a, T, R, W> {
+impl<'a, T: Table, J: Naming, R, W: Width> Worker<'a, T, J, R, W> {
     /// A worker that has done nothing, with each table by its seat and places for its connections.
     pub(crate) fn new(
-        seated: Vec<Seated<'a, T, R>>,
-        places: Places<'a, W>,
+        seated: Vec<Seated<'a, T, J, R>>,
+        places: Places<'a, J, W>,
         buffers: Buffers,
-    ) -> Worker<'a, T, R, W>
+    ) -> Worker<'a, T, J, R, W>
         requires count { vec_len seated ≡ W.tables }
         requires shards { AreIn (λ one. one.table.shards) W.shards seated.items }
     {
@@ -127,7 +127,11 @@ impl<'a, T: Table, R, W: Width> Worker<'a, T, R, W> {
 
     /// Ends it: its seats go back to their tables, and the references that its connections still hold to those of their
     /// tables.
-    pub(crate) fn end(self, seats: &mut Vec<Vec<Seat>>, refs: &mut Vec<Vec<TrackRef>>) -> Tally
+    pub(crate) fn end(
+        self,
+        seats: &mut Vec<Vec<SharedSeat<J>>>,
+        refs: &mut Vec<Vec<SharedRef<J>>>,
+    ) -> Tally
         requires tables { (length seats.old.items ≡ W.tables) × (length refs.old.items ≡ W.tables) }
         requires seats { HaveRoom 1 seats.old.items }
         requires refs { HaveRoom (W.most * 3) refs.old.items }

@@ -1,14 +1,16 @@
 -- What is counted, and in which order.
 use Rattle.std.specs.Prelude.{ℕ, List, [], ◌∷◌}
 use Rattle.tcp_stats.specs.declared.count.Count.{Count}
-use Rattle.tcp_stats.specs.declared.count.Count.TheVariants.{Accepted, Admitted, Rejected, NoDescriptors, NoMemory, Unaccepted, ServerRefused, ServerTimedOut, NoPort, ServerFailed, ClientTimedOut, ServerSilent, FinTimedOut, Drained, Ended, BytesIn, BytesOut, Commands, Rolls, Expiries, Refusals}
+use Rattle.tcp_stats.specs.declared.count.Count.TheVariants.{Accepted, Admitted, Rejected, NoDescriptors, NoMemory, Unaccepted, ServerRefused, ServerTimedOut, NoPort, ServerFailed, ClientTimedOut, ServerSilent, FinTimedOut, Drained, Ended, BytesIn, BytesOut, UntrackedFull, UntrackedNoReferences, EventsNoMemory, EventsStale, EventsExhausted, Commands, Rolls, Expiries, Refusals}
 
 -- all that is counted, in the order in which a worker publishes it
 abbrev pub all_counts : List Count
 all_counts =
     Accepted ∷ Admitted ∷ Rejected ∷ NoDescriptors ∷ NoMemory ∷ Unaccepted
     ∷ ServerRefused ∷ ServerTimedOut ∷ NoPort ∷ ServerFailed ∷ ClientTimedOut ∷ ServerSilent ∷ FinTimedOut
-    ∷ Drained ∷ Ended ∷ BytesIn ∷ BytesOut ∷ Commands ∷ Rolls ∷ Expiries ∷ Refusals ∷ []
+    ∷ Drained ∷ Ended ∷ BytesIn ∷ BytesOut
+    ∷ UntrackedFull ∷ UntrackedNoReferences ∷ EventsNoMemory ∷ EventsStale ∷ EventsExhausted
+    ∷ Commands ∷ Rolls ∷ Expiries ∷ Refusals ∷ []
 
 -- the place of a count in that order, from 0
 abbrev pub place : Count → ℕ
@@ -29,7 +31,12 @@ place Drained = 13
 place Ended = 14
 place BytesIn = 15
 place BytesOut = 16
-place Commands = 17
-place Rolls = 18
-place Expiries = 19
-place Refusals = 20
+place UntrackedFull = 17
+place UntrackedNoReferences = 18
+place EventsNoMemory = 19
+place EventsStale = 20
+place EventsExhausted = 21
+place Commands = 22
+place Rolls = 23
+place Expiries = 24
+place Refusals = 25

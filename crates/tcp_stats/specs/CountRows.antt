@@ -1,7 +1,7 @@
 -- How each count is told: in a metric and in a report. Counts of one kind share a metric, in which labels set them apart.
 use Rattle.std.specs.Prelude.{ℕ, Bool, true, false, Option, Some, None, List, [], codes}
 use Rattle.tcp_stats.specs.declared.count.Count.{Count}
-use Rattle.tcp_stats.specs.declared.count.Count.TheVariants.{Accepted, Admitted, Rejected, NoDescriptors, NoMemory, Unaccepted, ServerRefused, ServerTimedOut, NoPort, ServerFailed, ClientTimedOut, ServerSilent, FinTimedOut, Drained, Ended, BytesIn, BytesOut, Commands, Rolls, Expiries, Refusals}
+use Rattle.tcp_stats.specs.declared.count.Count.TheVariants.{Accepted, Admitted, Rejected, NoDescriptors, NoMemory, Unaccepted, ServerRefused, ServerTimedOut, NoPort, ServerFailed, ClientTimedOut, ServerSilent, FinTimedOut, Drained, Ended, BytesIn, BytesOut, UntrackedFull, UntrackedNoReferences, EventsNoMemory, EventsStale, EventsExhausted, Commands, Rolls, Expiries, Refusals}
 
 -- the metric's name; what is said of it, at the first count of it; the count's labels; and its words behind its number in a report
 pub record CountRow : Type 0 where
@@ -28,6 +28,11 @@ count_row Drained = record { metric = codes "stickd_connections_drained_total"; 
 count_row Ended = record { metric = codes "stickd_connections_ended_total"; help = Some (codes "Admitted connections that have ended."); labels = []; words = codes "ended" }
 count_row BytesIn = record { metric = codes "stickd_bytes_total"; help = Some (codes "Bytes in from clients and out to them."); labels = codes "{direction=\"in\"}"; words = codes "bytes in" }
 count_row BytesOut = record { metric = codes "stickd_bytes_total"; help = None; labels = codes "{direction=\"out\"}"; words = codes "bytes out" }
+count_row UntrackedFull = record { metric = codes "stickd_untracked_total"; help = Some (codes "Times that a key was left untracked."); labels = codes "{cause=\"full\"}"; words = codes "not tracked as a table was full" }
+count_row UntrackedNoReferences = record { metric = codes "stickd_untracked_total"; help = None; labels = codes "{cause=\"references\"}"; words = codes "not tracked for want of references" }
+count_row EventsNoMemory = record { metric = codes "stickd_refused_events_total"; help = Some (codes "Events of connections that a table refused."); labels = codes "{cause=\"memory\"}"; words = codes "events refused for want of memory" }
+count_row EventsStale = record { metric = codes "stickd_refused_events_total"; help = None; labels = codes "{cause=\"stale\"}"; words = codes "events refused as stale" }
+count_row EventsExhausted = record { metric = codes "stickd_refused_events_total"; help = None; labels = codes "{cause=\"exhausted\"}"; words = codes "events refused at the end of a table's life" }
 count_row Commands = record { metric = codes "stickd_commands_total"; help = Some (codes "Commands that were answered."); labels = []; words = codes "commands" }
 count_row Rolls = record { metric = codes "stickd_rolls_total"; help = Some (codes "Times that a shard's record began again."); labels = []; words = codes "records begun again" }
 count_row Expiries = record { metric = codes "stickd_expiries_total"; help = Some (codes "Rounds in which a shard removed old entries."); labels = []; words = codes "rounds of expiry" }
@@ -50,5 +55,10 @@ is_trouble tells_rejected ServerRefused = true
 is_trouble tells_rejected ServerTimedOut = true
 is_trouble tells_rejected NoPort = true
 is_trouble tells_rejected ServerFailed = true
+is_trouble tells_rejected UntrackedFull = true
+is_trouble tells_rejected UntrackedNoReferences = true
+is_trouble tells_rejected EventsNoMemory = true
+is_trouble tells_rejected EventsStale = true
+is_trouble tells_rejected EventsExhausted = true
 is_trouble tells_rejected Refusals = true
 is_trouble tells_rejected _ = false

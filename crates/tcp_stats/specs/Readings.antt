@@ -7,7 +7,7 @@ use Rattle.tcp_stats.specs.declared.snapshot.TableFacts.{TableFacts}
 use Rattle.tcp_stats.specs.declared.readings.Reading.{Reading}
 use Rattle.tcp_stats.specs.declared.readings.Reading.TheVariants.{Open, Most, Limit, InHand, Threads, Draining, Uptime}
 use Rattle.tcp_stats.specs.declared.readings.TableReading.{TableReading}
-use Rattle.tcp_stats.specs.declared.readings.TableReading.TheVariants.{Size, Used}
+use Rattle.tcp_stats.specs.declared.readings.TableReading.TheVariants.{Size, Used, References, Purged}
 
 -- what is read of the program, in order
 abbrev pub all_readings : List Reading
@@ -38,16 +38,21 @@ reading_value now Uptime = uptime_seconds now
 
 -- what is read of a table, in order
 abbrev pub all_table_readings : List TableReading
-all_table_readings = Size ∷ Used ∷ []
+all_table_readings = Size ∷ Used ∷ References ∷ Purged ∷ []
 
 abbrev pub table_row : TableReading → Metric
 table_row Size = record { metric = codes "stickd_table_size_entries"; help = codes "The entries that a table has room for." }
 table_row Used = record { metric = codes "stickd_table_entries"; help = codes "The entries of a table." }
+table_row References = record { metric = codes "stickd_table_references"; help = codes "The references to a table's entries that are out." }
+table_row Purged = record { metric = codes "stickd_table_purged_entries_total"; help = codes "The entries that a table removed to make room for others." }
 
--- both go up and down
+-- what is removed adds up, and all else goes up and down
 abbrev pub table_kind : TableReading → List ℕ
+table_kind Purged = codes "counter"
 table_kind _ = codes "gauge"
 
 abbrev pub table_value : TableFacts → TableReading → ℕ
 table_value table Size = table.size
 table_value table Used = table.used
+table_value table References = table.references
+table_value table Purged = table.purged

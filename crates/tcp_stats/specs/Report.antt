@@ -17,10 +17,15 @@ unfoldable pub count_item : Snapshot → Count → List ℕ
 count_item now count =
     if is_told count (count_of now.counts count) then codes ", " ++ decimal (count_of now.counts count) ++ codes " " ++ (count_row count).words else []
 
--- ; NAME: U of S entries
+-- a number of a table with its words, if there is one
+unfoldable pub table_part : ℕ → List ℕ → List ℕ
+table_part number words = if nat_lt 0 number then codes ", " ++ decimal number ++ codes " " ++ words else []
+
+-- ; NAME: U of S entries, R references out, P purged
 unfoldable pub table_item : TableFacts → List ℕ
 table_item table =
     codes "; " ++ table.name.now ++ codes ": " ++ decimal table.used ++ codes " of " ++ decimal table.size ++ codes " entries"
+    ++ table_part table.references (codes "references out") ++ table_part table.purged (codes "purged")
 
 -- that no new clients are taken
 abbrev pub state_text : Bool → List ℕ

@@ -4,7 +4,7 @@ ghost use Rattle.std.specs.Prelude.{◌≡◌, ◌<◌};
 ghost use Rattle.tcp_stats.specs.CountNames.{place};
 
 /// How many counts there are.
-pub const COUNTS: usize = 21;
+pub const COUNTS: usize = 26;
 
 /// What is counted. The variants stand in the order in which a worker publishes them.
 #[derive(Clone, Copy, Debug, PartialEq, Eq)]
@@ -43,6 +43,16 @@ pub enum Count {
     BytesIn,
     /// Bytes that the server sent to clients.
     BytesOut,
+    /// Times that a key wasn't tracked, as there was no room in its table.
+    UntrackedFull,
+    /// Times that a key wasn't tracked, as all references of its table were out.
+    UntrackedNoReferences,
+    /// Events of connections that a table refused for want of memory.
+    EventsNoMemory,
+    /// Events of connections that a table refused, as their reference wasn't out.
+    EventsStale,
+    /// Events of connections that a table refused, as it was at the end of its life.
+    EventsExhausted,
     /// Commands that were answered on the sockets.
     Commands,
     /// Times that a shard's record was begun again.
@@ -73,6 +83,11 @@ impl Count {
         Count::Ended,
         Count::BytesIn,
         Count::BytesOut,
+        Count::UntrackedFull,
+        Count::UntrackedNoReferences,
+        Count::EventsNoMemory,
+        Count::EventsStale,
+        Count::EventsExhausted,
         Count::Commands,
         Count::Rolls,
         Count::Expiries,

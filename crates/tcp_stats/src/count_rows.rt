@@ -29,6 +29,11 @@ impl Count {
             Count::Ended => "stickd_connections_ended_total",
             Count::BytesIn => "stickd_bytes_total",
             Count::BytesOut => "stickd_bytes_total",
+            Count::UntrackedFull => "stickd_untracked_total",
+            Count::UntrackedNoReferences => "stickd_untracked_total",
+            Count::EventsNoMemory => "stickd_refused_events_total",
+            Count::EventsStale => "stickd_refused_events_total",
+            Count::EventsExhausted => "stickd_refused_events_total",
             Count::Commands => "stickd_commands_total",
             Count::Rolls => "stickd_rolls_total",
             Count::Expiries => "stickd_expiries_total",
@@ -50,6 +55,8 @@ impl Count {
             Count::Drained => Some("Connections closed at the end of a drain."),
             Count::Ended => Some("Admitted connections that have ended."),
             Count::BytesIn => Some("Bytes in from clients and out to them."),
+            Count::UntrackedFull => Some("Times that a key was left untracked."),
+            Count::EventsNoMemory => Some("Events of connections that a table refused."),
             Count::Commands => Some("Commands that were answered."),
             Count::Rolls => Some("Times that a shard's record began again."),
             Count::Expiries => Some("Rounds in which a shard removed old entries."),
@@ -75,6 +82,11 @@ impl Count {
             Count::FinTimedOut => "{timeout=\"fin\"}",
             Count::BytesIn => "{direction=\"in\"}",
             Count::BytesOut => "{direction=\"out\"}",
+            Count::UntrackedFull => "{cause=\"full\"}",
+            Count::UntrackedNoReferences => "{cause=\"references\"}",
+            Count::EventsNoMemory => "{cause=\"memory\"}",
+            Count::EventsStale => "{cause=\"stale\"}",
+            Count::EventsExhausted => "{cause=\"exhausted\"}",
             _ => "",
         }
     }
@@ -101,6 +113,11 @@ impl Count {
             Count::Ended => "ended",
             Count::BytesIn => "bytes in",
             Count::BytesOut => "bytes out",
+            Count::UntrackedFull => "not tracked as a table was full",
+            Count::UntrackedNoReferences => "not tracked for want of references",
+            Count::EventsNoMemory => "events refused for want of memory",
+            Count::EventsStale => "events refused as stale",
+            Count::EventsExhausted => "events refused at the end of a table's life",
             Count::Commands => "commands",
             Count::Rolls => "records begun again",
             Count::Expiries => "rounds of expiry",
@@ -128,6 +145,11 @@ impl Count {
             | Count::ServerTimedOut
             | Count::NoPort
             | Count::ServerFailed
+            | Count::UntrackedFull
+            | Count::UntrackedNoReferences
+            | Count::EventsNoMemory
+            | Count::EventsStale
+            | Count::EventsExhausted
             | Count::Refusals => true,
             _ => false,
         }

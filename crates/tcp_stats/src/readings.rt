@@ -86,10 +86,19 @@ pub(crate) enum TableReading {
     Size,
     /// The entries that it has.
     Used,
+    /// The references to them that are out.
+    References,
+    /// The entries that went to make room for others.
+    Purged,
 }
 
 impl TableReading {
-    pub(crate) const ALL: [TableReading; 2] = [TableReading::Size, TableReading::Used];
+    pub(crate) const ALL: [TableReading; 4] = [
+        TableReading::Size,
+        TableReading::Used,
+        TableReading::References,
+        TableReading::Purged,
+    ];
 
     /// Its metric's name, what is said of it, and its type.
     pub(crate) fn names(self) -> (&'static str, &'static str, &'static str)
@@ -104,6 +113,16 @@ impl TableReading {
                 "gauge",
             ),
             TableReading::Used => ("stickd_table_entries", "The entries of a table.", "gauge"),
+            TableReading::References => (
+                "stickd_table_references",
+                "The references to a table's entries that are out.",
+                "gauge",
+            ),
+            TableReading::Purged => (
+                "stickd_table_purged_entries_total",
+                "The entries that a table removed to make room for others.",
+                "counter",
+            ),
         }
     }
 
@@ -114,6 +133,8 @@ impl TableReading {
         match self {
             TableReading::Size => table.size,
             TableReading::Used => table.used,
+            TableReading::References => table.references,
+            TableReading::Purged => table.purged,
         }
     }
 }

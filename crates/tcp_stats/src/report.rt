@@ -3,7 +3,7 @@
 ghost use Rattle.std.specs.Prelude.{◌≡◌, ◌++◌, OnOk};
 ghost use Rattle.std.specs.List.{flat_map};
 ghost use Rattle.tcp_stats.specs.Report as spec;
-ghost use Rattle.tcp_stats.specs.Report.{count_item, report_text, start_text, state_text, table_item};
+ghost use Rattle.tcp_stats.specs.Report.{count_item, report_text, start_text, state_text, table_item, table_part};
 
 use crate::{Count, Snapshot, TableFacts};
 use base_lines::push_decimal;
@@ -42,6 +42,21 @@ fn push_counts(text: &mut Vec<u8>, counts: &[Count], now: &Snapshot<'_>) -> Resu
     Ok(())
 }
 
+/// Appends a number of a table with its words, if there is one.
+#[tactic(auto, unfolding(crate::specs::Report::table_part))]
+fn push_table_part(text: &mut Vec<u8>, number: u64, words: &[u8]) -> Result<(), NoMemory>
+    ensures { OnOk result (text.new.items ≡ text.old.items ++ table_part number words.now) }
+{
+    if number == 0 {
+        return Ok(());
+    }
+    text.extend_from_slice(b", ")?;
+    push_decimal(text, number)?;
+    text.extend_from_slice(b" ")?;
+    text.extend_from_slice(words)?;
+    Ok(())
+}
+
 /// Appends what a table has.
 #[tactic(auto, unfolding(crate::specs::Report::table_item))]
 fn push_table(text: &mut Vec<u8>, table: &TableFacts<'_>) -> Result<(), NoMemory>
@@ -54,6 +69,8 @@ fn push_table(text: &mut Vec<u8>, table: &TableFacts<'_>) -> Result<(), NoMemory
     text.extend_from_slice(b" of ")?;
     push_decimal(text, table.size)?;
     text.extend_from_slice(b" entries")?;
+    push_table_part(text, table.references, b"references out")?;
+    push_table_part(text, table.purged, b"purged")?;
     Ok(())
 }
 

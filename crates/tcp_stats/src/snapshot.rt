@@ -18,6 +18,10 @@ pub struct TableFacts<'a> {
     pub size: u64,
     /// The entries that it has.
     pub used: u64,
+    /// The references to its entries that are out.
+    pub references: u64,
+    /// The entries that went to make room for others, modulo 2^64.
+    pub purged: u64,
 }
 
 /// What is known of the program at one moment.

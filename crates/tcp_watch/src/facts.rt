@@ -33,6 +33,24 @@ pub fn count_each<K: Keeper, C: Clock>(
     Ok(used)
 }
 
+/// The facts of a table that has so many entries. The lock of each shard is taken in turn, for as long as two numbers are read.
+fn table_facts<'a, K: Keeper>(named: &'a Named<K>, used: u64) -> TableFacts<'a> {
+    let mut references = 0u64;
+    let mut purged = 0u64;
+    for shard in 0..named.keeper.shards() {
+        let one = named.keeper.occupancy(shard);
+        references = references.saturating_add(u64::from(one.references));
+        purged = purged.wrapping_add(one.purged);
+    }
+    TableFacts {
+        name: str::from_utf8(named.name.as_slice()).unwrap_or("?"),
+        size: u64::from(named.keeper.size()),
+        used,
+        references,
+        purged,
+    }
+}
+
 /// The facts of each table, which has so many entries, in their order.
 pub fn facts_of<'a, K: Keeper>(
     alloc: Global,
@@ -41,11 +59,7 @@ pub fn facts_of<'a, K: Keeper>(
 ) -> Result<Vec<TableFacts<'a>>, NoMemory> {
     let mut facts = Vec::new(alloc);
     for (named, used) in tables.iter().zip(used) {
-        facts.push(TableFacts {
-            name: str::from_utf8(named.name.as_slice()).unwrap_or("?"),
-            size: u64::from(named.keeper.size()),
-            used: *used,
-        })?;
+        facts.push(table_facts(named, *used))?;
     }
     Ok(facts)
 }

@@ -5,27 +5,31 @@ ghost use Rattle.stored_data.specs.Laws.{HasTag};
 ghost use Rattle.stick_model.specs.Limits.{IsTableEvent};
 ghost use Rattle.shard_book.specs.Keeping.{MayAsk};
 
-use shard_book::{Seat, TrackRef};
-use shard_locks::{Shards, Tracking};
+use crate::Held;
+use crate::purse::Purse;
+use shard_locks::{Shards, SharedRef, SharedSeat, Tracking};
+use shard_record::Naming;
 use std::sync::Wait;
 use stick_key::{StickKey, shard_of};
 use stick_table::{Event, Refusal, Reply, Table, Ticket};
 use stored_data::Act;
 
-/// Tracks a key.
-fn track<T: Table>(
+/// Tracks a key, once the purse has memory for its reference.
+fn track<T: Table, J: Naming>(
     rt: &impl Wait,
-    table: &Shards<T>,
-    seat: &mut Seat,
+    table: &Shards<T, J>,
+    seat: &mut SharedSeat<J>,
+    purse: &mut Purse<J>,
     now: u64,
     key: StickKey,
 ) -> Result<Reply, Refusal>
     requires { now < 2 ^ 62 }
 {
+    purse.reserve()?;
     match table.track(rt, seat, now, key)? {
         Tracking::Tracked(reference, row) => {
             let ticket = reference.ticket();
-            reference.abandon();
+            purse.put(reference);
             Ok(Reply::Tracked { ticket, row })
         }
         Tracking::Full => Ok(Reply::Full),
@@ -33,62 +37,70 @@ fn track<T: Table>(
     }
 }
 
-/// Looks at a reference.
-fn look<T: Table>(
+/// Looks at a reference of the purse. One that isn't there is stale.
+fn look<T: Table, J: Naming>(
     rt: &impl Wait,
-    table: &Shards<T>,
-    seat: &mut Seat,
+    table: &Shards<T, J>,
+    seat: &mut SharedSeat<J>,
+    purse: &Purse<J>,
     now: u64,
-    reference: TrackRef,
+    held: Held,
 ) -> Result<Reply, Refusal>
     requires { now < 2 ^ 62 }
 {
-    let shown = table.look(rt, seat, &reference, now);
-    reference.abandon();
-    Ok(Reply::Row(shown?))
+    match purse.find(held) {
+        Some(reference) => Ok(Reply::Row(table.look(rt, seat, reference, now)?)),
+        None => Err(Refusal::Stale),
+    }
 }
 
-/// Does an act on the data of a reference.
-fn count<T: Table>(
+/// Does an act on the data of a reference of the purse.
+fn count<T: Table, J: Naming>(
     rt: &impl Wait,
-    table: &Shards<T>,
-    seat: &mut Seat,
+    table: &Shards<T, J>,
+    seat: &mut SharedSeat<J>,
+    purse: &Purse<J>,
     now: u64,
-    reference: TrackRef,
+    held: Held,
     act: Act,
 ) -> Result<Reply, Refusal>
     requires moment { now < 2 ^ 62 }
     requires tag { HasTag act }
 {
-    let counted = table.count(rt, seat, &reference, now, act);
-    reference.abandon();
-    Ok(Reply::Value(counted?))
+    match purse.find(held) {
+        Some(reference) => Ok(Reply::Value(table.count(rt, seat, reference, now, act)?)),
+        None => Err(Refusal::Stale),
+    }
 }
 
-/// Gives a reference back.
-fn release<T: Table>(
+/// Gives a reference of the purse back. Where that is refused it stays there.
+fn release<T: Table, J: Naming>(
     rt: &impl Wait,
-    table: &Shards<T>,
-    seat: &mut Seat,
+    table: &Shards<T, J>,
+    seat: &mut SharedSeat<J>,
+    purse: &mut Purse<J>,
     now: u64,
-    reference: TrackRef,
+    held: Held,
 ) -> Result<Reply, Refusal>
     requires { now < 2 ^ 62 }
 {
+    let Some(reference) = purse.take(held) else {
+        return Err(Refusal::Stale);
+    };
     match table.release(rt, seat, reference, now) {
         Ok(()) => Ok(Reply::Released),
         Err((reference, refusal)) => {
-            reference.abandon();
+            purse.put(reference);
             Err(refusal)
         }
     }
 }
 
 /// Has a shard answer an event that is no matter of a reference.
-fn call<T: Table>(
+fn call<T: Table, J: Naming>(
     rt: &impl Wait,
-    table: &Shards<T>,
-    seat: &mut Seat,
+    table: &Shards<T, J>,
+    seat: &mut SharedSeat<J>,
     shard: u32,
     event: Event,
 ) -> Result<Reply, Refusal>
@@ -100,11 +112,12 @@ fn call<T: Table>(
 }
 
 /// Has a table in shards answer an event for a seat, by the call that is for its kind: the shard of its key, or else this
-/// one. A reference goes in and comes out as its ticket, so that it can be dropped.
-pub fn ask<T: Table>(
+/// one. A reference goes in and comes out as its ticket: the purse has it.
+pub fn ask<T: Table, J: Naming>(
     rt: &impl Wait,
-    table: &Shards<T>,
-    seat: &mut Seat,
+    table: &Shards<T, J>,
+    seat: &mut SharedSeat<J>,
+    purse: &mut Purse<J>,
     shard: u32,
     event: Event,
 ) -> Result<Reply, Refusal>
@@ -116,17 +129,18 @@ pub fn ask<T: Table>(
             let place = shard_of(&key, table.shards());
             call(rt, table, seat, place, Event::Get(now, key))
         }
-        Event::Track(now, key) => track(rt, table, seat, now, key),
-        Event::Look(now, ticket) => look(rt, table, seat, now, TrackRef::new(shard, ticket)),
+        Event::Track(now, key) => track(rt, table, seat, purse, now, key),
+        Event::Look(now, ticket) => look(rt, table, seat, purse, now, Held { shard, ticket }),
         Event::Count(now, ticket, act) => count(
             rt,
             table,
             seat,
+            purse,
             now,
-            TrackRef::new(shard, ticket),
+            Held { shard, ticket },
             act,
         ),
-        Event::Release(now, ticket) => release(rt, table, seat, now, TrackRef::new(shard, ticket)),
+        Event::Release(now, ticket) => release(rt, table, seat, purse, now, Held { shard, ticket }),
         Event::Put(now, key, pairs) => {
             let place = shard_of(&key, table.shards());
             call(rt, table, seat, place, Event::Put(now, key, pairs))

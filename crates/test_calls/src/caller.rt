@@ -5,10 +5,12 @@ ghost use Rattle.stick_model.specs.Limits.{IsTableEvent};
 
 use crate::asking::ask;
 use crate::draws::{event, filter};
+use crate::purse::Purse;
 use crate::random_numbers::Random;
 use base_sequence::NoMemory;
 use shard_book::{Receipt, Seat};
-use shard_locks::{Listing, Shards};
+use shard_locks::{Listing, Shards, SharedSeat};
+use shard_record::Naming;
 use std::alloc::Global;
 use std::sync::Wait;
 use stick_key::shard_of;
@@ -41,15 +43,17 @@ pub struct Drawing {
 
 /// A seat of a table in shards, what it asks next, and the references that it holds.
 #[derive(Drop)]
-pub struct Caller<'a, T: Table> {
+pub struct Caller<'a, T: Table, J: Naming> {
     alloc: Global,
-    table: &'a Shards<T>,
-    seat: Seat,
+    table: &'a Shards<T, J>,
+    seat: SharedSeat<J>,
     random: Random,
     drawing: Drawing,
     /// The ms that it has waited.
     waited: u64,
     held: Vec<Held>,
+    /// The same, as references.
+    purse: Purse<J>,
 }
 
 /// The shard of an event: that of its key, or else this one.
@@ -64,9 +68,14 @@ fn shard_for(event: &Event, shards: u32, other: u32) -> u32
     }
 }
 
-impl<'a, T: Table> Caller<'a, T> {
+impl<'a, T: Table, J: Naming> Caller<'a, T, J> {
     /// A caller who holds nothing yet.
-    pub fn new(alloc: Global, table: &'a Shards<T>, seat: Seat, drawing: Drawing) -> Caller<'a, T> {
+    pub fn new(
+        alloc: Global,
+        table: &'a Shards<T, J>,
+        seat: SharedSeat<J>,
+        drawing: Drawing,
+    ) -> Caller<'a, T, J> {
         Caller {
             alloc,
             table,
@@ -75,6 +84,7 @@ impl<'a, T: Table> Caller<'a, T> {
             drawing,
             waited: 0,
             held: Vec::new(alloc),
+            purse: Purse::new(alloc),
         }
     }
 
@@ -152,7 +162,14 @@ impl<'a, T: Table> Caller<'a, T> {
     {
         let shard = shard_for(&event, self.table.shards(), shard);
         let asked = event.copy()?;
-        let reply = ask(rt, self.table, &mut self.seat, shard, event)?;
+        let reply = ask(
+            rt,
+            self.table,
+            &mut self.seat,
+            &mut self.purse,
+            shard,
+            event,
+        )?;
         self.note(shard, &asked, &reply)?;
         Ok(Receipt {
             shard,
@@ -181,7 +198,14 @@ impl<'a, T: Table> Caller<'a, T> {
         let shards = self.table.shards();
         for held in self.held.iter() {
             let event = Event::Release(0, held.ticket);
-            ask(rt, self.table, &mut self.seat, held.shard % shards, event)?;
+            ask(
+                rt,
+                self.table,
+                &mut self.seat,
+                &mut self.purse,
+                held.shard % shards,
+                event,
+            )?;
             released = released.saturating_add(1);
         }
         self.held.clear();
@@ -189,12 +213,12 @@ impl<'a, T: Table> Caller<'a, T> {
     }
 
     /// Its seat, with its calls.
-    pub fn into_seat(self) -> Seat {
+    pub fn into_seat(self) -> SharedSeat<J> {
         self.seat
     }
 
-    /// Its seat, with its calls, and the references that it holds.
-    pub fn into_parts(self) -> (Seat, Vec<Held>) {
-        (self.seat, self.held)
+    /// Its seat, with its calls, and the references that it holds, by their tickets and in a purse.
+    pub fn into_parts(self) -> (SharedSeat<J>, Vec<Held>, Purse<J>) {
+        (self.seat, self.held, self.purse)
     }
 }

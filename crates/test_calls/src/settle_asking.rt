@@ -3,10 +3,11 @@
 use crate::asking::ask;
 use crate::caller::Held;
 use crate::draws::key;
+use crate::purse::Purse;
 use crate::tables::place;
 use base_sequence::Sequence;
-use shard_book::Seat;
-use shard_locks::{Listing, Shards};
+use shard_locks::{Listing, Shards, SharedSeat};
+use shard_record::Naming;
 use std::alloc::Global;
 use std::sync::Wait;
 use std::sync::atomic::{AtomicBool, Ordering};
@@ -32,11 +33,12 @@ pub enum Call {
 }
 
 /// Sets gpc0 of the key of a number to 3.
-pub fn put(
+pub fn put<J: Naming>(
     rt: &impl Wait,
     alloc: Global,
-    table: &Shards<PlainTable>,
-    seat: &mut Seat,
+    table: &Shards<PlainTable, J>,
+    seat: &mut SharedSeat<J>,
+    purse: &mut Purse<J>,
     number: u32,
 ) -> Result<Reply, Refusal> {
     let key = key(alloc, number)?;
@@ -45,15 +47,23 @@ pub fn put(
         value: 3,
     };
     let pairs = Sequence::from_slice(alloc, &[pair])?;
-    ask(rt, table, seat, place(table, 0), Event::Put(0, key, pairs))
+    ask(
+        rt,
+        table,
+        seat,
+        purse,
+        place(table, 0),
+        Event::Put(0, key, pairs),
+    )
 }
 
 /// Tracks the key of a number at a moment.
-pub fn track(
+pub fn track<J: Naming>(
     rt: &impl Wait,
     alloc: Global,
-    table: &Shards<PlainTable>,
-    seat: &mut Seat,
+    table: &Shards<PlainTable, J>,
+    seat: &mut SharedSeat<J>,
+    purse: &mut Purse<J>,
     number: u32,
     now: u32,
 ) -> Result<Reply, Refusal> {
@@ -62,17 +72,19 @@ pub fn track(
         rt,
         table,
         seat,
+        purse,
         place(table, 0),
         Event::Track(u64::from(now), key),
     )
 }
 
 /// Gets the key of a number at a moment.
-pub fn get(
+pub fn get<J: Naming>(
     rt: &impl Wait,
     alloc: Global,
-    table: &Shards<PlainTable>,
-    seat: &mut Seat,
+    table: &Shards<PlainTable, J>,
+    seat: &mut SharedSeat<J>,
+    purse: &mut Purse<J>,
     number: u32,
     now: u32,
 ) -> Result<Reply, Refusal> {
@@ -81,16 +93,18 @@ pub fn get(
         rt,
         table,
         seat,
+        purse,
         place(table, 0),
         Event::Get(u64::from(now), key),
     )
 }
 
 /// Looks at a reference, counts by it, or gives it back.
-fn use_held(
+fn use_held<J: Naming>(
     rt: &impl Wait,
-    table: &Shards<PlainTable>,
-    seat: &mut Seat,
+    table: &Shards<PlainTable, J>,
+    seat: &mut SharedSeat<J>,
+    purse: &mut Purse<J>,
     held: Held,
     call: Call,
 ) -> Result<Reply, Refusal> {
@@ -99,24 +113,25 @@ fn use_held(
         Call::Count => Event::Count(30, held.ticket, Act::IncGpc0),
         _ => Event::Release(50, held.ticket),
     };
-    ask(rt, table, seat, place(table, held.shard), event)
+    ask(rt, table, seat, purse, place(table, held.shard), event)
 }
 
 /// What a call that is an event is answered.
-fn reply_to(
+fn reply_to<J: Naming>(
     rt: &impl Wait,
     alloc: Global,
-    table: &Shards<PlainTable>,
-    seat: &mut Seat,
+    table: &Shards<PlainTable, J>,
+    seat: &mut SharedSeat<J>,
+    purse: &mut Purse<J>,
     held: Held,
     call: Call,
 ) -> Result<Reply, Refusal> {
     match call {
-        Call::Put => put(rt, alloc, table, seat, 5),
-        Call::Track => track(rt, alloc, table, seat, 5, 10),
-        Call::TrackOther => track(rt, alloc, table, seat, 7, 35),
-        Call::Look | Call::Count | Call::Release => use_held(rt, table, seat, held, call),
-        _ => get(rt, alloc, table, seat, 5, 40),
+        Call::Put => put(rt, alloc, table, seat, purse, 5),
+        Call::Track => track(rt, alloc, table, seat, purse, 5, 10),
+        Call::TrackOther => track(rt, alloc, table, seat, purse, 7, 35),
+        Call::Look | Call::Count | Call::Release => use_held(rt, table, seat, purse, held, call),
+        _ => get(rt, alloc, table, seat, purse, 5, 40),
     }
 }
 
@@ -160,15 +175,16 @@ fn note(reply: &Reply, held: &mut Held) {
 }
 
 /// Makes a call that is an event; answers whether it is answered as it has to be.
-fn make_event(
+fn make_event<J: Naming>(
     rt: &impl Wait,
     alloc: Global,
-    table: &Shards<PlainTable>,
-    seat: &mut Seat,
+    table: &Shards<PlainTable, J>,
+    seat: &mut SharedSeat<J>,
+    purse: &mut Purse<J>,
     held: &mut Held,
     call: Call,
 ) -> Result<bool, (u32, Refusal)> {
-    match reply_to(rt, alloc, table, seat, *held, call) {
+    match reply_to(rt, alloc, table, seat, purse, *held, call) {
         Ok(reply) => {
             note(&reply, held);
             Ok(is_wanted(call, &reply))
@@ -178,22 +194,22 @@ fn make_event(
 }
 
 /// Lists the whole table.
-pub fn list(
+pub fn list<J: Naming>(
     rt: &impl Wait,
     alloc: Global,
-    table: &Shards<PlainTable>,
-    seat: &mut Seat,
+    table: &Shards<PlainTable, J>,
+    seat: &mut SharedSeat<J>,
     filter: &Filter,
 ) -> Result<Listing, (u32, Refusal)> {
     table.list(rt, alloc, seat, 45, filter)
 }
 
 /// Whether the whole table lists its one entry.
-fn lists(
+fn lists<J: Naming>(
     rt: &impl Wait,
     alloc: Global,
-    table: &Shards<PlainTable>,
-    seat: &mut Seat,
+    table: &Shards<PlainTable, J>,
+    seat: &mut SharedSeat<J>,
 ) -> Result<bool, (u32, Refusal)> {
     match list(rt, alloc, table, seat, &Filter::Everything) {
         Ok(Listing::Rows { used, rows }) => Ok(used == 1 && rows.as_slice().len() == 1),
@@ -204,7 +220,11 @@ fn lists(
 
 /// Whether a roll of the first shard's record says that it was done, where no receipts are kept, and else that it
 /// wasn't.
-fn rolls(rt: &impl Wait, table: &Shards<PlainTable>, keep: bool) -> Result<bool, (u32, Refusal)> {
+fn rolls<J: Naming>(
+    rt: &impl Wait,
+    table: &Shards<PlainTable, J>,
+    keep: bool,
+) -> Result<bool, (u32, Refusal)> {
     match table.roll(rt, place(table, 0), 1) {
         Ok(rolled) => Ok(rolled != keep),
         Err(_) => Err((0, Refusal::Memory)),
@@ -212,31 +232,32 @@ fn rolls(rt: &impl Wait, table: &Shards<PlainTable>, keep: bool) -> Result<bool,
 }
 
 /// Whether the work is done for which a shard is held.
-fn holds(rt: &impl Wait, table: &Shards<PlainTable>) -> bool {
+fn holds<J: Naming>(rt: &impl Wait, table: &Shards<PlainTable, J>) -> bool {
     let done = AtomicBool::new(false);
     table.hold(rt, place(table, 1), || done.store(true, Ordering::SeqCst));
     done.into_inner()
 }
 
 /// Whether there are two shards, and the second has half of the table's places.
-fn is_halved(table: &Shards<PlainTable>) -> bool {
+fn is_halved<J: Naming>(table: &Shards<PlainTable, J>) -> bool {
     table.shards() == 2 && table.spec(place(table, 1)).size == 6
 }
 
 /// Makes a call; answers whether it is answered as it has to be. A refusal says of how many shards the call was made.
-pub fn make(
+pub fn make<J: Naming>(
     rt: &impl Wait,
     alloc: Global,
-    table: &Shards<PlainTable>,
-    seat: &mut Seat,
+    table: &Shards<PlainTable, J>,
+    seat: &mut SharedSeat<J>,
+    purse: &mut Purse<J>,
     held: &mut Held,
     call: Call,
 ) -> Result<bool, (u32, Refusal)> {
     match call {
         Call::Spec => Ok(is_halved(table)),
         Call::List => lists(rt, alloc, table, seat),
-        Call::Roll => rolls(rt, table, seat.keeps()),
+        Call::Roll => rolls(rt, table, seat.seat().keeps()),
         Call::Hold => Ok(holds(rt, table)),
-        _ => make_event(rt, alloc, table, seat, held, call),
+        _ => make_event(rt, alloc, table, seat, purse, held, call),
     }
 }

@@ -4,37 +4,42 @@ ghost use Rattle.std.specs.Prelude.{◌<◌};
 
 use crate::caller::Held;
 use crate::draws::spec;
-use crate::showing::{abandon_all, references_of};
+use crate::purse::{Purse, references_of};
+use crate::records::{OpenTable, Records};
 use base_sequence::NoMemory;
-use shard_book::{Seat, TrackRef};
-use shard_locks::Shards;
+use shard_locks::{Shards, SharedRef, SharedSeat};
+use shard_record::Naming;
 use shard_settling::{Fault, Settled, Unsettled, settle};
 use std::alloc::Global;
 use stick_table::PlainTable;
 
-/// A table and its seats.
-pub type Opened = (Shards<PlainTable>, Vec<Seat>);
+/// A plain table and its seats.
+pub type OpenPlain<J> = OpenTable<PlainTable, J>;
 
-/// A table of 12 entries in two shards, each of which may have 5 references, and two seats.
-pub fn open(alloc: Global, keep: bool) -> Result<Opened, NoMemory> {
+/// A table of 12 entries in two shards, each of which may have 5 references, and two seats; and what is left of the record.
+pub fn open<J: Naming>(
+    alloc: Global,
+    records: Records<J>,
+    keep: bool,
+) -> Result<(Records<J>, OpenPlain<J>), NoMemory> {
     let spec = spec(alloc, 12, 5, 1 << 62)?;
-    Shards::new(alloc, spec, 2, 2, keep)
+    records.open(alloc, spec, 2, 2, keep)
 }
 
 /// The shard of a number, of which there are as many as the table has.
-pub fn place(table: &Shards<PlainTable>, number: u32) -> u32
+pub fn place<J: Naming>(table: &Shards<PlainTable, J>, number: u32) -> u32
     ensures { result < table.now.shards }
 {
     number % table.shards()
 }
 
 /// Whether a reference is of this ticket.
-fn is_of(reference: &TrackRef, held: &Held) -> bool {
+fn is_of<J: Naming>(reference: &SharedRef<J>, held: &Held) -> bool {
     held.shard == reference.shard() && held.ticket == reference.ticket()
 }
 
 /// Whether references are those of these tickets, in their order.
-fn are_of(refs: &[TrackRef], held: &[Held]) -> bool {
+fn are_of<J: Naming>(refs: &[SharedRef<J>], held: &[Held]) -> bool {
     if refs.len() != held.len() {
         return false;
     }
@@ -50,41 +55,42 @@ fn are_of(refs: &[TrackRef], held: &[Held]) -> bool {
 type Account = [u64; 4];
 
 /// The account of a seat, where there are so many.
-fn account(seats: &[Seat], place: usize) -> Option<Account> {
+fn account<J: Naming>(seats: &[SharedSeat<J>], place: usize) -> Option<Account> {
     match seats.get(place) {
         Some(seat) => Some([
-            u64::from(seat.number()),
-            seat.calls(0),
-            seat.calls(1),
-            seat.receipts().len() as u64,
+            u64::from(seat.seat().number()),
+            seat.seat().calls(0),
+            seat.seat().calls(1),
+            seat.seat().receipts().len() as u64,
         ]),
         None => None,
     }
 }
 
 /// The accounts of three seats, or of those that there are.
-fn accounts(seats: &[Seat]) -> [Option<Account>; 3] {
+fn accounts<J: Naming>(seats: &[SharedSeat<J>]) -> [Option<Account>; 3] {
     [account(seats, 0), account(seats, 1), account(seats, 2)]
 }
 
 /// What becomes of a table that is shown for settling.
 #[derive(Drop)]
-pub enum Outcome {
-    Settled(Settled<PlainTable>),
-    /// All that was shown came back.
-    Unsettled(Fault, Opened),
+pub enum Outcome<J: Naming> {
+    Settled(Settled<PlainTable, J>),
+    /// All that was shown came back, the references into their purse.
+    Unsettled(Fault, OpenPlain<J>),
     /// There was no memory to show it, or something else came back than was shown.
     Lost,
 }
 
 /// What comes back, where it is what was shown: so many shards, seats of these accounts, and the references of these
-/// tickets.
-fn handed_back(
-    unsettled: Unsettled<PlainTable>,
+/// tickets, which the purse has again.
+fn handed_back<J: Naming>(
+    unsettled: Unsettled<PlainTable, J>,
     shards: u32,
     shown: [Option<Account>; 3],
+    purse: &mut Purse<J>,
     held: &[Held],
-) -> Outcome {
+) -> Outcome<J> {
     let Unsettled {
         fault,
         found: _,
@@ -93,7 +99,7 @@ fn handed_back(
         refs,
     } = unsettled;
     let are_back = are_of(refs.as_slice(), held);
-    abandon_all(refs);
+    purse.put_all(refs);
     if are_back && accounts(seats.as_slice()) == shown && table.shards() == shards {
         Outcome::Unsettled(fault, (table, seats))
     } else {
@@ -102,21 +108,26 @@ fn handed_back(
 }
 
 /// Settles a table.
-fn settled(
+fn settled<J: Naming>(
     alloc: Global,
-    opened: Opened,
-    refs: Vec<TrackRef>,
-) -> Result<Settled<PlainTable>, Unsettled<PlainTable>> {
+    opened: OpenPlain<J>,
+    refs: Vec<SharedRef<J>>,
+) -> Result<Settled<PlainTable, J>, Unsettled<PlainTable, J>> {
     let (table, seats) = opened;
     settle(alloc, table, seats, refs)
 }
 
-/// Settles a table, its callers showing these seats, and references by these tickets.
-pub fn show(alloc: Global, opened: Opened, held: &[Held]) -> Outcome {
+/// Settles a table, its callers showing these seats, and the references of a purse by these tickets.
+pub fn show<J: Naming>(
+    alloc: Global,
+    opened: OpenPlain<J>,
+    purse: &mut Purse<J>,
+    held: &[Held],
+) -> Outcome<J> {
     let shards = opened.0.shards();
     let shown = accounts(opened.1.as_slice());
-    match settled(alloc, opened, references_of(alloc, held)) {
+    match settled(alloc, opened, references_of(alloc, purse, held)) {
         Ok(settled) => Outcome::Settled(settled),
-        Err(unsettled) => handed_back(unsettled, shards, shown, held),
+        Err(unsettled) => handed_back(unsettled, shards, shown, purse, held),
     }
 }

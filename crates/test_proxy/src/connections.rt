@@ -1,13 +1,16 @@
 //! Clients that come to a listener, served on two threads, and what is counted of them. A session is counted where it
 //! is accepted, bytes once it is closed, and `conn_cur` is the connections that hold the entry now.
 
+ghost use Rattle.std.specs.Prelude.{◌≡◌};
+
 use crate::gates::{Meeting, Open};
 use crate::peers::{answers, asks, is_alone, is_answered, is_closed};
 use crate::sites::{Ended, Site, client, open_site, serve_on};
-use crate::tables::{Opened, calls, open, shows};
-use shard_book::Seat;
-use shard_locks::Shards;
+use crate::tables::{OpenTable, calls, open, open_record, shows};
+use shard_locks::{Shards, SharedSeat};
+use shard_record::{Naming, Opened};
 use std::alloc::Global;
+use std::marker::Brand;
 use std::net::{Net, TcpListener, TcpStream};
 use std::sync::Wait;
 use std::thread;
@@ -41,15 +44,16 @@ fn sessions(count: u64) -> &'static [u8] {
 
 /// Serves a client, who gets no byte.
 fn one_comes<
+    J: Naming + Send + Sync,
     R: Net<Listener = TcpListener, Stream = TcpStream> + Threads + Wait + Clock + Sync,
     G: Gate + Sync,
 >(
     site: &Site<'_, R>,
-    table: &Shards<PlainTable>,
-    seats: Vec<Seat>,
+    table: &Shards<PlainTable, J>,
+    seats: Vec<SharedSeat<J>>,
     gate: &G,
     last: u64,
-) -> Option<Ended> {
+) -> Option<Ended<J>> {
     let only = client(site)?;
     let ended = serve_on(site, table, seats, gate, last)?;
     if is_closed(&only, site.alloc) && ended.unaccepted == 0 {
@@ -61,9 +65,15 @@ fn one_comes<
 
 /// Serves two clients who have both connected before, and who get no byte.
 fn two_come<
+    J: Naming + Send + Sync,
     R: Net<Listener = TcpListener, Stream = TcpStream> + Threads + Wait + Clock + Sync,
     G: Gate + Sync,
->(site: &Site<'_, R>, table: &Shards<PlainTable>, seats: Vec<Seat>, gate: &G) -> Option<Ended> {
+>(
+    site: &Site<'_, R>,
+    table: &Shards<PlainTable, J>,
+    seats: Vec<SharedSeat<J>>,
+    gate: &G,
+) -> Option<Ended<J>> {
     let (Some(first), Some(second)) = (client(site), client(site)) else {
         return None;
     };
@@ -82,12 +92,24 @@ fn two_then_one<R: Net<Listener = TcpListener, Stream = TcpStream> + Threads + W
     rt: &R,
     alloc: Global,
 ) -> Option<(u64, u64, u64, u64)> {
+    let opened = open_record(alloc)?;
+    two_then_one_recorded::<Brand, R>(rt, alloc, opened)
+}
+
+/// The same, its calls in a record.
+fn two_then_one_recorded<
+    J: Naming + Send + Sync,
+    R: Net<Listener = TcpListener, Stream = TcpStream> + Threads + Wait + Clock + Sync,
+>(rt: &R, alloc: Global, opened: Opened) -> Option<(u64, u64, u64, u64)>
+    requires record { (opened.first.table_id ≡ J.record_id) × (opened.books ≡ J.books) }
+    requires sizes { (opened.books ≡ 1) × (opened.seats ≡ 3) }
+{
     let site = open_site(rt, alloc, Some(1), None)?;
-    let Opened {
+    let OpenTable {
         table,
         seats,
         looking,
-    } = open(alloc)?;
+    } = open::<J>(alloc, opened)?;
     let gate = Meeting::new(rt, 2);
     let two = two_come(&site, &table, seats, &gate)?;
     if gate.met() != Some((2, 3)) || two.fault.is_some() {
@@ -119,12 +141,24 @@ fn none_behind<R: Net<Listener = TcpListener, Stream = TcpStream> + Threads + Wa
     rt: &R,
     alloc: Global,
 ) -> Option<(u64, u64, u64)> {
+    let opened = open_record(alloc)?;
+    none_behind_recorded::<Brand, R>(rt, alloc, opened)
+}
+
+/// The same, its calls in a record.
+fn none_behind_recorded<
+    J: Naming + Send + Sync,
+    R: Net<Listener = TcpListener, Stream = TcpStream> + Threads + Wait + Clock + Sync,
+>(rt: &R, alloc: Global, opened: Opened) -> Option<(u64, u64, u64)>
+    requires record { (opened.first.table_id ≡ J.record_id) × (opened.books ≡ J.books) }
+    requires sizes { (opened.books ≡ 1) × (opened.seats ≡ 3) }
+{
     let site = open_site(rt, alloc, None, None)?;
-    let Opened {
+    let OpenTable {
         table,
         seats,
         looking,
-    } = open(alloc)?;
+    } = open::<J>(alloc, opened)?;
     let two = two_come(&site, &table, seats, &Open)?;
     // Each thread may leave the references of two connections, which are three each at most.
     if two.fault.is_some() || two.left != 0 || two.places < 12 {
@@ -144,15 +178,27 @@ fn all_rejected<R: Net<Listener = TcpListener, Stream = TcpStream> + Threads + W
     rt: &R,
     alloc: Global,
 ) -> Option<(u64, u64, u64)> {
+    let opened = open_record(alloc)?;
+    all_rejected_recorded::<Brand, R>(rt, alloc, opened)
+}
+
+/// The same, its calls in a record.
+fn all_rejected_recorded<
+    J: Naming + Send + Sync,
+    R: Net<Listener = TcpListener, Stream = TcpStream> + Threads + Wait + Clock + Sync,
+>(rt: &R, alloc: Global, opened: Opened) -> Option<(u64, u64, u64)>
+    requires record { (opened.first.table_id ≡ J.record_id) × (opened.books ≡ J.books) }
+    requires sizes { (opened.books ≡ 1) × (opened.seats ≡ 3) }
+{
     let Ok(server) = TcpListener::bind(rt, "127.0.0.1:0") else {
         return None;
     };
     let site = open_site(rt, alloc, Some(0), Some(&server))?;
-    let Opened {
+    let OpenTable {
         table,
         seats,
         looking,
-    } = open(alloc)?;
+    } = open::<J>(alloc, opened)?;
     let two = two_come(&site, &table, seats, &Open)?;
     if two.fault.is_some() || two.left != 0 || !is_alone(&server) {
         return None;
@@ -170,15 +216,16 @@ fn rejected_clients_get_no_byte_and_are_counted(rt: HostRuntime) {
 /// Serves a connection in front of a server that answers.
 fn with_server<
     's,
+    J: Naming + Send + Sync,
     E,
     R: Net<Listener = TcpListener, Stream = TcpStream> + Threads + Wait + Clock + Sync,
 >(
     scope: &Scope<'s, E>,
     site: &Site<'_, R>,
     server: &'s TcpListener,
-    table: &Shards<PlainTable>,
-    seats: Vec<Seat>,
-) -> Option<Ended> {
+    table: &Shards<PlainTable, J>,
+    seats: Vec<SharedSeat<J>>,
+) -> Option<Ended<J>> {
     let alloc = site.alloc;
     let Ok(answering) = scope.spawn(move || answers(server, alloc)) else {
         return None;
@@ -189,13 +236,14 @@ fn with_server<
 
 /// Serves a client that asks and is answered.
 fn one_is_answered<
+    J: Naming + Send + Sync,
     R: Net<Listener = TcpListener, Stream = TcpStream> + Threads + Wait + Clock + Sync,
 >(
     site: &Site<'_, R>,
     server: &TcpListener,
-    table: &Shards<PlainTable>,
-    seats: Vec<Seat>,
-) -> Option<Ended> {
+    table: &Shards<PlainTable, J>,
+    seats: Vec<SharedSeat<J>>,
+) -> Option<Ended<J>> {
     let client = client(site)?;
     if !asks(&client) {
         return None;
@@ -215,15 +263,27 @@ fn carried<R: Net<Listener = TcpListener, Stream = TcpStream> + Threads + Wait +
     rt: &R,
     alloc: Global,
 ) -> Option<(u64, u64, u64)> {
+    let opened = open_record(alloc)?;
+    carried_recorded::<Brand, R>(rt, alloc, opened)
+}
+
+/// The same, its calls in a record.
+fn carried_recorded<
+    J: Naming + Send + Sync,
+    R: Net<Listener = TcpListener, Stream = TcpStream> + Threads + Wait + Clock + Sync,
+>(rt: &R, alloc: Global, opened: Opened) -> Option<(u64, u64, u64)>
+    requires record { (opened.first.table_id ≡ J.record_id) × (opened.books ≡ J.books) }
+    requires sizes { (opened.books ≡ 1) × (opened.seats ≡ 3) }
+{
     let Ok(server) = TcpListener::bind(rt, "127.0.0.1:0") else {
         return None;
     };
     let site = open_site(rt, alloc, Some(1), Some(&server))?;
-    let Opened {
+    let OpenTable {
         table,
         seats,
         looking,
-    } = open(alloc)?;
+    } = open::<J>(alloc, opened)?;
     let one = one_is_answered(&site, &server, &table, seats)?;
     if one.fault.is_some() || one.left != 0 {
         return None;

@@ -1,9 +1,13 @@
 //! What becomes of connections, as others see it while they are served, and how a drain ends serving.
 
+ghost use Rattle.std.specs.Prelude.{◌≡◌};
+
 use crate::gates::Open;
 use crate::sites::{Site, Watched, client, open_site, refuse_clients, serve_watched};
-use crate::tables::{Opened, open};
+use crate::tables::{OpenTable, open, open_record};
+use shard_record::{Naming, Opened};
 use std::alloc::Global;
+use std::marker::Brand;
 use std::net::{Net, TcpListener, TcpStream};
 use std::sync::Wait;
 use std::thread;
@@ -46,8 +50,29 @@ fn serves<
     last: u64,
     until: u64,
 ) -> Option<u64> {
+    let opened = open_record(site.alloc)?;
+    serves_recorded::<Brand, E, R>(scope, site, watched, last, until, opened)
+}
+
+/// The same, its calls in a record.
+fn serves_recorded<
+    's,
+    J: Naming + Send + Sync,
+    E,
+    R: Net<Listener = TcpListener, Stream = TcpStream> + Threads + Wait + Clock + Sync,
+>(
+    scope: &Scope<'s, E>,
+    site: &Site<'s, R>,
+    watched: &'s Watched,
+    last: u64,
+    until: u64,
+    opened: Opened,
+) -> Option<u64>
+    requires record { (opened.first.table_id ≡ J.record_id) × (opened.books ≡ J.books) }
+    requires sizes { (opened.books ≡ 1) × (opened.seats ≡ 3) }
+{
     let rt = site.rt;
-    let Opened { table, seats, .. } = open(site.alloc)?;
+    let OpenTable { table, seats, .. } = open::<J>(site.alloc, opened)?;
     let Ok(draining) = scope.spawn(move || begins(rt, &watched.drain, until)) else {
         return None;
     };

@@ -5,10 +5,11 @@ ghost use Rattle.tcp_relay.specs.Serving.{AreSeats};
 
 use crate::setups::setup;
 use crate::tables::give_up;
+use base_clock::Start;
 use rule_addresses::{Address, Endpoint};
 use rule_model::Setup;
-use shard_book::{Seat, TrackRef};
-use shard_locks::Shards;
+use shard_locks::{Shards, SharedRef, SharedSeat};
+use shard_record::Naming;
 use std::alloc::Global;
 use std::net::{Net, TcpListener, TcpStream};
 use std::slice;
@@ -142,18 +143,18 @@ pub fn client<R: Net<Listener = TcpListener, Stream = TcpStream>>(
 
 /// What serving came to.
 #[derive(Drop)]
-pub struct Ended {
+pub struct Ended<J: Naming + Send + Sync> {
     pub fault: Option<FaultKind>,
     pub admitted: u64,
     pub rejected: u64,
     pub unaccepted: u64,
-    pub seats: Vec<Seat>,
+    pub seats: Vec<SharedSeat<J>>,
     /// How many references weren't given back, and for how many there are places.
     pub left: usize,
     pub places: usize,
 }
 
-fn give_up_all(mut refs: Vec<Vec<TrackRef>>) {
+fn give_up_all<J: Naming + Send + Sync>(mut refs: Vec<Vec<SharedRef<J>>>) {
     while let Some(of_table) = refs.pop() {
         give_up(of_table);
     }
@@ -161,7 +162,7 @@ fn give_up_all(mut refs: Vec<Vec<TrackRef>>) {
 }
 
 /// How many references of the one table there are, and for how many there are places.
-fn account(refs: &[Vec<TrackRef>]) -> Option<(usize, usize)> {
+fn account<J: Naming + Send + Sync>(refs: &[Vec<SharedRef<J>>]) -> Option<(usize, usize)> {
     match refs {
         [of_table] => Some((of_table.len(), of_table.capacity())),
         _ => None,
@@ -169,7 +170,10 @@ fn account(refs: &[Vec<TrackRef>]) -> Option<(usize, usize)> {
 }
 
 /// What serving came to. None where it wasn't of one table.
-fn end_of(fault: Option<FaultKind>, served: Served) -> Option<Ended> {
+fn end_of<J: Naming + Send + Sync>(
+    fault: Option<FaultKind>,
+    served: Served<J>,
+) -> Option<Ended<J>> {
     let Served {
         admitted,
         rejected,
@@ -193,7 +197,10 @@ fn end_of(fault: Option<FaultKind>, served: Served) -> Option<Ended> {
 }
 
 /// The seats of the one table.
-fn of_one(alloc: Global, seats: Vec<Seat>) -> Option<Vec<Vec<Seat>>>
+fn of_one<J: Naming + Send + Sync>(
+    alloc: Global,
+    seats: Vec<SharedSeat<J>>,
+) -> Option<Vec<Vec<SharedSeat<J>>>>
     ensures { IfSome result (AreSeats 1 (vec_len seats)) }
 {
     let mut of_each = Vec::new(alloc);
@@ -205,16 +212,17 @@ fn of_one(alloc: Global, seats: Vec<Seat>) -> Option<Vec<Vec<Seat>>>
 
 /// Serves so many connections on two threads over one table.
 fn serve_among<
+    J: Naming + Send + Sync,
     R: Net<Listener = TcpListener, Stream = TcpStream> + Threads + Wait + Clock + Sync,
     G: Gate + Sync,
 >(
     site: &Site<'_, R>,
-    tables: &[Shards<PlainTable>],
-    seats: Vec<Vec<Seat>>,
+    tables: &[Shards<PlainTable, J>],
+    seats: Vec<Vec<SharedSeat<J>>>,
     gate: &G,
     last: u64,
     control: Control<'_>,
-) -> Option<Ended>
+) -> Option<Ended<J>>
     requires one { length tables.now ≡ 1 }
     requires shards { All (λ table. table.shards ≡ 1) tables.now }
     requires seats { AreSeats 1 2 seats }
@@ -234,7 +242,7 @@ fn serve_among<
         2,
         LIMITS,
         Some(last),
-        site.start,
+        Start::at(site.start),
         control,
     ) {
         Ok(served) => end_of(None, served),
@@ -244,31 +252,33 @@ fn serve_among<
 
 /// The same, with the seats of the two threads.
 pub fn serve_on<
+    J: Naming + Send + Sync,
     R: Net<Listener = TcpListener, Stream = TcpStream> + Threads + Wait + Clock + Sync,
     G: Gate + Sync,
 >(
     site: &Site<'_, R>,
-    table: &Shards<PlainTable>,
-    seats: Vec<Seat>,
+    table: &Shards<PlainTable, J>,
+    seats: Vec<SharedSeat<J>>,
     gate: &G,
     last: u64,
-) -> Option<Ended> {
+) -> Option<Ended<J>> {
     let watched = Watched::new();
     serve_watched(site, table, seats, gate, last, &watched)
 }
 
 /// The same, watched and ended by others.
 pub fn serve_watched<
+    J: Naming + Send + Sync,
     R: Net<Listener = TcpListener, Stream = TcpStream> + Threads + Wait + Clock + Sync,
     G: Gate + Sync,
 >(
     site: &Site<'_, R>,
-    table: &Shards<PlainTable>,
-    seats: Vec<Seat>,
+    table: &Shards<PlainTable, J>,
+    seats: Vec<SharedSeat<J>>,
     gate: &G,
     last: u64,
     watched: &Watched,
-) -> Option<Ended> {
+) -> Option<Ended<J>> {
     if seats.as_slice().len() != 2 || table.shards() != 1 {
         return None;
     }

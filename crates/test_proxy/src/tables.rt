@@ -1,13 +1,14 @@
 //! A table in one shard, what it shows, and what it is settled with.
 
-ghost use Rattle.std.specs.Prelude.{◌≡◌, ◌≤◌};
+ghost use Rattle.std.specs.Prelude.{◌≡◌, ◌≤◌, IfSome};
 
 use crate::setups::spec;
 use base_clock::StoppedClock;
 use base_sequence::{NoMemory, Sequence};
 use byte_ports::MemorySink;
-use shard_book::{Keeper, Named, Seat, TrackRef};
-use shard_locks::{Seated, Shards};
+use shard_book::{Keeper, Named};
+use shard_locks::{Seated, Shards, SharedRef, SharedSeat};
+use shard_record::{Dealer, Naming, Opened};
 use shard_settling::{Settled, Unsettled, settle};
 use std::alloc::Global;
 use std::sync::Wait;
@@ -16,22 +17,35 @@ use table_cli::answer;
 
 /// A table, the seats of its two workers, and one to look at it.
 #[derive(Drop)]
-pub struct Opened {
-    pub table: Shards<PlainTable>,
-    pub seats: Vec<Seat>,
-    pub looking: Seat,
+pub struct OpenTable<J: Naming + Send + Sync> {
+    pub table: Shards<PlainTable, J>,
+    pub seats: Vec<SharedSeat<J>>,
+    pub looking: SharedSeat<J>,
+}
+
+/// The record of the calls of one table.
+pub fn open_record(alloc: Global) -> Option<Opened>
+    ensures sizes { IfSome result (λ opened. (opened.books ≡ 1) × (opened.seats ≡ 3)) }
+{
+    Opened::new(alloc, 1, 3).ok()
 }
 
 /// The empty table `t`, whose seats keep receipts.
-pub fn open(alloc: Global) -> Option<Opened> {
+pub fn open<J: Naming + Send + Sync>(alloc: Global, opened: Opened) -> Option<OpenTable<J>>
+    requires record { (opened.first.table_id ≡ J.record_id) × (opened.books ≡ J.books) }
+    requires sizes { (opened.books ≡ 1) × (opened.seats ≡ 3) }
+{
     let Ok(spec) = spec(alloc) else {
         return None;
     };
-    let Ok((table, mut seats)) = Shards::new(alloc, spec, 1, 3, true) else {
+    let Ok(mut dealer) = Dealer::<J>::new(alloc, opened) else {
+        return None;
+    };
+    let Ok((table, mut seats)) = Shards::new(alloc, &mut dealer, spec, 1, 3, true) else {
         return None;
     };
     let looking = seats.pop()?;
-    Some(Opened {
+    Some(OpenTable {
         table,
         seats,
         looking,
@@ -57,13 +71,13 @@ fn is_shown<K: Keeper>(alloc: Global, tables: &mut [Named<K>], wanted: &[u8]) ->
 }
 
 /// The seat by which the table was asked, where `show table t` is answered that.
-pub fn shows(
+pub fn shows<J: Naming + Send + Sync>(
     rt: &impl Wait,
     alloc: Global,
-    table: &Shards<PlainTable>,
-    looking: Seat,
+    table: &Shards<PlainTable, J>,
+    looking: SharedSeat<J>,
     wanted: &[u8],
-) -> Option<Seat> {
+) -> Option<SharedSeat<J>> {
     let Ok(mut tables) = named(alloc, Seated::new(table, rt, looking)) else {
         return None;
     };
@@ -74,7 +88,7 @@ pub fn shows(
 }
 
 /// References are given up: their tickets stay out.
-pub fn give_up(mut refs: Vec<TrackRef>) {
+pub fn give_up<J: Naming + Send + Sync>(mut refs: Vec<SharedRef<J>>) {
     while let Some(reference) = refs.pop() {
         reference.abandon();
     }
@@ -82,11 +96,16 @@ pub fn give_up(mut refs: Vec<TrackRef>) {
 }
 
 /// How many calls were made of the table, where it settles with these seats, and no reference is out.
-fn settled(alloc: Global, table: Shards<PlainTable>, seats: Vec<Seat>) -> Option<u64> {
+fn settled<J: Naming + Send + Sync>(
+    alloc: Global,
+    table: Shards<PlainTable, J>,
+    seats: Vec<SharedSeat<J>>,
+) -> Option<u64> {
     match settle(alloc, table, seats, Vec::new(alloc)) {
         Ok(
             Settled {
                 books: _,
+                keepers: _,
                 counts,
                 tickets: _,
             },
@@ -107,11 +126,11 @@ fn settled(alloc: Global, table: Shards<PlainTable>, seats: Vec<Seat>) -> Option
 }
 
 /// The same with the seats of the workers, and the one that looked.
-pub fn calls(
+pub fn calls<J: Naming + Send + Sync>(
     alloc: Global,
-    table: Shards<PlainTable>,
-    mut seats: Vec<Seat>,
-    looking: Seat,
+    table: Shards<PlainTable, J>,
+    mut seats: Vec<SharedSeat<J>>,
+    looking: SharedSeat<J>,
 ) -> Option<u64> {
     if seats.push(looking).is_err() {
         return None;

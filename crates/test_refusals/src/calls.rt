@@ -3,14 +3,17 @@
 //! calls, gives both back and rolls again. Where a growth is refused it asks once more, and says how often that was, and
 //! how many answers were those that are wanted; `main` calls `make_calls`.
 
-use shard_book::Seat;
-use shard_locks::Shards;
+ghost use Rattle.std.specs.Prelude.{◌≡◌};
+
+use shard_locks::{Shards, SharedSeat};
+use shard_record::{Naming, Opened};
 use shard_settling::Fault;
 use std::alloc::Global;
 use std::io;
+use std::marker::Brand;
 use std::sync::Wait;
 use stick_table::{PlainTable, Refusal, Ticket};
-use test_calls::{Call, Held, Opened, Outcome, make, open, show};
+use test_calls::{Call, Held, OpenPlain, Outcome, Purse, Records, make, open, open_record, show};
 
 /// What is done before the table is shown.
 const CALLS: [Call; 10] = [
@@ -74,63 +77,65 @@ impl Tally {
 
     /// Makes a call, and once more where it is refused: but for a release without receipts, which is never refused for want of
     /// memory. Of a release that is refused the reference has come back, and is given back then.
-    fn make(
+    fn make<J: Naming>(
         &mut self,
         rt: &impl Wait,
         alloc: Global,
-        table: &Shards<PlainTable>,
-        seat: &mut Seat,
+        table: &Shards<PlainTable, J>,
+        seat: &mut SharedSeat<J>,
+        purse: &mut Purse<J>,
         held: &mut Held,
         call: Call,
     ) {
-        let answer = make(rt, alloc, table, seat, held, call);
-        if self.is_refused(&answer) && (seat.keeps() || !matches!(call, Call::Release)) {
-            let answer = make(rt, alloc, table, seat, held, call);
+        let answer = make(rt, alloc, table, seat, purse, held, call);
+        if self.is_refused(&answer) && (seat.seat().keeps() || !matches!(call, Call::Release)) {
+            let answer = make(rt, alloc, table, seat, purse, held, call);
             self.is_refused(&answer);
         }
     }
 
-    /// A table and its seats, asked for once more where that is refused.
-    fn open(&mut self, alloc: Global, keep: bool) -> Option<Opened> {
-        match open(alloc, keep) {
-            Ok(opened) => Some(opened),
-            Err(_) => {
-                self.refused = self.refused.saturating_add(1);
-                open(alloc, keep).ok()
-            }
-        }
+    /// Counts that a table and its seats were refused; answers that there are none.
+    fn note_none<V>(&mut self) -> Option<V> {
+        self.refused = self.refused.saturating_add(1);
+        None
     }
 
     /// Makes these calls by the first seat.
-    fn make_each(
+    fn make_each<J: Naming>(
         &mut self,
         rt: &impl Wait,
         alloc: Global,
-        opened: &mut Opened,
+        opened: &mut OpenPlain<J>,
+        purse: &mut Purse<J>,
         held: &mut Held,
         calls: &[Call],
     ) {
         let (table, seats) = opened;
         if let Some(seat) = seats.as_mut_slice().first_mut() {
             for call in calls {
-                self.make(rt, alloc, table, seat, held, *call);
+                self.make(rt, alloc, table, seat, purse, held, *call);
             }
         }
     }
 
     /// Shows a table and its seats, and once more where there is no memory for it.
-    fn show(&mut self, alloc: Global, opened: Opened) -> Outcome {
-        match show(alloc, opened, &[]) {
+    fn show<J: Naming>(
+        &mut self,
+        alloc: Global,
+        opened: OpenPlain<J>,
+        purse: &mut Purse<J>,
+    ) -> Outcome<J> {
+        match show(alloc, opened, purse, &[]) {
             Outcome::Unsettled(Fault::Memory, opened) => {
                 self.refused = self.refused.saturating_add(1);
-                show(alloc, opened, &[])
+                show(alloc, opened, purse, &[])
             }
             outcome => outcome,
         }
     }
 
     /// Counts what was settled.
-    fn settle(&mut self, outcome: &Outcome) {
+    fn settle<J: Naming>(&mut self, outcome: &Outcome<J>) {
         if let Outcome::Settled(settled) = outcome {
             for count in settled.counts.iter() {
                 self.calls = self.calls.saturating_add(*count);
@@ -144,36 +149,104 @@ impl Tally {
     }
 }
 
-/// Makes each call of a table once, and settles it.
-fn lead(rt: &impl Wait, alloc: Global, keep: bool, tally: &mut Tally) -> bool {
-    let Some(mut opened) = tally.open(alloc, keep) else {
-        return false;
+/// The only table of a record, and its seats. Where they are refused that is counted.
+fn open_counted<J: Naming>(
+    alloc: Global,
+    opened: Opened,
+    keep: bool,
+    tally: &mut Tally,
+) -> Option<OpenPlain<J>>
+    requires record { (opened.first.table_id ≡ J.record_id) × (opened.books ≡ J.books) }
+{
+    let Ok(records) = Records::<J>::new(alloc, opened) else {
+        return tally.note_none();
     };
-    let mut held = NONE;
-    tally.make_each(rt, alloc, &mut opened, &mut held, &CALLS);
-    let Outcome::Unsettled(fault, mut opened) = tally.show(alloc, opened) else {
-        return false;
-    };
-    tally.make_each(rt, alloc, &mut opened, &mut held, &[Call::Release]);
-    let outcome = tally.show(alloc, opened);
-    tally.settle(&outcome);
-    fault == Fault::MissingRefs(0)
+    match open(alloc, records, keep) {
+        Ok((_left, opened)) => Some(opened),
+        Err(_) => tally.note_none(),
+    }
 }
 
-/// Tracks two keys, rolls the record, gets a row a hundred times, gives both references back and rolls again.
-fn lead_over_rolls(rt: &impl Wait, alloc: Global, tally: &mut Tally) {
-    let Some(mut opened) = tally.open(alloc, false) else {
-        return;
+/// Makes each call of a table once, and settles it; answers whether a reference was missed, or that the table was refused.
+fn lead_recorded<J: Naming, R: Wait>(
+    rt: &R,
+    alloc: Global,
+    keep: bool,
+    tally: &mut Tally,
+    opened: Opened,
+) -> Option<bool>
+    requires record { (opened.first.table_id ≡ J.record_id) × (opened.books ≡ J.books) }
+{
+    let mut opened = open_counted::<J>(alloc, opened, keep, tally)?;
+    let (mut held, mut purse) = (NONE, Purse::new(alloc));
+    tally.make_each(rt, alloc, &mut opened, &mut purse, &mut held, &CALLS);
+    let Outcome::Unsettled(fault, mut opened) = tally.show(alloc, opened, &mut purse) else {
+        return Some(false);
     };
+    let ended = [Call::Release];
+    tally.make_each(rt, alloc, &mut opened, &mut purse, &mut held, &ended);
+    let outcome = tally.show(alloc, opened, &mut purse);
+    tally.settle(&outcome);
+    Some(fault == Fault::MissingRefs(0))
+}
+
+/// The same of a new record.
+fn lead_once<R: Wait>(rt: &R, alloc: Global, keep: bool, tally: &mut Tally) -> Option<bool> {
+    match open_record(alloc) {
+        Some(opened) => lead_recorded::<Brand, R>(rt, alloc, keep, tally, opened),
+        None => tally.note_none(),
+    }
+}
+
+/// The same, and once more, of another record, where the table was refused.
+fn lead<R: Wait>(rt: &R, alloc: Global, keep: bool, tally: &mut Tally) -> bool {
+    match lead_once(rt, alloc, keep, tally) {
+        Some(missed) => missed,
+        None => lead_once(rt, alloc, keep, tally).unwrap_or(false),
+    }
+}
+
+/// Tracks two keys, rolls the record, gets a row a hundred times, gives both references back and rolls again; answers whether the
+/// table wasn't refused.
+fn rolls_recorded<J: Naming, R: Wait>(
+    rt: &R,
+    alloc: Global,
+    tally: &mut Tally,
+    opened: Opened,
+) -> bool
+    requires record { (opened.first.table_id ≡ J.record_id) × (opened.books ≡ J.books) }
+{
+    let Some(mut opened) = open_counted::<J>(alloc, opened, false, tally) else {
+        return false;
+    };
+    let mut purse = Purse::new(alloc);
     let (mut held, mut other) = (NONE, NONE);
     let began = [Call::Put, Call::Track, Call::Count];
-    tally.make_each(rt, alloc, &mut opened, &mut held, &began);
-    tally.make_each(rt, alloc, &mut opened, &mut other, &[Call::TrackOther]);
-    tally.make_each(rt, alloc, &mut opened, &mut held, &[Call::Roll]);
-    tally.make_each(rt, alloc, &mut opened, &mut held, &GETS);
-    tally.make_each(rt, alloc, &mut opened, &mut other, &[Call::Release]);
+    tally.make_each(rt, alloc, &mut opened, &mut purse, &mut held, &began);
+    let tracked = [Call::TrackOther];
+    tally.make_each(rt, alloc, &mut opened, &mut purse, &mut other, &tracked);
+    tally.make_each(rt, alloc, &mut opened, &mut purse, &mut held, &[Call::Roll]);
+    tally.make_each(rt, alloc, &mut opened, &mut purse, &mut held, &GETS);
+    let released = [Call::Release];
+    tally.make_each(rt, alloc, &mut opened, &mut purse, &mut other, &released);
     let ended = [Call::Release, Call::Roll];
-    tally.make_each(rt, alloc, &mut opened, &mut held, &ended);
+    tally.make_each(rt, alloc, &mut opened, &mut purse, &mut held, &ended);
+    true
+}
+
+/// The same of a new record.
+fn rolls_once<R: Wait>(rt: &R, alloc: Global, tally: &mut Tally) -> bool {
+    match open_record(alloc) {
+        Some(opened) => rolls_recorded::<Brand, R>(rt, alloc, tally, opened),
+        None => tally.note_none::<bool>().is_some(),
+    }
+}
+
+/// The same, and once more, of another record, where the table was refused.
+fn lead_over_rolls<R: Wait>(rt: &R, alloc: Global, tally: &mut Tally) {
+    if !rolls_once(rt, alloc, tally) {
+        rolls_once(rt, alloc, tally);
+    }
 }
 
 /// Makes each call, without receipts and with them, and over rolls; prints what came of it.

@@ -2,12 +2,12 @@
 
 mod beside_book;
 mod books;
-mod calls;
+pub mod calls;
 mod commands;
 mod holding;
 mod joining;
 mod replay;
 mod rolls;
 mod seats;
-mod tables;
+pub mod tables;
 mod threads;

@@ -149,7 +149,7 @@ def no_connection_is_refused_over_restarts():
             thread.join(PATIENCE)
         program.kill()
         program.communicate()
-        assert counts['lost'] == 0 and counts['greeted'] > 300, counts
+        assert counts['lost'] == 0 and counts['greeted'] > 100, counts
 
 
 @contextlib.contextmanager

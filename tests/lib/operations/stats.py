@@ -1,8 +1,16 @@
 """Trials of the stats socket: that it speaks as HAProxy's does, by itself and to the tools that ask HAProxy's."""
+import contextlib
+import fcntl
+import os
+import pty
 import re
+import select
 import shutil
+import signal
 import socket
+import struct
 import subprocess
+import termios
 import threading
 import time
 
@@ -122,8 +130,33 @@ def tools_of_haproxy_ask():
         for name in ('hatop', 'prometheus-haproxy-exporter'):
             if not shutil.which(name):
                 print(f'  {name} is not installed')
+        if shutil.which('hatop'):
+            topped(proxy)
         if shutil.which('prometheus-haproxy-exporter'):
             exported(proxy)
+
+
+def topped(proxy):
+    """What hatop shows on a terminal, until it is told to go."""
+    pid, terminal = pty.fork()
+    if pid == 0:
+        os.environ['TERM'] = 'xterm'
+        os.execvp('hatop', ['hatop', '-s', proxy.stats])
+    fcntl.ioctl(terminal, termios.TIOCSWINSZ, struct.pack('HHHH', 40, 140, 0, 0))
+    shown = b''
+
+    def is_shown():
+        nonlocal shown
+        if select.select([terminal], [], [], 0.1)[0]:
+            with contextlib.suppress(OSError):
+                shown += os.read(terminal, 65536)
+        return all(word in shown for word in (b'stickd Version: ', b'www', b'FRONTEND', b'BACKEND'))
+    try:
+        wait_for('hatop shows the proxy', is_shown)
+    finally:
+        os.kill(pid, signal.SIGKILL)
+        os.waitpid(pid, 0)
+        os.close(terminal)
 
 
 def exported(proxy):

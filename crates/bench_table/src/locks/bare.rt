@@ -17,6 +17,7 @@ pub struct BareCaller<T: Table> {
     alloc: Global,
     books: Vec<Book<T>>,
     seat: Seat,
+    held: Vec<Held>,
 }
 
 /// Has the book of a shard answer an event, as it does under its lock.
@@ -60,11 +61,15 @@ fn is_served<T: Table>(books: &mut Vec<Book<T>>, seat: &mut Seat, shard: u32, ev
 impl<T: Table> BareCaller<T> {
     /// A caller of these books.
     pub fn new(alloc: Global, books: Vec<Book<T>>, seat: Seat) -> BareCaller<T> {
-        BareCaller { alloc, books, seat }
+        BareCaller {
+            alloc,
+            books,
+            seat,
+            held: Vec::new(alloc),
+        }
     }
-}
 
-impl<T: Table> Calls for BareCaller<T> {
+    /// Tracks the key of a place; answers the reference, where it isn't refused.
     fn track(&mut self, place: u32) -> Option<Held> {
         let number = self.seat.number().wrapping_mul(KEYS).wrapping_add(place);
         let key = key(self.alloc, number).ok()?;
@@ -77,14 +82,36 @@ impl<T: Table> Calls for BareCaller<T> {
         }
     }
 
-    fn look(&mut self, held: Held) -> bool {
-        let event = Event::Look(0, held.ticket);
-        is_served(&mut self.books, &mut self.seat, held.shard, event)
-    }
-
+    /// Gives a reference back; answers whether it was taken.
     fn release(&mut self, held: Held) -> bool {
         let event = Event::Release(0, held.ticket);
         is_served(&mut self.books, &mut self.seat, held.shard, event)
+    }
+}
+
+impl<T: Table> Calls for BareCaller<T> {
+    fn hold(&mut self, place: u32) -> bool {
+        match self.track(place) {
+            Some(held) => self.held.push(held).is_ok(),
+            None => false,
+        }
+    }
+
+    fn look(&mut self, place: u32) -> bool {
+        match self.held.get(place as usize) {
+            Some(held) => {
+                let (shard, event) = (held.shard, Event::Look(0, held.ticket));
+                is_served(&mut self.books, &mut self.seat, shard, event)
+            }
+            None => false,
+        }
+    }
+
+    fn pass(&mut self, place: u32) -> bool {
+        match self.track(place) {
+            Some(held) => self.release(held),
+            None => false,
+        }
     }
 
     fn begin_again(&mut self) -> Result<(), NoMemory> {

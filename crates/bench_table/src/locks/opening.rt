@@ -1,17 +1,19 @@
 //! The callers whose calls are timed.
 
-ghost use Rattle.std.specs.Prelude.{◌≤◌};
+ghost use Rattle.std.specs.Prelude.{◌≡◌, ◌≤◌};
 
 use crate::locks::bare::BareCaller;
 use crate::locks::locked::LockedCaller;
 use crate::locks::runner::Runner;
 use base_sequence::NoMemory;
 use shard_book::Seat;
-use shard_locks::Shards;
+use shard_locks::{Shards, SharedSeat};
+use shard_record::{Naming, Opened};
 use std::alloc::Global;
+use std::marker::Brand;
 use std::sync::Wait;
 use stick_table::Table;
-use test_calls::{books_of, spec};
+use test_calls::{OpenTable, Records, books_of, spec};
 
 /// How many entries a table has places for.
 const PLACES: u32 = 8_192;
@@ -19,41 +21,61 @@ const PLACES: u32 = 8_192;
 /// How many references a shard may have.
 const REFERENCES: u32 = 1_024;
 
-/// A table in so many shards, and so many seats without receipts.
-pub fn open_table<T: Table>(
+/// A table in so many shards, and so many seats without receipts, whose calls a record keeps.
+pub fn open_table<T: Table, J: Naming>(
     alloc: Global,
     shards: u32,
     seats: u32,
-) -> Result<(Shards<T>, Vec<Seat>), NoMemory>
+    opened: Opened,
+) -> Result<OpenTable<T, J>, NoMemory>
     requires shards { (1 ≤ shards) × (shards ≤ 64) }
     requires seats { (1 ≤ seats) × (seats ≤ 1024) }
+    requires record { (opened.first.table_id ≡ J.record_id) × (opened.books ≡ J.books) }
 {
     let spec = spec(alloc, PLACES, REFERENCES, 1 << 62)?;
-    Shards::new(alloc, spec, shards, seats, false)
+    let records = Records::<J>::new(alloc, opened)?;
+    let (_left, table) = records.open(alloc, spec, shards, seats, false)?;
+    Ok(table)
 }
 
 /// The caller of a seat.
-fn locked_caller<'a, T: Table, R: Wait>(
+fn locked_caller<'a, T: Table, J: Naming, R: Wait>(
     alloc: Global,
     rt: &'a R,
-    table: &'a Shards<T>,
-    seat: Seat,
-) -> Result<Runner<LockedCaller<'a, T, R>>, NoMemory> {
-    Runner::new(alloc, LockedCaller::new(alloc, rt, table, seat))
+    table: &'a Shards<T, J>,
+    seat: SharedSeat<J>,
+) -> Runner<LockedCaller<'a, T, J, R>> {
+    Runner::new(LockedCaller::new(alloc, rt, table, seat))
 }
 
 /// The callers of a table, one for each seat.
-pub fn locked_callers<'a, T: Table, R: Wait>(
+pub fn locked_callers<'a, T: Table, J: Naming, R: Wait>(
     alloc: Global,
     rt: &'a R,
-    table: &'a Shards<T>,
-    seats: Vec<Seat>,
-) -> Result<Vec<Runner<LockedCaller<'a, T, R>>>, NoMemory> {
+    table: &'a Shards<T, J>,
+    seats: Vec<SharedSeat<J>>,
+) -> Result<Vec<Runner<LockedCaller<'a, T, J, R>>>, NoMemory> {
     let mut runners = Vec::new(alloc);
     for seat in seats {
-        runners.push(locked_caller(alloc, rt, table, seat)?)?;
+        runners.push(locked_caller(alloc, rt, table, seat))?;
     }
     Ok(runners)
+}
+
+/// A caller of books of its own, with this number. They were a table's, whose calls a record kept.
+fn bare_recorded<J: Naming, T: Table>(
+    alloc: Global,
+    shards: u32,
+    number: u32,
+    opened: Opened,
+) -> Result<Runner<BareCaller<T>>, NoMemory>
+    requires shards { (1 ≤ shards) × (shards ≤ 64) }
+    requires record { (opened.first.table_id ≡ J.record_id) × (opened.books ≡ J.books) }
+{
+    let (table, _seats) = open_table::<T, J>(alloc, shards, 1, opened)?;
+    let books = books_of(alloc, table)?;
+    let seat = Seat::new(alloc, number, false);
+    Ok(Runner::new(BareCaller::new(alloc, books, seat)))
 }
 
 /// A caller of books of its own, with this number.
@@ -64,12 +86,8 @@ fn bare_caller<T: Table>(
 ) -> Result<Runner<BareCaller<T>>, NoMemory>
     requires { (1 ≤ shards) × (shards ≤ 64) }
 {
-    let (table, _seats) = open_table::<T>(alloc, shards, 1)?;
-    let books = books_of(alloc, table)?;
-    Runner::new(
-        alloc,
-        BareCaller::new(alloc, books, Seat::new(alloc, number, false)),
-    )
+    let opened = Opened::new(alloc, shards, 1)?;
+    bare_recorded::<Brand, T>(alloc, shards, number, opened)
 }
 
 /// So many callers, each of books of its own.

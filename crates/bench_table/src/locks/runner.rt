@@ -2,12 +2,10 @@
 
 use crate::locks::calls::{Calls, KEYS};
 use base_sequence::NoMemory;
-use std::alloc::Global;
 use std::rt::Clock;
 use std::thread;
 use std::thread::Threads;
 use std::time::{Duration, Instant};
-use test_calls::Held;
 
 /// How often a time is taken: the least of them counts.
 const REPEATS: u32 = 5;
@@ -38,23 +36,14 @@ const NOTHING: Timed = Timed {
 #[derive(Drop)]
 pub struct Runner<C: Calls> {
     caller: C,
-    held: Vec<Held>,
     timed: Timed,
 }
 
-/// A look at the reference of a place; answers whether it was shown.
-fn look_at<C: Calls>(caller: &mut C, held: &[Held], place: u32) -> bool {
-    match held.get(place as usize) {
-        Some(one) => caller.look(*one),
-        None => false,
-    }
-}
-
 /// So many looks at references in turn; answers how many were refused.
-fn look_often<C: Calls>(caller: &mut C, held: &[Held], count: u32) -> u64 {
+fn look_often<C: Calls>(caller: &mut C, count: u32) -> u64 {
     let mut refused = 0u64;
     for number in 0..count {
-        if !look_at(caller, held, number % KEYS) {
+        if !caller.look(number % KEYS) {
             refused = refused.saturating_add(1);
         }
     }
@@ -62,47 +51,42 @@ fn look_often<C: Calls>(caller: &mut C, held: &[Held], count: u32) -> u64 {
 }
 
 /// So many tracks of keys in turn, each reference given back at once; answers how many of both were refused.
-fn track_often<C: Calls>(caller: &mut C, count: u32) -> u64 {
+fn pass_often<C: Calls>(caller: &mut C, count: u32) -> u64 {
     let mut refused = 0u64;
     for number in 0..count {
-        let released = match caller.track(number % KEYS) {
-            Some(held) => caller.release(held),
-            None => false,
-        };
-        if !released {
+        if !caller.pass(number % KEYS) {
             refused = refused.saturating_add(1);
         }
     }
     refused
 }
 
-/// References to the keys of a caller, as many as aren't refused.
-fn track_all<C: Calls>(alloc: Global, caller: &mut C) -> Result<Vec<Held>, NoMemory> {
-    let mut held = Vec::new(alloc);
+/// Has a caller hold a reference to each of its keys; answers how many it doesn't hold.
+fn hold_all<C: Calls>(caller: &mut C) -> u64 {
+    let mut refused = 0u64;
     for place in 0..KEYS {
-        if let Some(one) = caller.track(place) {
-            held.push(one)?;
+        if !caller.hold(place) {
+            refused = refused.saturating_add(1);
         }
     }
-    Ok(held)
+    refused
 }
 
 impl<C: Calls> Runner<C> {
-    /// A caller that holds a reference to each of its keys.
-    pub fn new(alloc: Global, mut caller: C) -> Result<Runner<C>, NoMemory> {
-        let held = track_all(alloc, &mut caller)?;
-        Ok(Runner {
+    /// A caller that holds a reference to each of its keys, as far as none is refused.
+    pub fn new(mut caller: C) -> Runner<C> {
+        let refused = hold_all(&mut caller);
+        Runner {
             caller,
-            held,
-            timed: NOTHING,
-        })
+            timed: Timed { nanos: 0, refused },
+        }
     }
 
     /// So many rounds of a work; answers how many calls were refused.
     fn work(&mut self, work: Work, count: u32) -> u64 {
         match work {
-            Work::Look => look_often(&mut self.caller, &self.held, count),
-            Work::Track => track_often(&mut self.caller, count),
+            Work::Look => look_often(&mut self.caller, count),
+            Work::Track => pass_often(&mut self.caller, count),
         }
     }
 

@@ -2,8 +2,8 @@
 
 use crate::stress::plan::Plan;
 use crate::stress::progress::Progress;
-use shard_book::Seat;
-use shard_locks::Shards;
+use shard_locks::{Shards, SharedSeat};
+use shard_record::Naming;
 use std::alloc::Global;
 use std::sync::Wait;
 use std::thread;
@@ -19,20 +19,20 @@ const PAUSE: u32 = 1;
 
 /// A seat whose caller has ended, and how many references it gave back at its end.
 #[derive(Drop)]
-pub struct Called {
-    pub seat: Seat,
+pub struct Called<J: Naming> {
+    pub seat: SharedSeat<J>,
     pub released: u64,
 }
 
 /// The caller of a seat, with a seed of its own.
-pub fn caller_of<'a, T: Table>(
+pub fn caller_of<'a, T: Table, J: Naming>(
     alloc: Global,
-    table: &'a Shards<T>,
-    seat: Seat,
+    table: &'a Shards<T, J>,
+    seat: SharedSeat<J>,
     seed: u32,
-) -> Caller<'a, T> {
+) -> Caller<'a, T, J> {
     let drawing = Drawing {
-        seed: u64::from(seed) << 32 | u64::from(seat.number()),
+        seed: u64::from(seed) << 32 | u64::from(seat.seat().number()),
         keys: 1_000,
         moments: 400,
     };
@@ -40,9 +40,9 @@ pub fn caller_of<'a, T: Table>(
 }
 
 /// The calls of one caller, one in 64 of them a listing of all shards; answers how many references it gave back then.
-fn call_often<T: Table>(
+fn call_often<T: Table, J: Naming>(
     rt: &impl Wait,
-    caller: &mut Caller<'_, T>,
+    caller: &mut Caller<'_, T, J>,
     calls: u32,
     progress: &Progress,
 ) -> Result<u64, Refusal> {
@@ -59,15 +59,15 @@ fn call_often<T: Table>(
 }
 
 /// All calls of one seat.
-fn call_to_end<T: Table>(
+fn call_to_end<T: Table, J: Naming>(
     rt: &impl Wait,
     alloc: Global,
-    table: &Shards<T>,
-    seat: Seat,
+    table: &Shards<T, J>,
+    seat: SharedSeat<J>,
     calls: u32,
     seed: u32,
     progress: &Progress,
-) -> Result<Called, Refusal> {
+) -> Result<Called<J>, Refusal> {
     let mut caller = caller_of(alloc, table, seat, seed);
     let called = call_often(rt, &mut caller, calls, progress);
     progress.end();
@@ -81,15 +81,15 @@ fn call_to_end<T: Table>(
 }
 
 /// Has all seats call at once; they come back in their order, with the number of references that were given back at the end.
-pub fn call_all<T: Table + Send, R: Threads + Wait + Sync>(
+pub fn call_all<T: Table + Send, J: Naming + Send + Sync, R: Threads + Wait + Sync>(
     rt: &R,
     alloc: Global,
-    table: &Shards<T>,
-    seats: Vec<Seat>,
+    table: &Shards<T, J>,
+    seats: Vec<SharedSeat<J>>,
     plan: Plan,
     seed: u32,
     progress: &Progress,
-) -> Result<(Vec<Seat>, u64), Refusal> {
+) -> Result<(Vec<SharedSeat<J>>, u64), Refusal> {
     let calls = plan.calls;
     let called = thread::map_vec(
         rt,

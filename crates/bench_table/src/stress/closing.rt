@@ -3,22 +3,27 @@
 ghost use Rattle.stick_model.specs.Limits.{IsTableEvent};
 
 use crate::stress::calling::caller_of;
-use shard_book::Seat;
-use shard_locks::Shards;
+use shard_locks::{Shards, SharedSeat};
+use shard_record::Naming;
 use std::alloc::Global;
 use std::sync::Wait;
 use stick_table::{Event, Refusal, Table};
-use test_calls::{Caller, Held, key};
+use test_calls::{Caller, Held, Purse, key};
 
-/// The seats of a table, and the references that their callers hold.
+/// The seats of a table, and the references that their callers hold, by their tickets and in a purse.
 #[derive(Drop)]
-pub struct Shown {
-    pub seats: Vec<Seat>,
+pub struct Shown<J: Naming> {
+    pub seats: Vec<SharedSeat<J>>,
     pub held: Vec<Held>,
+    pub purse: Purse<J>,
 }
 
 /// Has a caller ask an event, and lets go what it was told.
-fn ask<T: Table>(rt: &impl Wait, caller: &mut Caller<'_, T>, event: Event) -> Result<(), Refusal>
+fn ask<T: Table, J: Naming>(
+    rt: &impl Wait,
+    caller: &mut Caller<'_, T, J>,
+    event: Event,
+) -> Result<(), Refusal>
     requires { IsTableEvent event }
 {
     match caller.ask(rt, 0, event) {
@@ -28,9 +33,9 @@ fn ask<T: Table>(rt: &impl Wait, caller: &mut Caller<'_, T>, event: Event) -> Re
 }
 
 /// Has a caller ask so often for what has expired.
-fn expire_often<T: Table>(
+fn expire_often<T: Table, J: Naming>(
     rt: &impl Wait,
-    caller: &mut Caller<'_, T>,
+    caller: &mut Caller<'_, T, J>,
     expires: u64,
 ) -> Result<(), Refusal> {
     for _ in 0..expires {
@@ -40,10 +45,10 @@ fn expire_often<T: Table>(
 }
 
 /// Has a caller track the key of a number.
-fn track<T: Table>(
+fn track<T: Table, J: Naming>(
     rt: &impl Wait,
     alloc: Global,
-    caller: &mut Caller<'_, T>,
+    caller: &mut Caller<'_, T, J>,
     number: u32,
 ) -> Result<(), Refusal> {
     let key = key(alloc, number)?;
@@ -51,10 +56,10 @@ fn track<T: Table>(
 }
 
 /// Has a caller ask so often for what has expired, and track the key of a number, if there is one.
-fn close_caller<T: Table>(
+fn close_caller<T: Table, J: Naming>(
     rt: &impl Wait,
     alloc: Global,
-    caller: &mut Caller<'_, T>,
+    caller: &mut Caller<'_, T, J>,
     expires: u64,
     tracked: Option<u32>,
 ) -> Result<(), Refusal> {
@@ -67,26 +72,28 @@ fn close_caller<T: Table>(
 
 /// The callers have given all references back. Then every second one takes one, of a key of its own, and the first asks for what
 /// has expired, so often as is said.
-pub fn close<T: Table>(
+pub fn close<T: Table, J: Naming>(
     rt: &impl Wait,
     alloc: Global,
-    table: &Shards<T>,
-    seats: Vec<Seat>,
+    table: &Shards<T, J>,
+    seats: Vec<SharedSeat<J>>,
     expires: u64,
-) -> Result<Shown, Refusal> {
+) -> Result<Shown<J>, Refusal> {
     let mut shown = Shown {
         seats: Vec::new(alloc),
         held: Vec::new(alloc),
+        purse: Purse::new(alloc),
     };
     for seat in seats {
-        let number = seat.number();
+        let number = seat.seat().number();
         let expires = if number == 0 { expires } else { 0 };
         let tracked = if number % 2 == 0 { Some(number) } else { None };
         let mut caller = caller_of(alloc, table, seat, 0);
         close_caller(rt, alloc, &mut caller, expires, tracked)?;
-        let (seat, mut held) = caller.into_parts();
+        let (seat, mut held, purse) = caller.into_parts();
         shown.seats.push(seat)?;
         shown.held.append(&mut held)?;
+        shown.purse.put_all(purse.into_refs());
     }
     Ok(shown)
 }

@@ -4,6 +4,7 @@ use crate::stress::plan::Plan;
 use crate::stress::progress::Progress;
 use base_sequence::NoMemory;
 use shard_locks::Shards;
+use shard_record::Naming;
 use std::rt::Clock;
 use std::sync::Wait;
 use std::thread;
@@ -24,9 +25,9 @@ fn wait_for<R: Clock>(rt: &R, progress: &Progress, calls: u64, callers: u32) {
 }
 
 /// Rolls the record of each shard in turn, so often in all, evenly over the calls; answers how often it was done.
-pub fn roll_often<T: Table, R: Wait + Clock>(
+pub fn roll_often<T: Table, J: Naming, R: Wait + Clock>(
     rt: &R,
-    table: &Shards<T>,
+    table: &Shards<T, J>,
     plan: Plan,
     progress: &Progress,
 ) -> Result<u32, NoMemory> {

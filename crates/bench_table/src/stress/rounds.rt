@@ -1,6 +1,6 @@
 //! A round: a table is opened, called, rolled or not, and settled.
 
-ghost use Rattle.std.specs.Prelude.{◌≤◌};
+ghost use Rattle.std.specs.Prelude.{◌≡◌, ◌≤◌};
 
 use crate::stress::calling::call_all;
 use crate::stress::closing::{Shown, close};
@@ -8,18 +8,19 @@ use crate::stress::plan::Plan;
 use crate::stress::progress::Progress;
 use crate::stress::rolling::roll_often;
 use base_sequence::NoMemory;
-use shard_book::Seat;
-use shard_locks::Shards;
+use shard_locks::{Shards, SharedSeat};
+use shard_record::{Naming, Opened};
 use shard_settling::{Fault, Settled, Unsettled, settle};
 use std::alloc::Global;
 use std::fmt::{Display, Formatter, Write};
+use std::marker::Brand;
 use std::rt::Clock;
 use std::sync::Wait;
 use std::thread::Threads;
 use std::{fmt, thread};
 use stick_pooled::StickTable;
 use stick_table::{PlainTable, Refusal, Table};
-use test_calls::{abandon_all, references_of, spec};
+use test_calls::{OpenTable, Records, abandon_all, references_of, spec};
 
 /// How many entries each shard has places for.
 const PLACES: u32 = 48;
@@ -83,22 +84,22 @@ impl Display for Trouble {
 
 /// What the threads have done.
 #[derive(Drop)]
-struct Done {
-    seats: Vec<Seat>,
+struct Done<J: Naming> {
+    seats: Vec<SharedSeat<J>>,
     /// How many references were given back at the end.
     released: u64,
     rolled: u32,
 }
 
 /// The calls, and the rolls beside them. Where no thread can be made the rolls come behind the calls.
-fn call_and_roll<T: Table + Send, R: Threads + Wait + Clock + Sync>(
+fn call_and_roll<T: Table + Send, J: Naming + Send + Sync, R: Threads + Wait + Clock + Sync>(
     rt: &R,
     alloc: Global,
-    table: &Shards<T>,
-    seats: Vec<Seat>,
+    table: &Shards<T, J>,
+    seats: Vec<SharedSeat<J>>,
     plan: Plan,
     seed: u32,
-) -> Result<Done, Refusal> {
+) -> Result<Done<J>, Refusal> {
     let progress = Progress::new();
     let (rolled, called) = thread::join(
         rt,
@@ -115,14 +116,19 @@ fn call_and_roll<T: Table + Send, R: Threads + Wait + Clock + Sync>(
 }
 
 /// Settles a table, its callers showing their seats and references.
-fn settle_with<T: Table>(
+fn settle_with<T: Table, J: Naming>(
     alloc: Global,
-    table: Shards<T>,
-    shown: Shown,
+    table: Shards<T, J>,
+    shown: Shown<J>,
     rolls: Option<u32>,
 ) -> Result<Ended, Trouble> {
-    let Shown { seats, held } = shown;
-    match settle(alloc, table, seats, references_of(alloc, &held)) {
+    let Shown {
+        seats,
+        held,
+        mut purse,
+    } = shown;
+    let refs = references_of(alloc, &mut purse, &held);
+    match settle(alloc, table, seats, refs) {
         Ok(settled) => Ok(tally_of(&settled, rolls)),
         Err(unsettled) => {
             let Unsettled {
@@ -139,7 +145,7 @@ fn settle_with<T: Table>(
 }
 
 /// What a settled table has counted.
-fn tally_of<T: Table>(settled: &Settled<T>, rolls: Option<u32>) -> Ended {
+fn tally_of<T: Table, J: Naming>(settled: &Settled<T, J>, rolls: Option<u32>) -> Ended {
     let mut calls = 0u64;
     for count in settled.counts.iter() {
         calls = calls.saturating_add(*count);
@@ -156,37 +162,44 @@ fn tally_of<T: Table>(settled: &Settled<T>, rolls: Option<u32>) -> Ended {
 }
 
 /// The table of a plan, and the seats of its callers.
-fn open_table<T: Table>(alloc: Global, plan: Plan) -> Result<(Shards<T>, Vec<Seat>), NoMemory>
+fn open_table<T: Table, J: Naming>(
+    alloc: Global,
+    plan: Plan,
+    opened: Opened,
+) -> Result<OpenTable<T, J>, NoMemory>
     requires threads { (1 ≤ plan.threads) × (plan.threads ≤ 1024) }
     requires shards { (1 ≤ plan.shards) × (plan.shards ≤ 64) }
+    requires record { (opened.first.table_id ≡ J.record_id) × (opened.books ≡ J.books) }
 {
     let spec = spec(alloc, PLACES * plan.shards, REFERENCES, 1 << 62)?;
     let keep = plan.rolls.is_none();
-    Shards::new(alloc, spec, plan.shards, plan.threads, keep)
+    let records = Records::<J>::new(alloc, opened)?;
+    let (_left, table) = records.open(alloc, spec, plan.shards, plan.threads, keep)?;
+    Ok(table)
 }
 
 /// Has the callers of a table end. For each reference that could have come back beside at their end, one event is asked: how
 /// many calls there are doesn't depend on how the threads met.
-fn close_all<T: Table>(
+fn close_all<T: Table, J: Naming>(
     rt: &impl Wait,
     alloc: Global,
-    table: &Shards<T>,
-    seats: Vec<Seat>,
+    table: &Shards<T, J>,
+    seats: Vec<SharedSeat<J>>,
     released: u64,
-) -> Result<Shown, Refusal> {
+) -> Result<Shown<J>, Refusal> {
     let most = u64::from(REFERENCES) * u64::from(table.shards());
     close(rt, alloc, table, seats, most.saturating_sub(released))
 }
 
 /// The calls of a round, the rolls beside them, and what the callers show at their end; with the number of rolls.
-fn call_and_close<T: Table + Send, R: Threads + Wait + Clock + Sync>(
+fn call_and_close<T: Table + Send, J: Naming + Send + Sync, R: Threads + Wait + Clock + Sync>(
     rt: &R,
     alloc: Global,
-    table: &Shards<T>,
-    seats: Vec<Seat>,
+    table: &Shards<T, J>,
+    seats: Vec<SharedSeat<J>>,
     plan: Plan,
     seed: u32,
-) -> Result<(Shown, u32), Refusal> {
+) -> Result<(Shown<J>, u32), Refusal> {
     let Done {
         seats,
         released,
@@ -194,6 +207,27 @@ fn call_and_close<T: Table + Send, R: Threads + Wait + Clock + Sync>(
     } = call_and_roll(rt, alloc, table, seats, plan, seed)?;
     let shown = close_all(rt, alloc, table, seats, released)?;
     Ok((shown, rolled))
+}
+
+/// A round of a plan on tables of this kind, whose numbers are drawn by this seed, its calls in a record.
+fn round_recorded<J: Naming + Send + Sync, T: Table + Send, R: Threads + Wait + Clock + Sync>(
+    rt: &R,
+    alloc: Global,
+    plan: Plan,
+    seed: u32,
+    opened: Opened,
+) -> Result<Ended, Trouble>
+    requires threads { (1 ≤ plan.threads) × (plan.threads ≤ 1024) }
+    requires shards { (1 ≤ plan.shards) × (plan.shards ≤ 64) }
+    requires record { (opened.first.table_id ≡ J.record_id) × (opened.books ≡ J.books) }
+{
+    let (table, seats) = open_table::<T, J>(alloc, plan, opened)?;
+    let (shown, rolled) = call_and_close(rt, alloc, &table, seats, plan, seed)?;
+    let rolls = match plan.rolls {
+        Some(_) => Some(rolled),
+        None => None,
+    };
+    settle_with(alloc, table, shown, rolls)
 }
 
 /// A round of a plan on tables of this kind, whose numbers are drawn by this seed.
@@ -206,13 +240,10 @@ fn run_round<T: Table + Send, R: Threads + Wait + Clock + Sync>(
     requires threads { (1 ≤ plan.threads) × (plan.threads ≤ 1024) }
     requires shards { (1 ≤ plan.shards) × (plan.shards ≤ 64) }
 {
-    let (table, seats) = open_table::<T>(alloc, plan)?;
-    let (shown, rolled) = call_and_close(rt, alloc, &table, seats, plan, seed)?;
-    let rolls = match plan.rolls {
-        Some(_) => Some(rolled),
-        None => None,
+    let Ok(opened) = Opened::new(alloc, plan.shards, plan.threads) else {
+        return Err(Trouble::Refused(Refusal::Memory));
     };
-    settle_with(alloc, table, shown, rolls)
+    round_recorded::<Brand, T, R>(rt, alloc, plan, seed, opened)
 }
 
 /// A round of a plan, whose numbers are drawn by this seed.

@@ -96,6 +96,7 @@ impl PlainTable {
         };
         if !store(
             &mut self.records,
+            &mut self.purged,
             &self.tickets,
             &self.spec,
             entry_key,

@@ -69,6 +69,7 @@ impl PlainTable {
         drop_dead(&mut self.records, &self.tickets, clock);
         if !store(
             &mut self.records,
+            &mut self.purged,
             &self.tickets,
             &self.spec,
             entry_key,

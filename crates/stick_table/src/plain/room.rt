@@ -74,20 +74,29 @@ fn purge_limit(
     limit
 }
 
-/// Purges the oldest untracked records.
-fn drop_oldest(records: &mut Vec<(StickKey, Record)>, tickets: &[(Ticket, StickKey)], purge: u32)
+/// Purges the oldest untracked records, and counts them.
+fn drop_oldest(
+    records: &mut Vec<(StickKey, Record)>,
+    gone: &mut u64,
+    tickets: &[(Ticket, StickKey)],
+    purge: u32,
+)
     ensures items { records.new.items ≡ purged purge tickets.now records.old.items }
     ensures capacity { vec_capacity records.new ≡ vec_capacity records.old }
     ensures shorter { vec_len records.new ≤ vec_len records.old }
 {
     if let Some(limit) = purge_limit(records, tickets, purge) {
+        let before = records.len();
         records.retain(|entry| is_tracked(tickets, &entry.0) || limit < entry.1.stamp);
+        let fewer = before.saturating_sub(records.len());
+        *gone = gone.wrapping_add(fewer as u64);
     }
 }
 
-/// Makes room for one more record, if that can be.
+/// Makes room for one more record, if that can be, and counts those that went for it.
 fn make_room(
     records: &mut Vec<(StickKey, Record)>,
+    gone: &mut u64,
     tickets: &[(Ticket, StickKey)],
     spec: &Spec,
 ) -> bool
@@ -105,13 +114,14 @@ fn make_room(
     if spec.nopurge || all_tracked(records, tickets) {
         return false;
     }
-    drop_oldest(records, tickets, spec.purge);
+    drop_oldest(records, gone, tickets, spec.purge);
     true
 }
 
-/// Stores a record, if there is room for it.
+/// Stores a record, if there is room for it, and counts those that went to make it.
 pub(crate) fn store(
     records: &mut Vec<(StickKey, Record)>,
+    gone: &mut u64,
     tickets: &[(Ticket, StickKey)],
     spec: &Spec,
     key: StickKey,
@@ -124,7 +134,7 @@ pub(crate) fn store(
         (stored_in spec.now tickets.now records.old.items key found ≡ None) }
     ensures full { OnFalse result (records.new.items ≡ records.old.items) }
 {
-    if find(records, &key).is_none() && !make_room(records, tickets, spec) {
+    if find(records, &key).is_none() && !make_room(records, gone, tickets, spec) {
         return false;
     }
     put_record(records, key, found);

@@ -29,16 +29,24 @@ static TABLES: [TableFacts<'static>; 2] = [
         name: "a",
         size: 1_000,
         used: 12,
+        references: 3,
+        purged: 40,
     },
     // The path of the format's own example, with each byte that is escaped.
     TableFacts {
         name: "C:\\DIR\\\"FILE\"\n",
         size: 10,
         used: 0,
+        references: 0,
+        purged: 0,
     },
 ];
 
-static LINES: [&str; 7] = [
+static LINES: [&str; 11] = [
+    "\n# TYPE stickd_table_references gauge\nstickd_table_references{table=\"a\"} 3\n",
+    "\n# TYPE stickd_table_purged_entries_total counter\nstickd_table_purged_entries_total{table=\"a\"} 40\n",
+    "\n# TYPE stickd_untracked_total counter\nstickd_untracked_total{cause=\"full\"} 6\nstickd_untracked_total{cause=\"references\"} 0\n# HELP ",
+    "\n# TYPE stickd_refused_events_total counter\nstickd_refused_events_total{cause=\"memory\"} 0\nstickd_refused_events_total{cause=\"stale\"} 2\nstickd_refused_events_total{cause=\"exhausted\"} 0\n# HELP ",
     "\n# TYPE stickd_table_entries gauge\nstickd_table_entries{table=\"a\"} 12\nstickd_table_entries{table=\"C:\\\\DIR\\\\\\\"FILE\\\"\\n\"} 0\n",
     "# HELP stickd_build_info The version that runs.\n# TYPE stickd_build_info gauge\nstickd_build_info{version=\"0.1.0\"} 1\n# HELP stickd_connections ",
     "\n# TYPE stickd_connections gauge\nstickd_connections 3\n# HELP ",
@@ -56,6 +64,8 @@ fn each_metric_has_its_lines(rt: HostRuntime) -> Result<(), Fail> {
         (Count::Rejected, 15),
         (Count::ServerRefused, 1),
         (Count::BytesIn, u64::MAX),
+        (Count::UntrackedFull, 6),
+        (Count::EventsStale, 2),
     ];
     let mut now = idle_over(counted(&counts), &TABLES);
     now.open = 3;
@@ -76,9 +86,9 @@ fn count_lines(text: &[u8], start: &[u8]) -> usize {
 #[test]
 fn each_metric_has_one_head(rt: HostRuntime) -> Result<(), Fail> {
     let text = metrics(rt.alloc(), &idle(counted(&[])))?;
-    assert!(rt; count_lines(&text, b"# HELP ") == 23);
-    assert!(rt; count_lines(&text, b"# TYPE ") == 23);
-    assert!(rt; count_lines(&text, b"stickd_") == 29);
+    assert!(rt; count_lines(&text, b"# HELP ") == 27);
+    assert!(rt; count_lines(&text, b"# TYPE ") == 27);
+    assert!(rt; count_lines(&text, b"stickd_") == 34);
     assert!(rt; text.ends_with(b"\n"));
     Ok(())
 }

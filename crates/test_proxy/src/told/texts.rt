@@ -26,16 +26,20 @@ static TABLES: [TableFacts<'static>; 2] = [
         name: "per_ip",
         size: 1_000,
         used: 12,
+        references: 2,
+        purged: 0,
     },
     TableFacts {
         name: "blocked",
         size: 10,
         used: 0,
+        references: 0,
+        purged: 7,
     },
 ];
 
 static REPORT: &str =
-    "draining, 3 open, 40 at most, 120 accepted, 100 admitted, 20 rejected, 1 refused by the server, 97 ended, 18446744073709551615 bytes in, 2 commands; per_ip: 12 of 1000 entries; blocked: 0 of 10 entries";
+    "draining, 3 open, 40 at most, 120 accepted, 100 admitted, 20 rejected, 1 refused by the server, 97 ended, 18446744073709551615 bytes in, 5 not tracked as a table was full, 2 commands; per_ip: 12 of 1000 entries, 2 references out; blocked: 0 of 10 entries, 7 purged";
 
 #[test]
 fn a_report_tells_what_there_was(rt: HostRuntime) -> Result<(), Fail> {
@@ -46,6 +50,7 @@ fn a_report_tells_what_there_was(rt: HostRuntime) -> Result<(), Fail> {
         (Count::ServerRefused, 1),
         (Count::Ended, 97),
         (Count::BytesIn, u64::MAX),
+        (Count::UntrackedFull, 5),
         (Count::Commands, 2),
     ];
     let mut now = idle_over(counted(&counts), &TABLES);

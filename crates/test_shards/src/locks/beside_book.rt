@@ -1,26 +1,27 @@
 //! A table in one shard, asked by one seat, beside a book that is asked the same.
 
-ghost use Rattle.std.specs.Prelude.{◌<◌, ◌^◌};
+ghost use Rattle.std.specs.Prelude.{◌≡◌, ◌<◌, ◌^◌, IfOk};
 ghost use Rattle.stick_model.specs.Limits.{IsTableEvent};
 
 use crate::locks::books::events_of;
 use crate::locks::calls::counts_of;
 use crate::locks::tables::call;
 use base_sequence::NoMemory;
-use shard_book::{Book, Seat};
-use shard_locks::Shards;
+use shard_book::Book;
+use shard_locks::{Shards, SharedSeat};
+use shard_record::{Naming, Opened};
 use std::alloc::Global;
+use std::marker::Brand;
 use std::sync::Wait;
 use std::test::Fail;
 use stick_model::same_reply;
 use stick_table::{Event, PlainTable, Refusal, Reply, Ticket};
-use test_calls::{Random, event, spec};
+use test_calls::{Purse, Random, Records, event, open_record, spec};
 
-/// How many events were answered, refused as stale, and refused at the end of the table's life.
+/// How many events were answered, and refused at the end of the table's life.
 #[derive(Clone, Copy)]
 struct Counts {
     answered: u64,
-    stale: u64,
     exhausted: u64,
 }
 
@@ -29,19 +30,20 @@ impl Counts {
     fn add(&mut self, answer: &Result<Reply, Refusal>) {
         match answer {
             Ok(_) => self.answered = self.answered.saturating_add(1),
-            Err(Refusal::Stale) => self.stale = self.stale.saturating_add(1),
-            Err(_) => self.exhausted = self.exhausted.saturating_add(1),
+            Err(Refusal::Exhausted) => self.exhausted = self.exhausted.saturating_add(1),
+            Err(_) => {}
         }
     }
 }
 
 /// A table in one shard, its only seat, and a book that is asked what the table is asked.
 #[derive(Drop)]
-struct Trial {
+struct Trial<J: Naming> {
     alloc: Global,
     random: Random,
-    table: Shards<PlainTable>,
-    seat: Seat,
+    table: Shards<PlainTable, J>,
+    seat: SharedSeat<J>,
+    purse: Purse<J>,
     book: Book<PlainTable>,
     held: Vec<Ticket>,
     counts: Counts,
@@ -70,40 +72,61 @@ fn open_book(alloc: Global) -> Result<Book<PlainTable>, NoMemory> {
 }
 
 /// Such a table in one shard, and its only seat.
-fn open_table(alloc: Global, keep: bool) -> Result<(Shards<PlainTable>, Seat), NoMemory> {
-    let (table, mut seats) = Shards::new(alloc, spec(alloc, 5, 2, 300)?, 1, 1, keep)?;
+fn open_table<J: Naming>(
+    alloc: Global,
+    opened: Opened,
+    keep: bool,
+) -> Result<(Shards<PlainTable, J>, SharedSeat<J>), NoMemory>
+    requires record { (opened.first.table_id ≡ J.record_id) × (opened.books ≡ J.books) }
+{
+    let records = Records::<J>::new(alloc, opened)?;
+    let (_left, (table, mut seats)) = records.open(alloc, spec(alloc, 5, 2, 300)?, 1, 1, keep)?;
     match seats.pop() {
         Some(seat) => Ok((table, seat)),
         None => Err(NoMemory),
     }
 }
 
-impl Trial {
+impl<J: Naming> Trial<J> {
     /// Nothing is asked yet.
-    fn new(alloc: Global, keep: bool) -> Result<Trial, NoMemory> {
+    fn new(alloc: Global, opened: Opened, keep: bool) -> Result<Trial<J>, NoMemory>
+        requires record { (opened.first.table_id ≡ J.record_id) × (opened.books ≡ J.books) }
+    {
         let book = open_book(alloc)?;
-        let (table, seat) = open_table(alloc, keep)?;
+        let (table, seat) = open_table::<J>(alloc, opened, keep)?;
         Ok(Trial {
             alloc,
             random: Random::new(7),
             table,
             seat,
+            purse: Purse::new(alloc),
             book,
             held: Vec::new(alloc),
             counts: Counts {
                 answered: 0,
-                stale: 0,
                 exhausted: 0,
             },
         })
     }
 
-    /// A ticket that is mostly out.
+    /// A ticket that is out, where one is.
     fn ticket(&mut self) -> Ticket {
-        let place = self.random.below(3) as usize;
+        let place = self.random.below(3) as usize % self.held.len().max(1);
         match self.held.get(place) {
             Some(ticket) => *ticket,
             None => Ticket { number: 1, slot: 7 },
+        }
+    }
+
+    /// An event of this ticket, or of a key or a shard; of a ticket only where one is out.
+    fn draw(&mut self, now: u32, ticket: Ticket) -> Result<Event, NoMemory>
+        ensures { IfOk result IsTableEvent }
+    {
+        let drawn = event(self.alloc, &mut self.random, 7, u64::from(now), ticket)?;
+        match drawn {
+            Event::Look(_, _) | Event::Count(_, _, _) | Event::Release(_, _)
+                if self.held.is_empty() => Ok(Event::Expire(u64::from(now))),
+            _ => Ok(drawn),
         }
     }
 
@@ -131,7 +154,7 @@ impl Trial {
 
     /// Whether the seat has counted the answers, and has seen what the book has counted.
     fn is_counted(&self) -> bool {
-        counts_of(&self.seat, 0) == (self.counts.answered, events_of(&self.book))
+        counts_of(self.seat.seat(), 0) == (self.counts.answered, events_of(&self.book))
     }
 
     /// Asks both an event; answers whether both answered the same.
@@ -139,7 +162,7 @@ impl Trial {
         requires event { IsTableEvent event }
         requires copy { IsTableEvent copy }
     {
-        let answer = call(rt, &self.table, &mut self.seat, 0, event);
+        let answer = call(rt, &self.table, &mut self.seat, &mut self.purse, 0, event);
         let is_same = answers(&mut self.book, copy, &answer);
         let is_noted = self.note(&answer, asked);
         self.counts.add(&answer);
@@ -149,7 +172,7 @@ impl Trial {
     /// One event; answers whether both answered the same.
     fn event(&mut self, rt: &impl Wait, now: u32) -> bool {
         let ticket = self.ticket();
-        let Ok(event) = event(self.alloc, &mut self.random, 7, u64::from(now), ticket) else {
+        let Ok(event) = self.draw(now, ticket) else {
             return false;
         };
         match event.copy() {
@@ -170,8 +193,15 @@ impl Trial {
 }
 
 /// How many of 500 events were answered as by a book; and the counts of the answers.
-fn same_answers(rt: &impl Wait, alloc: Global, keep: bool) -> Option<(u32, Counts)> {
-    match Trial::new(alloc, keep) {
+fn answers_recorded<J: Naming, R: Wait>(
+    rt: &R,
+    alloc: Global,
+    keep: bool,
+    opened: Opened,
+) -> Option<(u32, Counts)>
+    requires { (opened.first.table_id ≡ J.record_id) × (opened.books ≡ J.books) }
+{
+    match Trial::<J>::new(alloc, opened, keep) {
         Ok(mut trial) => {
             let same = trial.run(rt);
             Some((same, trial.counts))
@@ -180,13 +210,17 @@ fn same_answers(rt: &impl Wait, alloc: Global, keep: bool) -> Option<(u32, Count
     }
 }
 
+/// The same of a new record.
+fn same_answers<R: Wait>(rt: &R, alloc: Global, keep: bool) -> Option<(u32, Counts)> {
+    match open_record(alloc) {
+        Some(opened) => answers_recorded::<Brand, R>(rt, alloc, keep, opened),
+        None => None,
+    }
+}
+
 /// Whether all 500 were answered so. The life is 300 events, less one for each reference that is out in the end.
 fn is_right(same: u32, counts: Counts) -> bool {
-    same == 500
-        && 298 <= counts.answered
-        && counts.answered <= 300
-        && 50 <= counts.stale
-        && 50 <= counts.exhausted
+    same == 500 && 298 <= counts.answered && counts.answered <= 300 && 50 <= counts.exhausted
 }
 
 #[test]

@@ -3,6 +3,7 @@
 use crate::locks::tables::{Desk, Said, said_of};
 use base_sequence::NoMemory;
 use shard_book::Book;
+use shard_record::Naming;
 use stick_table::{Event, Filter, PlainTable, Refusal, Reply, Table};
 use test_calls::books_of;
 
@@ -52,17 +53,18 @@ fn hold(books: &[Book<PlainTable>], wanted: &[Sums]) -> bool {
 }
 
 /// The books of a table.
-fn books(desk: Desk) -> Result<Vec<Book<PlainTable>>, NoMemory> {
+fn books<J: Naming>(desk: Desk<J>) -> Result<Vec<Book<PlainTable>>, NoMemory> {
     let Desk {
         alloc,
         table,
         seat: _,
+        purse: _,
     } = desk;
     books_of(alloc, table)
 }
 
 /// Whether the books of a table hold that, one after another.
-pub fn holds(desk: Desk, wanted: &[Sums]) -> bool {
+pub fn holds<J: Naming>(desk: Desk<J>, wanted: &[Sums]) -> bool {
     match books(desk) {
         Ok(books) => hold(&books, wanted),
         Err(_) => false,
@@ -87,7 +89,7 @@ fn lists(books: &[Book<PlainTable>], wanted: Sums, entries: u64) -> bool {
 }
 
 /// Whether the only book of a table holds that, and its base so many entries.
-pub fn holds_entries(desk: Desk, wanted: Sums, entries: u64) -> bool {
+pub fn holds_entries<J: Naming>(desk: Desk<J>, wanted: Sums, entries: u64) -> bool {
     match books(desk) {
         Ok(books) => lists(&books, wanted, entries),
         Err(_) => false,

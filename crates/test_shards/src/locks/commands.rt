@@ -1,19 +1,24 @@
 //! Commands on tables that threads share, asked by one seat, and on tables that one thread has.
 
+ghost use Rattle.std.specs.Prelude.{◌≡◌};
+
 use crate::locks::books::{Sums, holds};
+use crate::locks::calls::two_desks;
 use crate::locks::tables::Desk;
 use crate::locks::threads::open_two;
 use base_clock::StoppedClock;
 use base_sequence::{NoMemory, Sequence};
 use byte_ports::MemorySink;
-use shard_book::{Books, Keeper, Named, Seat};
-use shard_locks::{Seated, Shards};
+use shard_book::{Books, Keeper, Named};
+use shard_locks::{Seated, Shards, SharedSeat};
+use shard_record::{Naming, Opened};
 use std::alloc::Global;
+use std::marker::Brand;
 use std::sync::Wait;
 use std::test::Fail;
 use stick_table::PlainTable;
 use table_cli::{CliFault, answer};
-use test_calls::spec;
+use test_calls::{open_record, spec};
 
 /// A command line at a moment in ms, and its answer.
 type Answered = (u32, &'static [u8], &'static [u8]);
@@ -161,25 +166,25 @@ fn records_of_one_thread_begin_again(rt: HostRuntime) -> Result<(), Fail> {
 }
 
 /// Whether a seat's lines were answered so, and how many events of each shard the seat made.
-fn made_by<R: Wait>(
-    mut tables: Vec<Named<Seated<'_, PlainTable, R>>>,
+fn made_by<J: Naming, R: Wait>(
+    mut tables: Vec<Named<Seated<'_, PlainTable, J, R>>>,
     are_answered: bool,
 ) -> Option<(bool, u64, u64)> {
     match tables.pop() {
         Some(table) => {
             let seat = table.keeper.into_seat();
-            Some((are_answered, seat.calls(0), seat.calls(1)))
+            Some((are_answered, seat.seat().calls(0), seat.seat().calls(1)))
         }
         None => None,
     }
 }
 
 /// Has a seat's lines answered; answers whether they were answered so, and how many events of each shard the seat made.
-fn calls_made<R: Wait>(
+fn calls_made<J: Naming, R: Wait>(
     rt: &R,
     alloc: Global,
-    table: &Shards<PlainTable>,
-    seat: Seat,
+    table: &Shards<PlainTable, J>,
+    seat: SharedSeat<J>,
     lines: &[Answered],
 ) -> Option<(bool, u64, u64)> {
     match named(alloc, Seated::new(table, rt, seat)) {
@@ -203,13 +208,23 @@ fn sums(events: u64) -> Sums {
 }
 
 /// Whether a seat of a new table is answered so. Keys 5, 7 and 9 lie on the first shard, key 6 on the second.
-fn is_seat_answered(rt: &impl Wait, alloc: Global) -> bool {
-    let Ok((desk, seat)) = open_two(alloc) else {
+fn answered_recorded<J: Naming, R: Wait>(rt: &R, alloc: Global, opened: Opened) -> bool
+    requires { (opened.first.table_id ≡ J.record_id) × (opened.books ≡ J.books) }
+{
+    let Ok((desk, seat)) = open_two::<J>(alloc, opened) else {
         return false;
     };
     let made = calls_made(rt, alloc, &desk.table, seat, &LINES);
     let holds = holds(desk, &[sums(8), sums(6)]);
     made == Some((true, 8, 6)) && holds
+}
+
+/// The same of a new record.
+fn is_seat_answered<R: Wait>(rt: &R, alloc: Global) -> bool {
+    match open_record(alloc) {
+        Some(opened) => answered_recorded::<Brand, R>(rt, alloc, opened),
+        None => false,
+    }
 }
 
 #[test]
@@ -234,7 +249,11 @@ static TRACKED: [Answered; 2] = [
 ];
 
 /// What a seat is answered of a table where another tracks the key of 6.
-fn shown_to(rt: &impl Wait, desk: &mut Desk, seat: Seat) -> Option<(bool, u64, u64)> {
+fn shown_to<J: Naming>(
+    rt: &impl Wait,
+    desk: &mut Desk<J>,
+    seat: SharedSeat<J>,
+) -> Option<(bool, u64, u64)> {
     match desk.track(rt, 6) {
         Ok(_) => calls_made(rt, desk.alloc, &desk.table, seat, &TRACKED),
         Err(_) => None,
@@ -242,10 +261,24 @@ fn shown_to(rt: &impl Wait, desk: &mut Desk, seat: Seat) -> Option<(bool, u64, u
 }
 
 /// What a seat is answered of a new table where another has tracked the key of 6.
-fn is_shown(rt: &impl Wait, alloc: Global) -> Option<(bool, u64, u64)> {
-    match open_two(alloc) {
+fn shown_recorded<J: Naming, R: Wait>(
+    rt: &R,
+    alloc: Global,
+    opened: Opened,
+) -> Option<(bool, u64, u64)>
+    requires { (opened.first.table_id ≡ J.record_id) × (opened.books ≡ J.books) }
+{
+    match open_two::<J>(alloc, opened) {
         Ok((mut desk, seat)) => shown_to(rt, &mut desk, seat),
         Err(_) => None,
+    }
+}
+
+/// The same of a new record.
+fn is_shown<R: Wait>(rt: &R, alloc: Global) -> Option<(bool, u64, u64)> {
+    match open_record(alloc) {
+        Some(opened) => shown_recorded::<Brand, R>(rt, alloc, opened),
+        None => None,
     }
 }
 
@@ -258,35 +291,37 @@ fn a_seat_is_shown_what_another_has_done(rt: HostRuntime) -> Result<(), Fail> {
 /// What a seat is answered of a table that has counted less than it has seen.
 static BEHIND: [Answered; 1] = [(0, b"show table n", b"Table unavailable.\n\n")];
 
-/// The seat alone.
-fn seat_of(desk: Desk) -> Seat {
-    let Desk {
-        alloc: _,
-        table: _,
-        seat,
-    } = desk;
-    seat
+/// What the seat of a table is answered by another, once it has tracked the key of 5.
+fn answered_by<J: Naming>(
+    rt: &impl Wait,
+    mut desk: Desk<J>,
+    other: &Desk<J>,
+) -> Option<(bool, u64, u64)> {
+    if desk.track(rt, 5).is_err() {
+        return None;
+    }
+    calls_made(rt, desk.alloc, &other.table, desk.seat, &BEHIND)
 }
 
-/// A seat that has tracked the key of 5 in a table.
-fn seat_of_another(rt: &impl Wait, alloc: Global) -> Option<Seat> {
-    let Ok(mut desk) = Desk::open(alloc, 2, false) else {
-        return None;
-    };
-    match desk.track(rt, 5) {
-        Ok(_) => Some(seat_of(desk)),
+/// The same of two tables of a record.
+fn behind_recorded<J: Naming, R: Wait>(
+    rt: &R,
+    alloc: Global,
+    opened: Opened,
+) -> Option<(bool, u64, u64)>
+    requires { (opened.first.table_id ≡ J.record_id) × (opened.books ≡ J.books) }
+{
+    match two_desks::<J>(alloc, opened, (2, 2), false) {
+        Ok((desk, other)) => answered_by(rt, desk, &other),
         Err(_) => None,
     }
 }
 
-/// What the seat of another table is answered.
-fn is_behind(rt: &impl Wait, alloc: Global) -> Option<(bool, u64, u64)> {
-    let Some(seat) = seat_of_another(rt, alloc) else {
-        return None;
-    };
-    match Desk::open(alloc, 2, false) {
-        Ok(fresh) => calls_made(rt, alloc, &fresh.table, seat, &BEHIND),
-        Err(_) => None,
+/// The same of a new record.
+fn is_behind<R: Wait>(rt: &R, alloc: Global) -> Option<(bool, u64, u64)> {
+    match open_record(alloc) {
+        Some(opened) => behind_recorded::<Brand, R>(rt, alloc, opened),
+        None => None,
     }
 }
 

@@ -1,9 +1,12 @@
 //! A shard that is held, and calls beside it.
 
+ghost use Rattle.std.specs.Prelude.{◌≡◌};
+
 use crate::locks::tables::{Ask, Desk, Said, place, say};
-use shard_book::Seat;
-use shard_locks::Shards;
+use shard_locks::{Shards, SharedSeat};
+use shard_record::{Naming, Opened};
 use std::alloc::{AllocError, Global};
+use std::marker::Brand;
 use std::rt::Clock;
 use std::sync::Wait;
 use std::sync::atomic::{AtomicBool, Ordering};
@@ -12,6 +15,7 @@ use std::thread;
 use std::thread::Threads;
 use std::time::Duration;
 use stick_table::PlainTable;
+use test_calls::{Purse, open_record};
 
 /// What one thread tells the other.
 #[derive(Drop)]
@@ -36,7 +40,7 @@ fn is_set<R: Clock>(rt: &R, flag: &AtomicBool, ms: u32) -> bool {
 }
 
 /// Holds shard 0 until the call was answered, so many ms at most.
-fn hold<R: Wait + Clock>(rt: &R, table: &Shards<PlainTable>, flags: &Flags, ms: u32) {
+fn hold<J: Naming, R: Wait + Clock>(rt: &R, table: &Shards<PlainTable, J>, flags: &Flags, ms: u32) {
     table.hold(rt, place(table, 0), || {
         flags.held.store(true, Ordering::SeqCst);
         flags
@@ -45,63 +49,101 @@ fn hold<R: Wait + Clock>(rt: &R, table: &Shards<PlainTable>, flags: &Flags, ms: 
     });
 }
 
-/// Calls a shard once shard 0 is held.
-fn call<R: Wait + Clock>(
-    rt: &R,
+/// Who calls a shard, and which.
+#[derive(Drop)]
+struct Caller<J: Naming> {
     alloc: Global,
-    table: &Shards<PlainTable>,
-    seat: &mut Seat,
+    seat: SharedSeat<J>,
+    purse: Purse<J>,
     shard: u32,
+}
+
+/// Calls a shard once shard 0 is held.
+fn call<J: Naming, R: Wait + Clock>(
+    rt: &R,
+    table: &Shards<PlainTable, J>,
+    caller: &mut Caller<J>,
     flags: &Flags,
 ) {
+    let Caller {
+        alloc,
+        seat,
+        purse,
+        shard,
+    } = caller;
     if is_set(rt, &flags.held, 10_000)
-        && say(rt, alloc, table, seat, shard, Ask::Expire(0)) == Said::Expired(0)
+        && say(rt, *alloc, table, seat, purse, *shard, Ask::Expire(0)) == Said::Expired(0)
     {
         flags.answered.store(true, Ordering::SeqCst);
     }
 }
 
 /// Holds shard 0 in another thread, and calls a shard.
-fn hold_and_call<R: Threads + Wait + Clock + Sync>(
+fn hold_and_call<J: Naming + Send + Sync, R: Threads + Wait + Clock + Sync>(
     rt: &R,
-    desk: &mut Desk,
-    shard: u32,
+    table: &Shards<PlainTable, J>,
+    caller: &mut Caller<J>,
     ms: u32,
     flags: &Flags,
 ) -> Result<(), AllocError> {
-    let alloc = desk.alloc;
-    let table = &desk.table;
-    let seat = &mut desk.seat;
     thread::scope(thread::scope_env(), rt, |scope| -> Result<(), AllocError> {
-        let holder = scope.spawn(|| hold(rt, table, flags, ms))?;
-        call(rt, alloc, table, seat, shard, flags);
+        let holder = scope.spawn(move || hold(rt, table, flags, ms))?;
+        call(rt, table, caller, flags);
         holder.join(rt);
         Ok(())
     })
 }
 
 /// Whether shard 0 was held, a call of a shard was answered, and the holder saw that.
-fn call_beside<R: Threads + Wait + Clock + Sync>(
+fn beside_recorded<J: Naming + Send + Sync, R: Threads + Wait + Clock + Sync>(
     rt: &R,
     alloc: Global,
     shard: u32,
     ms: u32,
-) -> Option<(bool, bool, bool)> {
-    let Ok(mut desk) = Desk::open(alloc, 2, false) else {
+    opened: Opened,
+) -> Option<(bool, bool, bool)>
+    requires { (opened.first.table_id ≡ J.record_id) × (opened.books ≡ J.books) }
+{
+    let Ok(desk) = Desk::<J>::open(alloc, opened, 2, false) else {
         return None;
+    };
+    let Desk {
+        alloc,
+        table,
+        seat,
+        purse,
+    } = desk;
+    let mut caller = Caller {
+        alloc,
+        seat,
+        purse,
+        shard,
     };
     let flags = Flags {
         held: AtomicBool::new(false),
         answered: AtomicBool::new(false),
         seen: AtomicBool::new(false),
     };
-    match hold_and_call(rt, &mut desk, shard, ms, &flags) {
+    match hold_and_call(rt, &table, &mut caller, ms, &flags) {
         Ok(()) => Some((
             flags.held.load(Ordering::SeqCst),
             flags.answered.load(Ordering::SeqCst),
             flags.seen.load(Ordering::SeqCst),
         )),
         Err(_) => None,
+    }
+}
+
+/// The same of a new record.
+fn call_beside<R: Threads + Wait + Clock + Sync>(
+    rt: &R,
+    alloc: Global,
+    shard: u32,
+    ms: u32,
+) -> Option<(bool, bool, bool)> {
+    match open_record(alloc) {
+        Some(opened) => beside_recorded::<Brand, R>(rt, alloc, shard, ms, opened),
+        None => None,
     }
 }
 

@@ -1,22 +1,27 @@
 //! Shards whose records begin again, and references that outlast it.
 
+ghost use Rattle.std.specs.Prelude.{◌≡◌};
+
 use crate::locks::books::{Sums, holds, holds_entries};
 use crate::locks::calls::{counts_of, row};
 use crate::locks::tables::{Ask, Desk, Said};
+use shard_record::{Naming, Opened};
 use std::alloc::Global;
+use std::marker::Brand;
 use std::sync::Wait;
 use std::test::Fail;
+use test_calls::open_record;
 
 /// Whether three rolls of a record of two calls are as they have to: one that wants a call more, one that wants one, and
 /// one at once again.
-fn roll_as(rt: &impl Wait, desk: &Desk, wanted: (bool, bool, bool)) -> bool {
+fn roll_as<J: Naming>(rt: &impl Wait, desk: &Desk<J>, wanted: (bool, bool, bool)) -> bool {
     desk.roll(rt, 3) == Said::Rolled(wanted.0)
         && desk.roll(rt, 1) == Said::Rolled(wanted.1)
         && desk.roll(rt, 1) == Said::Rolled(wanted.2)
 }
 
 /// Whether a reference of the key of 2 outlasts the rolls, and so does what was put into the key of 1.
-fn outlast(rt: &impl Wait, desk: &mut Desk) -> bool {
+fn outlast<J: Naming>(rt: &impl Wait, desk: &mut Desk<J>) -> bool {
     match desk.track(rt, 2) {
         Ok((held, _shown)) => {
             roll_as(rt, desk, (false, true, false))
@@ -29,7 +34,9 @@ fn outlast(rt: &impl Wait, desk: &mut Desk) -> bool {
 
 /// Whether a new table keeps its entries and references over a roll: its book has counted four events and its base two,
 /// with two entries of which one is tracked.
-fn are_kept(rt: &impl Wait, alloc: Global) -> bool {
+fn kept_recorded<J: Naming, R: Wait>(rt: &R, alloc: Global, opened: Opened) -> bool
+    requires { (opened.first.table_id ≡ J.record_id) × (opened.books ≡ J.books) }
+{
     let wanted = Sums {
         sizes: (12, 12),
         events: (4, 2),
@@ -37,7 +44,7 @@ fn are_kept(rt: &impl Wait, alloc: Global) -> bool {
         references: 1,
         is_new: false,
     };
-    match Desk::open(alloc, 1, false) {
+    match Desk::<J>::open(alloc, opened, 1, false) {
         Ok(mut desk) => {
             let is_put = desk.say(rt, 0, Ask::Put(1)) == Said::Written(true);
             let is_kept = outlast(rt, &mut desk);
@@ -48,6 +55,14 @@ fn are_kept(rt: &impl Wait, alloc: Global) -> bool {
     }
 }
 
+/// The same of a new record.
+fn are_kept<R: Wait>(rt: &R, alloc: Global) -> bool {
+    match open_record(alloc) {
+        Some(opened) => kept_recorded::<Brand, R>(rt, alloc, opened),
+        None => false,
+    }
+}
+
 #[test]
 fn a_roll_keeps_entries_and_references(rt: HostRuntime) -> Result<(), Fail> {
     assert!(rt; are_kept(&rt, rt.alloc()));
@@ -55,14 +70,16 @@ fn a_roll_keeps_entries_and_references(rt: HostRuntime) -> Result<(), Fail> {
 }
 
 /// Whether two keys are put and no roll is done.
-fn is_not_rolled(rt: &impl Wait, desk: &mut Desk) -> bool {
+fn is_not_rolled<J: Naming>(rt: &impl Wait, desk: &mut Desk<J>) -> bool {
     desk.say(rt, 0, Ask::Put(1)) == Said::Written(true)
         && desk.say(rt, 0, Ask::Put(2)) == Said::Written(true)
         && roll_as(rt, desk, (false, false, false))
 }
 
 /// Whether that is so of a new table with receipts, whose book then has two calls since the empty table.
-fn stays(rt: &impl Wait, alloc: Global) -> bool {
+fn stays_recorded<J: Naming, R: Wait>(rt: &R, alloc: Global, opened: Opened) -> bool
+    requires { (opened.first.table_id ≡ J.record_id) × (opened.books ≡ J.books) }
+{
     let wanted = Sums {
         sizes: (12, 12),
         events: (2, 0),
@@ -70,13 +87,21 @@ fn stays(rt: &impl Wait, alloc: Global) -> bool {
         references: 0,
         is_new: true,
     };
-    match Desk::open(alloc, 1, true) {
+    match Desk::<J>::open(alloc, opened, 1, true) {
         Ok(mut desk) => {
             let is_not_rolled = is_not_rolled(rt, &mut desk);
             let holds = holds(desk, &[wanted]);
             is_not_rolled && holds
         }
         Err(_) => false,
+    }
+}
+
+/// The same of a new record.
+fn stays<R: Wait>(rt: &R, alloc: Global) -> bool {
+    match open_record(alloc) {
+        Some(opened) => stays_recorded::<Brand, R>(rt, alloc, opened),
+        None => false,
     }
 }
 
@@ -89,7 +114,7 @@ fn a_record_with_receipts_is_not_rolled(rt: HostRuntime) -> Result<(), Fail> {
 // ---- a hundred calls between two rolls
 
 /// Whether the row of the key of 1 shows one reference, so many times.
-fn are_shown(rt: &impl Wait, desk: &mut Desk, times: u32) -> bool {
+fn are_shown<J: Naming>(rt: &impl Wait, desk: &mut Desk<J>, times: u32) -> bool {
     for _ in 0..times {
         if desk.say(rt, 0, Ask::Get(1, 0)) != row(1, 500, 0) {
             return false;
@@ -100,7 +125,7 @@ fn are_shown(rt: &impl Wait, desk: &mut Desk, times: u32) -> bool {
 
 /// Tracks two keys, rolls, gets a row a hundred times, gives both references back and rolls again; answers whether all
 /// was done so.
-fn roll_around_references(rt: &impl Wait, desk: &mut Desk) -> bool {
+fn roll_around_references<J: Naming>(rt: &impl Wait, desk: &mut Desk<J>) -> bool {
     match (desk.track(rt, 1), desk.track(rt, 2)) {
         (Ok((first, _)), Ok((second, _))) => {
             desk.roll(rt, 2) == Said::Rolled(true)
@@ -108,14 +133,16 @@ fn roll_around_references(rt: &impl Wait, desk: &mut Desk) -> bool {
                 && desk.release(rt, second, 0).is_ok()
                 && desk.release(rt, first, 0).is_ok()
                 && desk.roll(rt, 102) == Said::Rolled(true)
-                && counts_of(&desk.seat, 0) == (104, 104)
+                && counts_of(desk.seat.seat(), 0) == (104, 104)
         }
         _ => false,
     }
 }
 
 /// Whether that is so of a new table, whose book then has 104 events in its base, and no reference.
-fn all_outlast(rt: &impl Wait, alloc: Global) -> bool {
+fn outlast_recorded<J: Naming, R: Wait>(rt: &R, alloc: Global, opened: Opened) -> bool
+    requires { (opened.first.table_id ≡ J.record_id) × (opened.books ≡ J.books) }
+{
     let wanted = Sums {
         sizes: (12, 12),
         events: (104, 104),
@@ -123,13 +150,21 @@ fn all_outlast(rt: &impl Wait, alloc: Global) -> bool {
         references: 0,
         is_new: false,
     };
-    match Desk::open(alloc, 1, false) {
+    match Desk::<J>::open(alloc, opened, 1, false) {
         Ok(mut desk) => {
             let is_rolled = roll_around_references(rt, &mut desk);
             let holds = holds(desk, &[wanted]);
             is_rolled && holds
         }
         Err(_) => false,
+    }
+}
+
+/// The same of a new record.
+fn all_outlast<R: Wait>(rt: &R, alloc: Global) -> bool {
+    match open_record(alloc) {
+        Some(opened) => outlast_recorded::<Brand, R>(rt, alloc, opened),
+        None => false,
     }
 }
 

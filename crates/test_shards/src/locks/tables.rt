@@ -1,17 +1,17 @@
 //! A table of 12 entries, and what it is asked. What is answered is told by values that can be copied, so that whoever asks
 //! often has nothing to drop on the way.
 
-ghost use Rattle.std.specs.Prelude.{◌≤◌, ◌<◌, IfOk};
+ghost use Rattle.std.specs.Prelude.{◌≡◌, ◌≤◌, ◌<◌, IfOk};
 ghost use Rattle.stick_model.specs.Limits.{IsTableEvent};
 
 use base_sequence::{NoMemory, Sequence};
-use shard_book::{Seat, TrackRef};
-use shard_locks::{Shards, Tracking};
+use shard_locks::{Shards, SharedRef, SharedSeat, Tracking};
+use shard_record::{Naming, Opened};
 use std::alloc::Global;
 use std::sync::Wait;
 use stick_table::{Cell, Event, Filter, PlainTable, Refusal, Reply, Row};
 use stored_data::{Datum, Field};
-use test_calls::{Held, ask, key, spec};
+use test_calls::{Held, Purse, Records, ask, key, spec};
 
 /// What is asked of a table by the number of a key, and at a moment in ms.
 #[derive(Clone, Copy)]
@@ -112,49 +112,54 @@ fn event_of(alloc: Global, ask: Ask) -> Result<Event, NoMemory>
 }
 
 /// The shard of a number, of which there are as many as the table has.
-pub fn place(table: &Shards<PlainTable>, number: u32) -> u32
+pub fn place<J: Naming>(table: &Shards<PlainTable, J>, number: u32) -> u32
     ensures { result < table.now.shards }
 {
     number % table.shards()
 }
 
 /// What an event is answered: by the shard of its key, or else by this one.
-pub fn call(
+pub fn call<J: Naming>(
     rt: &impl Wait,
-    table: &Shards<PlainTable>,
-    seat: &mut Seat,
+    table: &Shards<PlainTable, J>,
+    seat: &mut SharedSeat<J>,
+    purse: &mut Purse<J>,
     shard: u32,
     event: Event,
 ) -> Result<Reply, Refusal>
     requires { IsTableEvent event }
 {
-    ask(rt, table, seat, place(table, shard), event)
+    ask(rt, table, seat, purse, place(table, shard), event)
 }
 
 /// What is answered: by the shard of the key, or else by this one.
-pub fn say(
+pub fn say<J: Naming>(
     rt: &impl Wait,
     alloc: Global,
-    table: &Shards<PlainTable>,
-    seat: &mut Seat,
+    table: &Shards<PlainTable, J>,
+    seat: &mut SharedSeat<J>,
+    purse: &mut Purse<J>,
     shard: u32,
     ask: Ask,
 ) -> Said {
     let Ok(event) = event_of(alloc, ask) else {
         return Said::Refused(Refusal::Memory);
     };
-    match call(rt, table, seat, shard, event) {
+    match call(rt, table, seat, purse, shard, event) {
         Ok(reply) => said_of(reply),
         Err(refusal) => Said::Refused(refusal),
     }
 }
 
-/// A new reference as its shard and its ticket, and what is shown of its entry.
-fn held_of(tracking: Tracking) -> Result<(Held, Shown), Refusal> {
+/// A new reference as its shard and its ticket, and what is shown of its entry; the purse has it.
+fn held_of<J: Naming>(
+    tracking: Tracking<SharedRef<J>>,
+    purse: &mut Purse<J>,
+) -> Result<(Held, Shown), Refusal> {
     match tracking {
         Tracking::Tracked(reference, row) => {
             let (shard, ticket) = (reference.shard(), reference.ticket());
-            reference.abandon();
+            purse.put(reference);
             Ok((Held { shard, ticket }, shown_of(row)))
         }
         Tracking::Full => Err(Refusal::Stale),
@@ -162,52 +167,105 @@ fn held_of(tracking: Tracking) -> Result<(Held, Shown), Refusal> {
     }
 }
 
-/// A table of 12 entries in shards, and a seat that asks it.
+/// A table of 12 entries in shards, a seat that asks it, and the references that were told.
 #[derive(Drop)]
-pub struct Desk {
+pub struct Desk<J: Naming> {
     pub alloc: Global,
-    pub table: Shards<PlainTable>,
-    pub seat: Seat,
+    pub table: Shards<PlainTable, J>,
+    pub seat: SharedSeat<J>,
+    pub purse: Purse<J>,
 }
 
-impl Desk {
-    /// A table in so many shards, and its only seat.
-    pub fn open(alloc: Global, shards: u32, keep: bool) -> Result<Desk, NoMemory>
+impl<J: Naming> Desk<J> {
+    /// A table in so many shards, and its only seat; and what is left of the record.
+    pub fn new(
+        alloc: Global,
+        records: Records<J>,
+        shards: u32,
+        keep: bool,
+    ) -> Result<(Records<J>, Desk<J>), NoMemory>
         requires some { 1 ≤ shards }
         requires few { shards ≤ 12 }
     {
         let spec = spec(alloc, 12, 4, 1_000)?;
-        let (table, mut seats) = Shards::new(alloc, spec, shards, 1, keep)?;
+        let (left, (table, mut seats)) = records.open(alloc, spec, shards, 1, keep)?;
         match seats.pop() {
-            Some(seat) => Ok(Desk { alloc, table, seat }),
+            Some(seat) => Ok((
+                left,
+                Desk {
+                    alloc,
+                    table,
+                    seat,
+                    purse: Purse::new(alloc),
+                },
+            )),
             None => Err(NoMemory),
         }
     }
 
+    /// The only table of a record, in so many shards.
+    pub fn open(alloc: Global, opened: Opened, shards: u32, keep: bool) -> Result<Desk<J>, NoMemory>
+        requires some { 1 ≤ shards }
+        requires few { shards ≤ 12 }
+        requires record { (opened.first.table_id ≡ J.record_id) × (opened.books ≡ J.books) }
+    {
+        let records = Records::<J>::new(alloc, opened)?;
+        let (_left, desk) = Desk::new(alloc, records, shards, keep)?;
+        Ok(desk)
+    }
+
     /// What is answered: by the shard of the key, or else by this one.
     pub fn say(&mut self, rt: &impl Wait, shard: u32, ask: Ask) -> Said {
-        say(rt, self.alloc, &self.table, &mut self.seat, shard, ask)
+        say(
+            rt,
+            self.alloc,
+            &self.table,
+            &mut self.seat,
+            &mut self.purse,
+            shard,
+            ask,
+        )
     }
 
     /// The new reference to the entry of a number, and what is shown of it.
     pub fn track(&mut self, rt: &impl Wait, number: u32) -> Result<(Held, Shown), Refusal> {
         let key = key(self.alloc, number)?;
-        held_of(self.table.track(rt, &mut self.seat, 0, key)?)
+        held_of(
+            self.table.track(rt, &mut self.seat, 0, key)?,
+            &mut self.purse,
+        )
     }
 
-    /// Gives a reference back, or tells which was handed back and why.
-    pub fn release(&mut self, rt: &impl Wait, held: Held, now: u32) -> Result<(), (Held, Refusal)> {
-        let reference = TrackRef::new(held.shard, held.ticket);
+    /// Gives a reference back, or tells why it has come back, or that it isn't there.
+    pub fn release(&mut self, rt: &impl Wait, held: Held, now: u32) -> Result<(), Option<Refusal>> {
+        let Some(reference) = self.purse.take(held) else {
+            return Err(None);
+        };
         match self
             .table
             .release(rt, &mut self.seat, reference, u64::from(now))
         {
             Ok(()) => Ok(()),
             Err((reference, refusal)) => {
-                let (shard, ticket) = (reference.shard(), reference.ticket());
-                reference.abandon();
-                Err((Held { shard, ticket }, refusal))
+                self.purse.put(reference);
+                Err(Some(refusal))
             }
+        }
+    }
+
+    /// Whether a reference is there.
+    pub fn has(&self, held: Held) -> bool {
+        self.purse.find(held).is_some()
+    }
+
+    /// Takes a reference over from another table's desk; answers whether it was there.
+    pub fn take_over(&mut self, other: &mut Desk<J>, held: Held) -> bool {
+        match other.purse.take(held) {
+            Some(reference) => {
+                self.purse.put(reference);
+                true
+            }
+            None => false,
         }
     }
 

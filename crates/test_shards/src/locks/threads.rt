@@ -1,40 +1,42 @@
 //! Two threads that share a table, and what the records of its books say of their calls.
 
-ghost use Rattle.std.specs.Prelude.{◌<◌};
+ghost use Rattle.std.specs.Prelude.{◌≡◌, ◌<◌};
 
 use crate::locks::books::events_of;
 use crate::locks::replay::{is_told, replies_of};
 use crate::locks::tables::Desk;
 use base_sequence::{NoMemory, Sequence};
-use shard_book::{Book, Receipt, Seat};
-use shard_locks::Shards;
+use shard_book::{Book, Receipt};
+use shard_locks::{Shards, SharedSeat};
+use shard_record::{Naming, Opened};
 use std::alloc::Global;
+use std::marker::Brand;
 use std::sync::Wait;
 use std::test::Fail;
 use std::thread;
 use std::thread::Threads;
 use stick_table::{PlainTable, Refusal, Reply};
-use test_calls::{Caller, Drawing, books_of, spec};
+use test_calls::{Caller, Drawing, Purse, Records, books_of, open_record, spec};
 
 /// How many calls each thread makes.
 const CALLS: u32 = 1_000;
 
 /// A seat that has called, and what it noted of its calls.
 #[derive(Drop)]
-struct Noted {
-    seat: Seat,
+struct Noted<J: Naming> {
+    seat: SharedSeat<J>,
     notes: Vec<Receipt>,
 }
 
 /// The calls of one thread.
-fn call_often(
+fn call_often<J: Naming>(
     rt: &impl Wait,
     alloc: Global,
-    table: &Shards<PlainTable>,
-    seat: Seat,
-) -> Result<Noted, Refusal> {
+    table: &Shards<PlainTable, J>,
+    seat: SharedSeat<J>,
+) -> Result<Noted<J>, Refusal> {
     let drawing = Drawing {
-        seed: u64::from(seat.number()),
+        seed: u64::from(seat.seat().number()),
         keys: 16,
         moments: 2_000,
     };
@@ -50,25 +52,25 @@ fn call_often(
 }
 
 /// What both threads noted, if neither was refused.
-fn both(
-    first: Result<Noted, Refusal>,
-    second: Result<Noted, Refusal>,
-) -> Result<[Noted; 2], Refusal> {
-    Ok([first?, second?])
+fn both<J: Naming>(
+    first: Result<Noted<J>, Refusal>,
+    second: Result<Noted<J>, Refusal>,
+) -> Result<(Noted<J>, Noted<J>), Refusal> {
+    Ok((first?, second?))
 }
 
 /// The calls of two threads.
-fn call_from_two<R: Threads + Wait + Sync>(
+fn call_from_two<J: Naming + Send + Sync, R: Threads + Wait + Sync>(
     rt: &R,
     alloc: Global,
-    table: &Shards<PlainTable>,
-    first: Seat,
-    second: Seat,
-) -> Result<[Noted; 2], Refusal> {
+    table: &Shards<PlainTable, J>,
+    first: SharedSeat<J>,
+    second: SharedSeat<J>,
+) -> Result<(Noted<J>, Noted<J>), Refusal> {
     thread::scope(
         thread::scope_env(),
         rt,
-        |scope| -> Result<[Noted; 2], Refusal> {
+        |scope| -> Result<(Noted<J>, Noted<J>), Refusal> {
             let Ok(first) = scope.spawn(move || call_often(rt, alloc, table, first)) else {
                 return Err(Refusal::Memory);
             };
@@ -81,32 +83,32 @@ fn call_from_two<R: Threads + Wait + Sync>(
 }
 
 /// Whether the record of a shard says just what a seat noted of it.
-fn is_agreed(
+fn is_agreed<J: Naming>(
     book: &Book<PlainTable>,
     replies: &Sequence<Reply>,
     shard: u32,
-    noted: &Noted,
+    noted: &Noted<J>,
 ) -> bool {
     is_told(
         book.calls(),
         replies.as_slice(),
         shard,
-        noted.seat.number(),
+        noted.seat.seat().number(),
         &noted.notes,
     )
 }
 
 /// Whether a book's record says just what both seats noted of its shard, since the empty table, and has as many calls
 /// as the seats have counted.
-fn agrees(
+fn agrees<J: Naming>(
     alloc: Global,
     book: &Book<PlainTable>,
     shard: u32,
-    noted: &[Noted; 2],
+    noted: &(Noted<J>, Noted<J>),
 ) -> Result<bool, Refusal>
     requires { shard < 64 }
 {
-    let [first, second] = noted;
+    let (first, second) = noted;
     let replies = replies_of(alloc, book)?;
     Ok(
         is_agreed(book, &replies, shard, first)
@@ -117,21 +119,19 @@ fn agrees(
 }
 
 /// How many calls of a shard both seats have counted.
-fn both_calls(noted: &[Noted; 2], shard: u32) -> u64
+fn both_calls<J: Naming>(noted: &(Noted<J>, Noted<J>), shard: u32) -> u64
     requires { shard < 64 }
 {
-    let [first, second] = noted;
-    first
-        .seat
-        .calls(shard)
-        .saturating_add(second.seat.calls(shard))
+    let (first, second) = noted;
+    let more = second.seat.seat().calls(shard);
+    first.seat.seat().calls(shard).saturating_add(more)
 }
 
 /// Whether both books agree with what was noted, and have all calls.
-fn all_agree(
+fn all_agree<J: Naming>(
     alloc: Global,
     books: &[Book<PlainTable>],
-    noted: &[Noted; 2],
+    noted: &(Noted<J>, Noted<J>),
 ) -> Result<bool, Refusal> {
     let [first, second] = books else {
         return Ok(false);
@@ -144,26 +144,56 @@ fn all_agree(
 }
 
 /// A table of 12 entries in two shards, and two of its seats.
-pub fn open_two(alloc: Global) -> Result<(Desk, Seat), NoMemory> {
+pub fn open_two<J: Naming>(
+    alloc: Global,
+    opened: Opened,
+) -> Result<(Desk<J>, SharedSeat<J>), NoMemory>
+    requires { (opened.first.table_id ≡ J.record_id) × (opened.books ≡ J.books) }
+{
     let spec = spec(alloc, 12, 5, 1 << 62)?;
-    let (table, mut seats) = Shards::new(alloc, spec, 2, 2, false)?;
+    let records = Records::<J>::new(alloc, opened)?;
+    let (_left, (table, mut seats)) = records.open(alloc, spec, 2, 2, false)?;
+    let purse = Purse::new(alloc);
     match (seats.pop(), seats.pop()) {
-        (Some(seat), Some(first)) => Ok((Desk { alloc, table, seat }, first)),
+        (Some(seat), Some(first)) => Ok((
+            Desk {
+                alloc,
+                table,
+                seat,
+                purse,
+            },
+            first,
+        )),
         _ => Err(NoMemory),
     }
 }
 
 /// Whether the records of two shards say just what the seats of two threads were told.
-fn two_agree<R: Threads + Wait + Sync>(rt: &R, alloc: Global) -> Result<bool, Refusal> {
-    let (desk, first) = open_two(alloc)?;
+fn agree_recorded<J: Naming + Send + Sync, R: Threads + Wait + Sync>(
+    rt: &R,
+    alloc: Global,
+    opened: Opened,
+) -> Result<bool, Refusal>
+    requires { (opened.first.table_id ≡ J.record_id) × (opened.books ≡ J.books) }
+{
+    let (desk, first) = open_two::<J>(alloc, opened)?;
     let Desk {
         alloc: _,
         table,
         seat,
+        purse: _,
     } = desk;
     let noted = call_from_two(rt, alloc, &table, first, seat)?;
     let books = books_of(alloc, table)?;
     all_agree(alloc, &books, &noted)
+}
+
+/// The same of a new record.
+fn two_agree<R: Threads + Wait + Sync>(rt: &R, alloc: Global) -> Result<bool, Refusal> {
+    match open_record(alloc) {
+        Some(opened) => agree_recorded::<Brand, R>(rt, alloc, opened),
+        None => Ok(false),
+    }
 }
 
 #[test]

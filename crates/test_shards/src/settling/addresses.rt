@@ -4,15 +4,15 @@ ghost use Rattle.std.specs.Prelude.{◌≡◌, IfOk};
 ghost use Rattle.stick_model.specs.Limits.{IsTableSpec};
 
 use base_sequence::NoMemory;
-use shard_book::Seat;
-use shard_locks::Shards;
+use shard_locks::{Shards, SharedSeat};
+use shard_record::{Naming, Opened};
 use std::alloc::Global;
 use std::sync::Wait;
 use stick_key::{KeyType, Sample, StickKey, convert};
 use stick_model::Spec;
 use stick_table::{Event, PlainTable, Reply, Row};
 use stored_data::{Column, Datum, StoredSet};
-use test_calls::{ask, has, place};
+use test_calls::{Purse, Records, ask, has, place};
 
 /// The address that connections come from.
 pub const HOST: [u8; 4] = [10, 0, 0, 1];
@@ -53,20 +53,51 @@ pub fn spec(alloc: Global) -> Result<Spec, NoMemory>
     })
 }
 
-/// An empty table in two shards, the seat by which connections ask it, and that of one who looks at it.
-pub fn open(alloc: Global) -> Result<(Shards<PlainTable>, Seat, Seat), NoMemory>
-    ensures { IfOk result (λ opened. opened.0.shards ≡ 2) }
+/// A table in two shards, the seat by which connections ask it, and that of one who looks at it.
+#[derive(Drop)]
+pub struct Place<J: Naming> {
+    pub table: Shards<PlainTable, J>,
+    pub seat: SharedSeat<J>,
+    pub viewer: SharedSeat<J>,
+}
+
+/// An empty table; and what is left of the record.
+pub fn open_more<J: Naming>(
+    alloc: Global,
+    records: Records<J>,
+) -> Result<(Records<J>, Place<J>), NoMemory>
+    ensures { IfOk result (λ made. made.1.table.shards ≡ 2) }
 {
-    let (table, mut seats) = Shards::new(alloc, spec(alloc)?, 2, 2, false)?;
+    let (left, (table, mut seats)) = records.open(alloc, spec(alloc)?, 2, 2, false)?;
     match (seats.pop(), seats.pop()) {
-        (Some(viewer), Some(seat)) => Ok((table, seat, viewer)),
+        (Some(viewer), Some(seat)) => Ok((
+            left,
+            Place {
+                table,
+                seat,
+                viewer,
+            },
+        )),
         _ => Err(NoMemory),
     }
 }
 
+/// The only table of a record, which is empty.
+pub fn open<J: Naming>(alloc: Global, opened: Opened) -> Result<Place<J>, NoMemory>
+    requires { (opened.first.table_id ≡ J.record_id) × (opened.books ≡ J.books) }
+    ensures { IfOk result (λ made. made.table.shards ≡ 2) }
+{
+    let records = Records::<J>::new(alloc, opened)?;
+    match open_more(alloc, records) {
+        Ok((_left, made)) => Ok(made),
+        Err(refused) => Err(refused),
+    }
+}
+
 /// How many calls of a seat were answered.
-pub fn calls(seat: &Seat) -> u64 {
-    seat.calls(0).saturating_add(seat.calls(1))
+pub fn calls<J: Naming>(seat: &SharedSeat<J>) -> u64 {
+    let more = seat.seat().calls(1);
+    seat.seat().calls(0).saturating_add(more)
 }
 
 fn key(alloc: Global) -> Result<StickKey, NoMemory> {
@@ -110,19 +141,49 @@ impl Wanted {
     }
 }
 
-/// Whether the table shows that of the address at 500 ms.
-pub fn shows(
+/// What the table answers to a get of the address at 500 ms.
+fn get<J: Naming>(
     rt: &impl Wait,
     alloc: Global,
-    table: &Shards<PlainTable>,
-    seat: &mut Seat,
+    table: &Shards<PlainTable, J>,
+    seat: &mut SharedSeat<J>,
+) -> Option<Reply> {
+    let Ok(key) = key(alloc) else {
+        return None;
+    };
+    let (mut purse, place) = (Purse::new(alloc), place(table, 0));
+    match ask(rt, table, seat, &mut purse, place, Event::Get(500, key)) {
+        Ok(reply) => Some(reply),
+        Err(_) => None,
+    }
+}
+
+/// Whether a get of the address is answered so often.
+pub fn is_asked<J: Naming>(
+    rt: &impl Wait,
+    alloc: Global,
+    table: &Shards<PlainTable, J>,
+    seat: &mut SharedSeat<J>,
+    times: u32,
+) -> bool {
+    for _ in 0..times {
+        if get(rt, alloc, table, seat).is_none() {
+            return false;
+        }
+    }
+    true
+}
+
+/// Whether the table shows that of the address at 500 ms.
+pub fn shows<J: Naming>(
+    rt: &impl Wait,
+    alloc: Global,
+    table: &Shards<PlainTable, J>,
+    seat: &mut SharedSeat<J>,
     wanted: Wanted,
 ) -> bool {
-    let Ok(key) = key(alloc) else {
-        return false;
-    };
-    match ask(rt, table, seat, place(table, 0), Event::Get(500, key)) {
-        Ok(Reply::Row(row)) => wanted.is_shown_by(&row),
+    match get(rt, alloc, table, seat) {
+        Some(Reply::Row(row)) => wanted.is_shown_by(&row),
         _ => false,
     }
 }

@@ -1,14 +1,19 @@
 //! The books that settling hands out, and what a table answers that has no room, or doesn't store a datum.
 
-ghost use Rattle.std.specs.Prelude.{◌≤◌, ◌^◌};
+ghost use Rattle.std.specs.Prelude.{◌≡◌, ◌≤◌, ◌^◌};
 
-use shard_book::{Book, Seat};
-use shard_locks::{Listing, Shards};
+use shard_book::Book;
+use shard_locks::{Listing, Shards, SharedSeat};
+use shard_record::{Naming, Opened};
 use std::alloc::Global;
+use std::marker::Brand;
 use std::sync::Wait;
 use stick_table::{Event, Filter, Op, PlainTable, Reply, Row, Rows, Table, Ticket};
 use stored_data::{Datum, Field};
-use test_calls::{Call, Held, Opened, Outcome, has, list, make, open, show, spec, track};
+use test_calls::{
+    Call, Held, OpenPlain, Outcome, Purse, Records, has, list, make, open, open_record, show, spec,
+    track,
+};
 
 /// No reference.
 const NONE: Held = Held {
@@ -71,15 +76,30 @@ fn are_called(books: &[Book<PlainTable>]) -> bool {
     }
 }
 
+/// The only table of a record: of 12 entries in two shards, and two seats.
+pub fn open_alone<J: Naming>(alloc: Global, opened: Opened, keep: bool) -> Option<OpenPlain<J>>
+    requires { (opened.first.table_id ≡ J.record_id) × (opened.books ≡ J.books) }
+{
+    let records = Records::<J>::new(alloc, opened).ok()?;
+    let (_left, opened) = open(alloc, records, keep).ok()?;
+    Some(opened)
+}
+
 /// Makes these calls by the first seat; answers whether each is answered as it has to be.
-fn make_each(rt: &impl Wait, alloc: Global, opened: &mut Opened, calls: &[Call]) -> bool {
+fn make_each<J: Naming>(
+    rt: &impl Wait,
+    alloc: Global,
+    opened: &mut OpenPlain<J>,
+    purse: &mut Purse<J>,
+    calls: &[Call],
+) -> bool {
     let (table, seats) = opened;
     let Some(seat) = seats.as_mut_slice().first_mut() else {
         return false;
     };
     let mut held = NONE;
     for call in calls {
-        if make(rt, alloc, table, seat, &mut held, *call) != Ok(true) {
+        if make(rt, alloc, table, seat, purse, &mut held, *call) != Ok(true) {
             return false;
         }
     }
@@ -88,16 +108,28 @@ fn make_each(rt: &impl Wait, alloc: Global, opened: &mut Opened, calls: &[Call])
 
 /// Whether a table in which an entry was put, whose record was rolled, and that was listed then, is settled with its
 /// own books.
-fn rolled_settles(rt: &impl Wait, alloc: Global) -> bool {
-    let Ok(mut opened) = open(alloc, false) else {
+fn rolled_recorded<J: Naming, R: Wait>(rt: &R, alloc: Global, opened: Opened) -> bool
+    requires { (opened.first.table_id ≡ J.record_id) × (opened.books ≡ J.books) }
+{
+    let Some(mut opened) = open_alone::<J>(alloc, opened, false) else {
         return false;
     };
-    if !make_each(rt, alloc, &mut opened, &[Call::Put, Call::Roll, Call::List]) {
+    let mut purse = Purse::new(alloc);
+    let calls = [Call::Put, Call::Roll, Call::List];
+    if !make_each(rt, alloc, &mut opened, &mut purse, &calls) {
         return false;
     }
-    match show(alloc, opened, &[]) {
+    match show(alloc, opened, &mut purse, &[]) {
         Outcome::Settled(settled) => are_called(settled.books.as_slice()),
         _ => false,
+    }
+}
+
+/// The same of a new record.
+fn rolled_settles<R: Wait>(rt: &R, alloc: Global) -> bool {
+    match open_record(alloc) {
+        Some(opened) => rolled_recorded::<Brand, R>(rt, alloc, opened),
+        None => false,
     }
 }
 
@@ -126,56 +158,87 @@ fn told_by(reply: &Reply) -> Tracked {
 }
 
 /// Tracks the key of a number by a seat.
-fn track_by(
+fn track_by<J: Naming>(
     rt: &impl Wait,
     alloc: Global,
-    table: &Shards<PlainTable>,
-    seat: &mut Seat,
+    table: &Shards<PlainTable, J>,
+    seat: &mut SharedSeat<J>,
+    purse: &mut Purse<J>,
     number: u32,
 ) -> Tracked {
-    match track(rt, alloc, table, seat, number, 0) {
+    match track(rt, alloc, table, seat, purse, number, 0) {
         Ok(reply) => told_by(&reply),
         Err(_) => Tracked::Otherwise,
     }
 }
 
 /// Tracks the key of a number by the first seat.
-fn try_track(rt: &impl Wait, alloc: Global, opened: &mut Opened, number: u32) -> Tracked {
+fn try_track<J: Naming>(
+    rt: &impl Wait,
+    alloc: Global,
+    opened: &mut OpenPlain<J>,
+    purse: &mut Purse<J>,
+    number: u32,
+) -> Tracked {
     let (table, seats) = opened;
     match seats.as_mut_slice().first_mut() {
-        Some(seat) => track_by(rt, alloc, table, seat, number),
+        Some(seat) => track_by(rt, alloc, table, seat, purse, number),
         None => Tracked::Otherwise,
     }
 }
 
 /// A table of two shards with so many places, each shard of which may have so many references, and its only seat.
-pub fn open_narrow(alloc: Global, size: u32, max_refs: u32, keep: bool) -> Option<Opened>
+pub fn open_narrow<J: Naming>(
+    alloc: Global,
+    records: Records<J>,
+    size: u32,
+    max_refs: u32,
+    keep: bool,
+) -> Option<(Records<J>, OpenPlain<J>)>
     requires size { (2 ≤ size) × (size ≤ 2 ^ 30) }
     requires max_refs { (1 ≤ max_refs) × (max_refs ≤ 2 ^ 20) }
 {
     match spec(alloc, size, max_refs, 1_000) {
-        Ok(spec) => Shards::new(alloc, spec, 2, 1, keep).ok(),
+        Ok(spec) => records.open(alloc, spec, 2, 1, keep).ok(),
         Err(_) => None,
     }
 }
 
 /// What is answered to three tracks on the first of two shards, of 5, of 7 and of 5 again.
-fn three_tracks(rt: &impl Wait, alloc: Global, opened: Option<Opened>) -> Option<[Tracked; 3]> {
-    let mut opened = opened?;
-    let first = try_track(rt, alloc, &mut opened, 5);
-    let second = try_track(rt, alloc, &mut opened, 7);
-    let third = try_track(rt, alloc, &mut opened, 5);
+fn tracks_recorded<J: Naming, R: Wait>(
+    rt: &R,
+    alloc: Global,
+    sizes: (u32, u32),
+    opened: Opened,
+) -> Option<[Tracked; 3]>
+    requires size { (2 ≤ sizes.0) × (sizes.0 ≤ 2 ^ 30) }
+    requires max_refs { (1 ≤ sizes.1) × (sizes.1 ≤ 2 ^ 20) }
+    requires record { (opened.first.table_id ≡ J.record_id) × (opened.books ≡ J.books) }
+{
+    let records = Records::<J>::new(alloc, opened).ok()?;
+    let (_left, mut opened) = open_narrow(alloc, records, sizes.0, sizes.1, true)?;
+    let mut purse = Purse::new(alloc);
+    let first = try_track(rt, alloc, &mut opened, &mut purse, 5);
+    let second = try_track(rt, alloc, &mut opened, &mut purse, 7);
+    let third = try_track(rt, alloc, &mut opened, &mut purse, 5);
     Some([first, second, third])
+}
+
+/// The same of a new table with so many places, each shard of which may have so many references.
+fn three_tracks<R: Wait>(rt: &R, alloc: Global, sizes: (u32, u32)) -> Option<[Tracked; 3]>
+    requires size { (2 ≤ sizes.0) × (sizes.0 ≤ 2 ^ 30) }
+    requires max_refs { (1 ≤ sizes.1) × (sizes.1 ≤ 2 ^ 20) }
+{
+    let opened = open_record(alloc)?;
+    tracks_recorded::<Brand, R>(rt, alloc, sizes, opened)
 }
 
 #[test]
 fn want_of_room_is_told(rt: HostRuntime) {
     let full = Some([Tracked::Yes, Tracked::Full, Tracked::Yes]);
-    let narrow = open_narrow(rt.alloc(), 2, 5, true);
-    assert!(rt; three_tracks(&rt, rt.alloc(), narrow) == full);
+    assert!(rt; three_tracks(&rt, rt.alloc(), (2, 5)) == full);
     let no_refs = Some([Tracked::Yes, Tracked::NoRefs, Tracked::NoRefs]);
-    let narrow = open_narrow(rt.alloc(), 12, 1, true);
-    assert!(rt; three_tracks(&rt, rt.alloc(), narrow) == no_refs);
+    assert!(rt; three_tracks(&rt, rt.alloc(), (12, 1)) == no_refs);
 }
 
 /// The field that a listing says isn't stored.
@@ -187,11 +250,11 @@ fn field_of(listing: &Listing) -> Option<Field> {
 }
 
 /// The field that a listing by a seat says isn't stored.
-fn field_not_listed(
+fn field_not_listed<J: Naming>(
     rt: &impl Wait,
     alloc: Global,
-    table: &Shards<PlainTable>,
-    seat: &mut Seat,
+    table: &Shards<PlainTable, J>,
+    seat: &mut SharedSeat<J>,
     filter: &Filter,
 ) -> Option<Field> {
     match list(rt, alloc, table, seat, filter) {
@@ -201,10 +264,10 @@ fn field_not_listed(
 }
 
 /// The field that a listing by the first seat says isn't stored.
-fn field_not_stored(
+fn field_not_stored<J: Naming>(
     rt: &impl Wait,
     alloc: Global,
-    opened: &mut Opened,
+    opened: &mut OpenPlain<J>,
     filter: &Filter,
 ) -> Option<Field> {
     let (table, seats) = opened;
@@ -215,16 +278,23 @@ fn field_not_stored(
 }
 
 /// The field that a table says it doesn't store, where this one is asked for.
-fn not_stored(rt: &impl Wait, alloc: Global, field: Field) -> Option<Field> {
-    match open(alloc, true) {
-        Ok(mut opened) => field_not_stored(
-            rt,
-            alloc,
-            &mut opened,
-            &Filter::Compare(field, Op::Ge, 1),
-        ),
-        Err(_) => None,
-    }
+fn stored_recorded<J: Naming, R: Wait>(
+    rt: &R,
+    alloc: Global,
+    field: Field,
+    opened: Opened,
+) -> Option<Field>
+    requires { (opened.first.table_id ≡ J.record_id) × (opened.books ≡ J.books) }
+{
+    let mut opened = open_alone::<J>(alloc, opened, true)?;
+    let filter = Filter::Compare(field, Op::Ge, 1);
+    field_not_stored(rt, alloc, &mut opened, &filter)
+}
+
+/// The same of a new record.
+fn not_stored<R: Wait>(rt: &R, alloc: Global, field: Field) -> Option<Field> {
+    let opened = open_record(alloc)?;
+    stored_recorded::<Brand, R>(rt, alloc, field, opened)
 }
 
 #[test]

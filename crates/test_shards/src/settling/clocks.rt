@@ -1,6 +1,6 @@
 //! What a running clock shows.
 
-use base_clock::{Clock, RunningClock};
+use base_clock::{Clock, RunningClock, Start};
 use std::sync::atomic::{AtomicU64, Ordering};
 use std::time::{Duration, Instant};
 use std::{io, thread, time};
@@ -32,7 +32,7 @@ fn shown(faulty: &Faulty) -> Option<[u64; 4]> {
     let Ok(start) = Instant::now(faulty) else {
         return None;
     };
-    let mut clock = RunningClock::new(faulty, start);
+    let mut clock = RunningClock::new(faulty, Start::at(start));
     Some([clock.now(), clock.now(), clock.now(), clock.now()])
 }
 
@@ -49,7 +49,7 @@ fn goes_on(rt: &impl time::Clock) -> bool {
     let Ok(start) = Instant::now(rt) else {
         return false;
     };
-    let mut clock = RunningClock::new(rt, start);
+    let mut clock = RunningClock::new(rt, Start::at(start));
     thread::sleep(rt, Duration::from_millis(5));
     let now = clock.now();
     5 <= now && now < 60_000

@@ -5,25 +5,38 @@ ghost use Rattle.std.specs.Prelude.{◌≡◌, ◌<◌, ◌^◌, length};
 use crate::settling::books::listed;
 use crate::settling::rounds::{Rounds, alone};
 use base_clock::StoppedClock;
-use shard_book::{Book, Seat};
+use shard_book::Book;
 use shard_housekeeping::{Kept, housekeep};
-use shard_locks::Shards;
+use shard_locks::{Shards, SharedSeat};
+use shard_record::{Naming, Opened};
 use std::alloc::Global;
+use std::marker::Brand;
 use std::slice;
 use std::sync::Wait;
 use stick_table::PlainTable;
-use test_calls::{Outcome, put, show, spec};
+use test_calls::{Outcome, Purse, Records, open_record, put, show, spec};
 
 /// An empty table of 10 entries in two shards, which live for 500 ms, and its only seat.
-fn open_short(alloc: Global) -> Option<(Shards<PlainTable>, Seat)> {
+fn open_short<J: Naming>(
+    alloc: Global,
+    opened: Opened,
+) -> Option<(Shards<PlainTable, J>, SharedSeat<J>)>
+    requires { (opened.first.table_id ≡ J.record_id) × (opened.books ≡ J.books) }
+{
+    let records = Records::<J>::new(alloc, opened).ok()?;
     let spec = spec(alloc, 10, 4, 1_000).ok()?;
-    let (table, mut seats) = Shards::new(alloc, spec, 2, 1, true).ok()?;
+    let (_left, (table, mut seats)) = records.open(alloc, spec, 2, 1, true).ok()?;
     let seat = seats.pop()?;
     Some((table, seat))
 }
 
 /// Keeps house once at a moment.
-fn keep_once(rt: &impl Wait, table: &Shards<PlainTable>, seats: Vec<Seat>, moment: u64) -> Vec<Seat>
+fn keep_once<J: Naming>(
+    rt: &impl Wait,
+    table: &Shards<PlainTable, J>,
+    seats: Vec<SharedSeat<J>>,
+    moment: u64,
+) -> Vec<SharedSeat<J>>
     requires seats { length seats.items ≡ 1 }
     requires moment { moment < 2 ^ 62 }
 {
@@ -58,18 +71,33 @@ fn used_in(books: &[Book<PlainTable>]) -> Option<u64> {
 }
 
 /// How many entries are left where one was put at 0 ms, and house was kept once at a moment.
-fn left_at(rt: &impl Wait, alloc: Global, moment: u64) -> Option<u64>
-    requires { moment < 2 ^ 62 }
+fn left_recorded<J: Naming, R: Wait>(
+    rt: &R,
+    alloc: Global,
+    moment: u64,
+    opened: Opened,
+) -> Option<u64>
+    requires moment { moment < 2 ^ 62 }
+    requires record { (opened.first.table_id ≡ J.record_id) × (opened.books ≡ J.books) }
 {
-    let (table, mut seat) = open_short(alloc)?;
-    if put(rt, alloc, &table, &mut seat, 1).is_err() {
+    let (table, mut seat) = open_short::<J>(alloc, opened)?;
+    let mut purse = Purse::new(alloc);
+    if put(rt, alloc, &table, &mut seat, &mut purse, 1).is_err() {
         return None;
     }
     let seats = keep_once(rt, &table, alone(alloc, seat)?, moment);
-    match show(alloc, (table, seats), &[]) {
+    match show(alloc, (table, seats), &mut purse, &[]) {
         Outcome::Settled(settled) => used_in(settled.books.as_slice()),
         _ => None,
     }
+}
+
+/// The same of a new record.
+fn left_at<R: Wait>(rt: &R, alloc: Global, moment: u64) -> Option<u64>
+    requires { moment < 2 ^ 62 }
+{
+    let opened = open_record(alloc)?;
+    left_recorded::<Brand, R>(rt, alloc, moment, opened)
 }
 
 #[test]

@@ -1,6 +1,7 @@
 //! Settled books, beside what their callers noted.
 
 use shard_book::{Book, Receipt, Recorded};
+use shard_record::Naming;
 use shard_settling::{Settled, is_told, replay};
 use std::alloc::Global;
 use stick_table::{PlainTable, Reply, Ticket};
@@ -33,8 +34,8 @@ fn are_held(tickets: &[Ticket], shard: u32, held: &[Held]) -> bool {
 
 /// Whether a settled book has counted the calls of its shard that two callers noted, and has those references out that
 /// are held.
-pub fn is_counted(
-    settled: &Settled<PlainTable>,
+pub fn is_counted<J: Naming>(
+    settled: &Settled<PlainTable, J>,
     shard: u32,
     notes: [&[Receipt]; 2],
     held: &[Held],
@@ -74,9 +75,9 @@ fn is_record(alloc: Global, book: &Book<PlainTable>, shard: u32, notes: [&[Recei
 }
 
 /// The same of the book of a settled shard.
-pub fn is_noted(
+pub fn is_noted<J: Naming>(
     alloc: Global,
-    settled: &Settled<PlainTable>,
+    settled: &Settled<PlainTable, J>,
     shard: u32,
     notes: [&[Receipt]; 2],
 ) -> bool {

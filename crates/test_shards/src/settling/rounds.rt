@@ -4,16 +4,18 @@ ghost use Rattle.std.specs.Prelude.{◌≡◌, length, IfSome};
 
 use crate::settling::books::{is_put, listed};
 use base_clock::StoppedClock;
-use shard_book::{Book, Seat};
+use shard_book::Book;
 use shard_housekeeping::{Kept, Pace, housekeep};
-use shard_locks::Shards;
+use shard_locks::{Shards, SharedSeat};
+use shard_record::{Naming, Opened};
 use shard_settling::Settled;
 use std::alloc::Global;
+use std::marker::Brand;
 use std::slice;
 use std::sync::Wait;
 use std::sync::atomic::{AtomicU64, Ordering};
 use stick_table::{PlainTable, Reply, Row};
-use test_calls::{Outcome, get, put, show, spec};
+use test_calls::{Outcome, Purse, Records, get, open_record, put, show, spec};
 
 /// A pace of so many rounds.
 #[derive(Drop)]
@@ -48,16 +50,23 @@ struct Counted {
 }
 
 /// An empty table of 10 entries in two shards, and its only seat.
-fn open_one(alloc: Global, keep: bool) -> Option<(Shards<PlainTable>, Seat)> {
+fn open_one<J: Naming>(
+    alloc: Global,
+    opened: Opened,
+    keep: bool,
+) -> Option<(Shards<PlainTable, J>, SharedSeat<J>)>
+    requires { (opened.first.table_id ≡ J.record_id) × (opened.books ≡ J.books) }
+{
+    let records = Records::<J>::new(alloc, opened).ok()?;
     let mut spec = spec(alloc, 10, 4, 1_000).ok()?;
     spec.expire = None;
-    let (table, mut seats) = Shards::new(alloc, spec, 2, 1, keep).ok()?;
+    let (_left, (table, mut seats)) = records.open(alloc, spec, 2, 1, keep).ok()?;
     let seat = seats.pop()?;
     Some((table, seat))
 }
 
 /// A list of one seat.
-pub fn alone(alloc: Global, seat: Seat) -> Option<Vec<Seat>>
+pub fn alone<J: Naming>(alloc: Global, seat: SharedSeat<J>) -> Option<Vec<SharedSeat<J>>>
     ensures { IfSome result (λ seats. length seats.items ≡ 1) }
 {
     let mut seats = Vec::new(alloc);
@@ -76,8 +85,13 @@ fn is_created(reply: &Reply) -> bool {
 }
 
 /// Whether gpc0 of the key of 1 is set to 3, in a new entry.
-fn puts(rt: &impl Wait, alloc: Global, table: &Shards<PlainTable>, seat: &mut Seat) -> bool {
-    match put(rt, alloc, table, seat, 1) {
+fn puts<J: Naming>(
+    rt: &impl Wait,
+    alloc: Global,
+    table: &Shards<PlainTable, J>,
+    seat: &mut SharedSeat<J>,
+) -> bool {
+    match put(rt, alloc, table, seat, &mut Purse::new(alloc), 1) {
         Ok(reply) => is_created(&reply),
         Err(_) => false,
     }
@@ -89,8 +103,13 @@ fn is_kept(row: &Row) -> bool {
 }
 
 /// Whether a get answers the row that was put.
-fn gets(rt: &impl Wait, alloc: Global, table: &Shards<PlainTable>, seat: &mut Seat) -> bool {
-    match get(rt, alloc, table, seat, 1, 0) {
+fn gets<J: Naming>(
+    rt: &impl Wait,
+    alloc: Global,
+    table: &Shards<PlainTable, J>,
+    seat: &mut SharedSeat<J>,
+) -> bool {
+    match get(rt, alloc, table, seat, &mut Purse::new(alloc), 1, 0) {
         Ok(Reply::Row(row)) => is_kept(&row),
         _ => false,
     }
@@ -126,7 +145,7 @@ fn list_it(books: &[Book<PlainTable>]) -> bool {
 }
 
 /// How many calls were made, where the settled books list that row alone.
-fn calls_of(settled: &Settled<PlainTable>) -> Option<u64> {
+fn calls_of<J: Naming>(settled: &Settled<PlainTable, J>) -> Option<u64> {
     match settled.counts.as_slice() {
         [first, second] if list_it(settled.books.as_slice()) => Some(first.saturating_add(*second)),
         _ => None,
@@ -134,22 +153,26 @@ fn calls_of(settled: &Settled<PlainTable>) -> Option<u64> {
 }
 
 /// How many calls were made, where the table settles with this seat and its books list that row alone.
-fn settles(alloc: Global, table: Shards<PlainTable>, seat: Seat) -> Option<u64> {
+fn settles<J: Naming>(
+    alloc: Global,
+    table: Shards<PlainTable, J>,
+    seat: SharedSeat<J>,
+) -> Option<u64> {
     let seats = alone(alloc, seat)?;
-    match show(alloc, (table, seats), &[]) {
+    match show(alloc, (table, seats), &mut Purse::new(alloc), &[]) {
         Outcome::Settled(settled) => calls_of(&settled),
         _ => None,
     }
 }
 
 /// Keeps house in a table by its seat.
-fn keep_house(
+fn keep_house<J: Naming>(
     rt: &impl Wait,
-    table: &Shards<PlainTable>,
-    seats: Vec<Seat>,
+    table: &Shards<PlainTable, J>,
+    seats: Vec<SharedSeat<J>>,
     pace: &Rounds,
     roll_at: u64,
-) -> Kept
+) -> Kept<J>
     requires { length seats.items ≡ 1 }
 {
     let mut clock = StoppedClock::at(7);
@@ -157,14 +180,14 @@ fn keep_house(
 }
 
 /// What is counted in so many rounds, and the seat as it comes back.
-fn count_rounds(
+fn count_rounds<J: Naming>(
     rt: &impl Wait,
     alloc: Global,
-    table: &Shards<PlainTable>,
-    seat: Seat,
+    table: &Shards<PlainTable, J>,
+    seat: SharedSeat<J>,
     rounds: u64,
     roll_at: u64,
-) -> Option<(Counted, Seat)> {
+) -> Option<(Counted, SharedSeat<J>)> {
     let pace = Rounds::new(rounds);
     let seats = alone(alloc, seat)?;
     let Kept {
@@ -184,14 +207,14 @@ fn count_rounds(
 }
 
 /// Puts a row, keeps house for so many rounds, and gets the row.
-fn keeps_row(
+fn keeps_row<J: Naming>(
     rt: &impl Wait,
     alloc: Global,
-    table: &Shards<PlainTable>,
-    mut seat: Seat,
+    table: &Shards<PlainTable, J>,
+    mut seat: SharedSeat<J>,
     rounds: u64,
     roll_at: u64,
-) -> Option<(Counted, Seat)> {
+) -> Option<(Counted, SharedSeat<J>)> {
     if !puts(rt, alloc, table, &mut seat) {
         return None;
     }
@@ -204,11 +227,28 @@ fn keeps_row(
 }
 
 /// Does so, and settles.
-fn keeps(rt: &impl Wait, alloc: Global, keep: bool, rounds: u64, roll_at: u64) -> Option<Counted> {
-    let (table, seat) = open_one(alloc, keep)?;
+fn keeps_recorded<J: Naming, R: Wait>(
+    rt: &R,
+    alloc: Global,
+    keep: bool,
+    rounds: u64,
+    roll_at: u64,
+    opened: Opened,
+) -> Option<Counted>
+    requires { (opened.first.table_id ≡ J.record_id) × (opened.books ≡ J.books) }
+{
+    let (table, seat) = open_one::<J>(alloc, opened, keep)?;
     let (counted, seat) = keeps_row(rt, alloc, &table, seat, rounds, roll_at)?;
     let calls = settles(alloc, table, seat)?;
     Some(Counted { calls, ..counted })
+}
+
+/// The same of a new record.
+fn keeps<R: Wait>(rt: &R, alloc: Global, keep: bool, rounds: u64, roll_at: u64) -> Option<Counted> {
+    match open_record(alloc) {
+        Some(opened) => keeps_recorded::<Brand, R>(rt, alloc, keep, rounds, roll_at, opened),
+        None => None,
+    }
 }
 
 /// Three rounds, of which these records began again.

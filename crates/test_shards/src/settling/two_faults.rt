@@ -1,41 +1,87 @@
 //! Two faults of settling at once: that which comes first is told.
 
-ghost use Rattle.std.specs.Prelude.{◌≤◌};
+ghost use Rattle.std.specs.Prelude.{◌≡◌, ◌≤◌};
 
+use crate::locks::calls::held_of_last;
+use crate::locks::tables::Desk;
 use crate::settling::faults::{
-    called, left_out, settles_called, unsettled, unsettled_without, with_seat,
+    CalledTable, called, left_out, settles_called, two_called, unsettled, unsettled_without,
+    with_seat,
 };
-use shard_book::Seat;
-use shard_locks::Shards;
+use shard_locks::SharedSeat;
+use shard_record::{Naming, Opened};
 use shard_settling::Fault;
 use std::alloc::Global;
+use std::marker::Brand;
 use std::sync::Wait;
-use stick_table::{Event, PlainTable, Ticket};
-use test_calls::{Held, Opened, ask, place, spec};
+use stick_table::Event;
+use test_calls::{Held, OpenPlain, Purse, Records, ask, open_record, place, spec};
 
-/// A reference of a third shard.
-const STRANGE: Held = Held {
-    shard: 2,
-    ticket: Ticket { number: 1, slot: 0 },
-};
+/// A reference of the third shard of another table, which the purse has then.
+fn strange<J: Naming>(
+    rt: &impl Wait,
+    alloc: Global,
+    records: Records<J>,
+    purse: &mut Purse<J>,
+) -> Option<Held> {
+    let (_left, mut desk) = Desk::new(alloc, records, 3, false).ok()?;
+    let held = held_of_last(rt, &mut desk)?;
+    purse.put(desk.purse.take(held)?);
+    Some(held)
+}
 
 /// A table in two shards, of which two things are missed at once. Each shard's calls come before its references, the first
 /// shard before the second, and both before a third, which the table doesn't have. The seats come back in their order.
-fn misses_first(alloc: Global, opened: Opened, held: Held) -> Option<Opened> {
-    let both = [held, STRANGE];
-    let opened = unsettled_without(alloc, opened, 0, &[], Fault::MissingCalls(0))?;
-    let opened = unsettled_without(alloc, opened, 0, &[], Fault::MissingRefs(0))?;
-    let opened = unsettled_without(alloc, opened, 1, &both, Fault::MissingCalls(1))?;
-    unsettled(alloc, opened, &both, Fault::MissingRefs(2))
+fn misses_first<J: Naming>(
+    alloc: Global,
+    opened: OpenPlain<J>,
+    purse: &mut Purse<J>,
+    both: &[Held; 2],
+) -> Option<OpenPlain<J>> {
+    let opened = unsettled_without(alloc, opened, purse, 0, &[], Fault::MissingCalls(0))?;
+    let opened = unsettled_without(alloc, opened, purse, 0, &[], Fault::MissingRefs(0))?;
+    let opened = unsettled_without(alloc, opened, purse, 1, both, Fault::MissingCalls(1))?;
+    unsettled(alloc, opened, purse, both, Fault::MissingRefs(2))
 }
 
 /// Whether that is so of a table, and it is settled then.
-fn are_missed_in_turn(rt: &impl Wait, alloc: Global, keep: bool) -> bool {
-    let Some((opened, held)) = called(rt, alloc, keep, (1, 2)) else {
+fn in_turn<J: Naming>(
+    rt: &impl Wait,
+    alloc: Global,
+    called: CalledTable<J>,
+    records: Records<J>,
+) -> bool {
+    let CalledTable {
+        opened,
+        mut purse,
+        held,
+    } = called;
+    let Some(strange) = strange(rt, alloc, records, &mut purse) else {
         return false;
     };
-    match misses_first(alloc, opened, held) {
-        Some(opened) => settles_called(alloc, opened, held),
+    match misses_first(alloc, opened, &mut purse, &[held, strange]) {
+        Some(opened) => settles_called(alloc, opened, &mut purse, held),
+        None => false,
+    }
+}
+
+/// Whether that is so of a table of a record.
+fn turn_recorded<J: Naming, R: Wait>(rt: &R, alloc: Global, keep: bool, opened: Opened) -> bool
+    requires { (opened.first.table_id ≡ J.record_id) × (opened.books ≡ J.books) }
+{
+    let Ok(records) = Records::<J>::new(alloc, opened) else {
+        return false;
+    };
+    match called(rt, alloc, records, keep, (1, 2)) {
+        Some((left, called)) => in_turn(rt, alloc, called, left),
+        None => false,
+    }
+}
+
+/// The same of a new record.
+fn are_missed_in_turn<R: Wait>(rt: &R, alloc: Global, keep: bool) -> bool {
+    match open_record(alloc) {
+        Some(opened) => turn_recorded::<Brand, R>(rt, alloc, keep, opened),
         None => false,
     }
 }
@@ -47,24 +93,63 @@ fn calls_come_before_references(rt: HostRuntime) {
 }
 
 /// A table whose first shard's receipts differ, and of which something is missed as well, which comes before them.
-fn misses_before_records(alloc: Global, opened: Opened, held: Held) -> Option<Opened> {
-    let opened = unsettled_without(alloc, opened, 1, &[held], Fault::MissingCalls(1))?;
-    let opened = unsettled(alloc, opened, &[], Fault::MissingRefs(0))?;
-    let opened = unsettled(alloc, opened, &[held, STRANGE], Fault::MissingRefs(2))?;
-    unsettled(alloc, opened, &[held], Fault::Mismatch(0))
+fn misses_before_records<J: Naming>(
+    alloc: Global,
+    opened: OpenPlain<J>,
+    purse: &mut Purse<J>,
+    both: &[Held; 2],
+) -> Option<OpenPlain<J>> {
+    let [held, _strange] = *both;
+    let opened = unsettled_without(alloc, opened, purse, 1, &[held], Fault::MissingCalls(1))?;
+    let opened = unsettled(alloc, opened, purse, &[], Fault::MissingRefs(0))?;
+    let opened = unsettled(alloc, opened, purse, both, Fault::MissingRefs(2))?;
+    unsettled(alloc, opened, purse, &[held], Fault::Mismatch(0))
 }
 
 /// Whether that is so of a table that is shown with the seats of another, which was called at other moments.
-fn are_missed_before_records(rt: &impl Wait, alloc: Global) -> bool {
-    let Some((opened, held)) = called(rt, alloc, true, (1, 2)) else {
+fn before_records<J: Naming>(
+    rt: &impl Wait,
+    alloc: Global,
+    called: CalledTable<J>,
+    other: CalledTable<J>,
+    records: Records<J>,
+) -> bool {
+    let CalledTable {
+        opened: (table, _seats),
+        mut purse,
+        held,
+    } = called;
+    let (_other_table, seats) = other.opened;
+    match strange(rt, alloc, records, &mut purse) {
+        Some(strange) => misses_before_records(
+            alloc,
+            (table, seats),
+            &mut purse,
+            &[held, strange],
+        ).is_some(),
+        None => false,
+    }
+}
+
+/// Whether that is so of two tables of a record.
+fn before_recorded<J: Naming, R: Wait>(rt: &R, alloc: Global, opened: Opened) -> bool
+    requires { (opened.first.table_id ≡ J.record_id) × (opened.books ≡ J.books) }
+{
+    let Ok(records) = Records::<J>::new(alloc, opened) else {
         return false;
     };
-    let Some((other, _)) = called(rt, alloc, true, (3, 4)) else {
-        return false;
-    };
-    let (table, _seats) = opened;
-    let (_other_table, strange) = other;
-    misses_before_records(alloc, (table, strange), held).is_some()
+    match two_called(rt, alloc, records, true, [(1, 2), (3, 4)]) {
+        Some((left, called, other)) => before_records(rt, alloc, called, other, left),
+        None => false,
+    }
+}
+
+/// The same of a new record.
+fn are_missed_before_records<R: Wait>(rt: &R, alloc: Global) -> bool {
+    match open_record(alloc) {
+        Some(opened) => before_recorded::<Brand, R>(rt, alloc, opened),
+        None => false,
+    }
 }
 
 #[test]
@@ -72,24 +157,37 @@ fn counts_come_before_records(rt: HostRuntime) {
     assert!(rt; are_missed_before_records(&rt, rt.alloc()));
 }
 
-/// A seat that has called the last of three shards alone, of another table.
-fn stranger(rt: &impl Wait, alloc: Global) -> Option<Seat> {
+/// A seat that has called the last of three shards alone, of another table; and what is left of the record.
+fn stranger<J: Naming>(
+    rt: &impl Wait,
+    alloc: Global,
+    records: Records<J>,
+) -> Option<(Records<J>, SharedSeat<J>)> {
     let spec = spec(alloc, 12, 5, 100).ok()?;
-    let (table, mut seats): (Shards<PlainTable>, Vec<Seat>) = Shards::new(
-        alloc, spec, 3, 3, false,
-    ).ok()?;
+    let (left, (table, mut seats)): (Records<J>, OpenPlain<J>) = records
+        .open(alloc, spec, 3, 3, false)
+        .ok()?;
     let mut seat = seats.pop()?;
-    match ask(rt, &table, &mut seat, place(&table, 2), Event::Expire(0)) {
-        Ok(_) => Some(seat),
+    let mut purse = Purse::new(alloc);
+    let third = place(&table, 2);
+    match ask(rt, &table, &mut seat, &mut purse, third, Event::Expire(0)) {
+        Ok(_) => Some((left, seat)),
         Err(_) => None,
     }
 }
 
 /// A table that misses the calls of such a seat, a reference of the third shard or not.
-fn misses_strange_calls(alloc: Global, opened: Opened, held: Held, seat: Seat) -> Option<Opened> {
+fn misses_strange_calls<J: Naming>(
+    alloc: Global,
+    opened: OpenPlain<J>,
+    purse: &mut Purse<J>,
+    both: &[Held; 2],
+    seat: SharedSeat<J>,
+) -> Option<OpenPlain<J>> {
+    let [held, _strange] = *both;
     let opened = with_seat(opened, seat)?;
-    let opened = unsettled(alloc, opened, &[held, STRANGE], Fault::MissingCalls(2))?;
-    let opened = unsettled(alloc, opened, &[held], Fault::MissingCalls(2))?;
+    let opened = unsettled(alloc, opened, purse, both, Fault::MissingCalls(2))?;
+    let opened = unsettled(alloc, opened, purse, &[held], Fault::MissingCalls(2))?;
     match left_out(opened, 2) {
         Some((opened, _)) => Some(opened),
         None => None,
@@ -97,13 +195,55 @@ fn misses_strange_calls(alloc: Global, opened: Opened, held: Held, seat: Seat) -
 }
 
 /// Whether a table is unsettled with such a seat, and is settled without it.
-fn are_strange_calls_missed(rt: &impl Wait, alloc: Global) -> bool {
-    let (Some((opened, held)), Some(seat)) = (called(rt, alloc, false, (1, 2)), stranger(rt, alloc))
-    else {
+fn strange_calls<J: Naming>(
+    rt: &impl Wait,
+    alloc: Global,
+    called: CalledTable<J>,
+    seat: SharedSeat<J>,
+    records: Records<J>,
+) -> bool {
+    let CalledTable {
+        opened,
+        mut purse,
+        held,
+    } = called;
+    let Some(strange) = strange(rt, alloc, records, &mut purse) else {
         return false;
     };
-    match misses_strange_calls(alloc, opened, held, seat) {
-        Some(opened) => settles_called(alloc, opened, held),
+    match misses_strange_calls(alloc, opened, &mut purse, &[held, strange], seat) {
+        Some(opened) => settles_called(alloc, opened, &mut purse, held),
+        None => false,
+    }
+}
+
+/// A table that was called, a seat that has called the third shard of another, and what is left of the record.
+fn with_stranger<J: Naming>(
+    rt: &impl Wait,
+    alloc: Global,
+    records: Records<J>,
+) -> Option<(CalledTable<J>, SharedSeat<J>, Records<J>)> {
+    let (left, called) = called(rt, alloc, records, false, (1, 2))?;
+    let (left, seat) = stranger(rt, alloc, left)?;
+    Some((called, seat, left))
+}
+
+/// Whether that is so of a table of a record.
+fn strange_recorded<J: Naming, R: Wait>(rt: &R, alloc: Global, opened: Opened) -> bool
+    requires { (opened.first.table_id ≡ J.record_id) × (opened.books ≡ J.books) }
+{
+    let Ok(records) = Records::<J>::new(alloc, opened) else {
+        return false;
+    };
+    match with_stranger(rt, alloc, records) {
+        Some((called, seat, left)) => strange_calls(rt, alloc, called, seat, left),
+        None => false,
+    }
+}
+
+/// The same of a new record.
+fn are_strange_calls_missed<R: Wait>(rt: &R, alloc: Global) -> bool {
+    match open_record(alloc) {
+        Some(opened) => strange_recorded::<Brand, R>(rt, alloc, opened),
         None => false,
     }
 }

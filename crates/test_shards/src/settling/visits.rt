@@ -2,12 +2,12 @@
 //! session is counted where it is accepted, bytes once it is closed, and `conn_cur` the connections that hold the entry
 //! now. A Track and a Release refresh the entry, so that what it has left tells at which moment they were made.
 
-ghost use Rattle.std.specs.Prelude.{◌≡◌, true, length};
+ghost use Rattle.std.specs.Prelude.{◌≡◌, true, length, IfSome};
 ghost use Rattle.admit_core.specs.Conn.{needed};
 ghost use Rattle.admit_core.specs.declared.need.Need.TheVariants.{Rest};
 ghost use Rattle.test_shards.specs.Visits.{IsVisitor};
 
-use crate::settling::addresses::{HOST, Wanted, calls, open, shows};
+use crate::settling::addresses::{HOST, Place, Wanted, calls, is_asked, open, open_more, shows};
 use crate::settling::counting_clock::CountingClock;
 use crate::settling::setups::{accepting, limiting};
 use admit_core::{Conn, Phase};
@@ -15,15 +15,17 @@ use admit_port::{Rested, finish, judge};
 use rule_addresses::Address;
 use rule_eval::Samples;
 use rule_model::{Setup, Slot};
-use shard_book::{Seat, TrackRef};
-use shard_locks::{Seated, Shards};
+use shard_locks::{Seated, Shards, SharedRef, SharedSeat};
+use shard_record::{Naming, Opened};
 use std::alloc::Global;
+use std::marker::Brand;
 use std::slice;
 use std::sync::Wait;
 use stick_table::PlainTable;
+use test_calls::{Records, open_record};
 
 /// A connection from the address comes.
-fn come(setup: &Setup) -> Conn<'_, TrackRef>
+fn come<J: Naming>(setup: &Setup) -> Conn<'_, SharedRef<J>>
     requires setup { (length setup.now.tables ≡ 1) × (setup.now.shards ≡ 2) }
     ensures visitor { IsVisitor result }
 {
@@ -36,12 +38,12 @@ fn come(setup: &Setup) -> Conn<'_, TrackRef>
 }
 
 /// Has a connection go on by a table until it was judged; answers whether it is admitted, and the table's seat.
-fn judged_by<R: Wait>(
+fn judged_by<J: Naming, R: Wait>(
     alloc: Global,
-    mut port: Seated<'_, PlainTable, R>,
-    conn: &mut Conn<'_, TrackRef>,
+    mut port: Seated<'_, PlainTable, J, R>,
+    conn: &mut Conn<'_, SharedRef<J>>,
     clock: &mut CountingClock,
-) -> (bool, Seat)
+) -> (bool, SharedSeat<J>)
     requires port { port.table.shards ≡ 2 }
     requires visitor { IsVisitor conn.old }
     ensures visitor { IsVisitor conn.new }
@@ -52,12 +54,12 @@ fn judged_by<R: Wait>(
 }
 
 /// Has a connection go on by a table to where it rests or ends; answers how it came to that, and the table's seat.
-fn goes_on_by<R: Wait>(
+fn goes_on_by<J: Naming, R: Wait>(
     alloc: Global,
-    mut port: Seated<'_, PlainTable, R>,
-    conn: &mut Conn<'_, TrackRef>,
+    mut port: Seated<'_, PlainTable, J, R>,
+    conn: &mut Conn<'_, SharedRef<J>>,
     clock: &mut CountingClock,
-) -> (Rested, Seat)
+) -> (Rested, SharedSeat<J>)
     requires port { port.table.shards ≡ 2 }
     requires visitor { IsVisitor conn.old }
     ensures visitor { IsVisitor conn.new }
@@ -67,7 +69,7 @@ fn goes_on_by<R: Wait>(
 }
 
 /// An admitted connection is closed, after 5 bytes came in and 7 went out.
-fn close(conn: &mut Conn<'_, TrackRef>)
+fn close<J: Naming>(conn: &mut Conn<'_, SharedRef<J>>)
     requires visitor { IsVisitor conn.old }
     requires rests { needed conn.old ≡ Rest }
     ensures visitor { IsVisitor conn.new }
@@ -76,12 +78,12 @@ fn close(conn: &mut Conn<'_, TrackRef>)
 }
 
 /// Whether a connection has come to a phase, and holds a reference.
-fn holds_in(conn: &Conn<'_, TrackRef>, phase: Phase) -> bool {
+fn holds_in<J: Naming>(conn: &Conn<'_, SharedRef<J>>, phase: Phase) -> bool {
     conn.phase() == phase && conn.held(Slot::Sc0).is_some()
 }
 
 /// Whether there was a reference, which is given up.
-fn is_given_up(held: Option<(u32, TrackRef)>) -> bool {
+fn is_given_up<J: Naming>(held: Option<(u32, SharedRef<J>)>) -> bool {
     match held {
         None => false,
         Some((_table, reference)) => {
@@ -92,27 +94,27 @@ fn is_given_up(held: Option<(u32, TrackRef)>) -> bool {
 }
 
 /// Whether a connection still held a reference, which is given up.
-fn gives_up(conn: Conn<'_, TrackRef>) -> bool {
+fn gives_up<J: Naming>(conn: Conn<'_, SharedRef<J>>) -> bool {
     let (sc0, sc1, sc2) = conn.end();
     let (first, second, third) = (is_given_up(sc0), is_given_up(sc1), is_given_up(sc2));
     first || second || third
 }
 
 /// Whether a connection has come to its end, and held nothing.
-fn leaves_nothing(conn: Conn<'_, TrackRef>) -> bool {
+fn leaves_nothing<J: Naming>(conn: Conn<'_, SharedRef<J>>) -> bool {
     let phase = conn.phase();
     !gives_up(conn) && phase == Phase::Ended
 }
 
 /// Whether a connection is admitted and tracked, and goes to its end once it was closed; and the table's seat.
-fn goes_through<R: Wait>(
+fn goes_through<J: Naming, R: Wait>(
     alloc: Global,
     rt: &R,
-    table: &Shards<PlainTable>,
-    seat: Seat,
-    conn: &mut Conn<'_, TrackRef>,
+    table: &Shards<PlainTable, J>,
+    seat: SharedSeat<J>,
+    conn: &mut Conn<'_, SharedRef<J>>,
     clock: &mut CountingClock,
-) -> (bool, Seat)
+) -> (bool, SharedSeat<J>)
     requires table { table.now.shards ≡ 2 }
     requires visitor { IsVisitor conn.old }
 {
@@ -128,13 +130,13 @@ fn goes_through<R: Wait>(
 
 /// Whether a connection that comes is served, and leaves nothing behind but what was counted: five calls of its seat,
 /// and seven moves, of which two are changes of phase. Its release is the sixth, at 105 ms.
-fn serves(
+fn serves<J: Naming>(
     alloc: Global,
     rt: &impl Wait,
     setup: &Setup,
-    table: &Shards<PlainTable>,
-    seat: Seat,
-    viewer: &mut Seat,
+    table: &Shards<PlainTable, J>,
+    seat: SharedSeat<J>,
+    viewer: &mut SharedSeat<J>,
 ) -> bool
     requires setup { (length setup.now.tables ≡ 1) × (setup.now.shards ≡ 2) }
     requires table { table.now.shards ≡ 2 }
@@ -155,11 +157,26 @@ fn serves(
 }
 
 /// Whether a connection of a proxy that accepts every one is served.
-fn is_served(rt: &impl Wait, alloc: Global) -> bool {
-    let (Ok(setup), Ok((table, seat, mut viewer))) = (accepting(alloc), open(alloc)) else {
+fn served_recorded<J: Naming, R: Wait>(rt: &R, alloc: Global, opened: Opened) -> bool
+    requires { (opened.first.table_id ≡ J.record_id) × (opened.books ≡ J.books) }
+{
+    let (Ok(setup), Ok(made)) = (accepting(alloc), open::<J>(alloc, opened)) else {
         return false;
     };
+    let Place {
+        table,
+        seat,
+        mut viewer,
+    } = made;
     serves(alloc, rt, &setup, &table, seat, &mut viewer)
+}
+
+/// The same of a new record.
+fn is_served<R: Wait>(rt: &R, alloc: Global) -> bool {
+    match open_record(alloc) {
+        Some(opened) => served_recorded::<Brand, R>(rt, alloc, opened),
+        None => false,
+    }
 }
 
 #[test]
@@ -168,11 +185,11 @@ fn an_accepted_connection_leaves_what_was_counted(rt: HostRuntime) {
 }
 
 /// Whether the table shows the address with one session, so many references and so many ms left.
-fn shows_one(
+fn shows_one<J: Naming>(
     alloc: Global,
     rt: &impl Wait,
-    table: &Shards<PlainTable>,
-    viewer: &mut Seat,
+    table: &Shards<PlainTable, J>,
+    viewer: &mut SharedSeat<J>,
     current: u32,
     left: u64,
 ) -> bool {
@@ -187,12 +204,12 @@ fn shows_one(
 }
 
 /// Whether a connection is rejected, and holds a reference; and the table's seat.
-fn rejected_by<R: Wait>(
+fn rejected_by<J: Naming, R: Wait>(
     alloc: Global,
-    port: Seated<'_, PlainTable, R>,
-    conn: &mut Conn<'_, TrackRef>,
+    port: Seated<'_, PlainTable, J, R>,
+    conn: &mut Conn<'_, SharedRef<J>>,
     clock: &mut CountingClock,
-) -> (bool, Seat)
+) -> (bool, SharedSeat<J>)
     requires port { port.table.shards ≡ 2 }
     requires visitor { IsVisitor conn.old }
     ensures visitor { IsVisitor conn.new }
@@ -203,13 +220,13 @@ fn rejected_by<R: Wait>(
 
 /// Whether a connection beside another is tracked, at 104 ms, by the fifth move, and rejected; and is gone once it goes
 /// on, behind a look at the table at 500 ms.
-fn goes_away<R: Wait>(
+fn goes_away<J: Naming, R: Wait>(
     alloc: Global,
     rt: &R,
-    table: &Shards<PlainTable>,
-    seat: Seat,
-    viewer: &mut Seat,
-    conn: &mut Conn<'_, TrackRef>,
+    table: &Shards<PlainTable, J>,
+    seat: SharedSeat<J>,
+    viewer: &mut SharedSeat<J>,
+    conn: &mut Conn<'_, SharedRef<J>>,
     clock: &mut CountingClock,
 ) -> bool
     requires table { table.now.shards ≡ 2 }
@@ -223,13 +240,13 @@ fn goes_away<R: Wait>(
 }
 
 /// Whether a connection that comes beside another goes away with nothing.
-fn is_sent_away(
+fn is_sent_away<J: Naming>(
     alloc: Global,
     rt: &impl Wait,
     setup: &Setup,
-    table: &Shards<PlainTable>,
-    seat: Seat,
-    viewer: &mut Seat,
+    table: &Shards<PlainTable, J>,
+    seat: SharedSeat<J>,
+    viewer: &mut SharedSeat<J>,
     clock: &mut CountingClock,
 ) -> bool
     requires setup { (length setup.now.tables ≡ 1) × (setup.now.shards ≡ 2) }
@@ -241,13 +258,13 @@ fn is_sent_away(
 }
 
 /// Whether of two connections, where one is the limit, the first is admitted, and the second rejected and gone.
-fn limits<R: Wait>(
+fn limits<J: Naming, R: Wait>(
     alloc: Global,
     rt: &R,
     setup: &Setup,
-    table: &Shards<PlainTable>,
-    seat: Seat,
-    viewer: &mut Seat,
+    table: &Shards<PlainTable, J>,
+    seat: SharedSeat<J>,
+    viewer: &mut SharedSeat<J>,
 ) -> bool
     requires setup { (length setup.now.tables ≡ 1) × (setup.now.shards ≡ 2) }
     requires table { table.now.shards ≡ 2 }
@@ -261,11 +278,26 @@ fn limits<R: Wait>(
 }
 
 /// Whether that is so of a proxy with a limit of one.
-fn is_limited(rt: &impl Wait, alloc: Global) -> bool {
-    let (Ok(setup), Ok((table, seat, mut viewer))) = (limiting(alloc, 1), open(alloc)) else {
+fn limited_recorded<J: Naming, R: Wait>(rt: &R, alloc: Global, opened: Opened) -> bool
+    requires { (opened.first.table_id ≡ J.record_id) × (opened.books ≡ J.books) }
+{
+    let (Ok(setup), Ok(made)) = (limiting(alloc, 1), open::<J>(alloc, opened)) else {
         return false;
     };
+    let Place {
+        table,
+        seat,
+        mut viewer,
+    } = made;
     limits(alloc, rt, &setup, &table, seat, &mut viewer)
+}
+
+/// The same of a new record.
+fn is_limited<R: Wait>(rt: &R, alloc: Global) -> bool {
+    match open_record(alloc) {
+        Some(opened) => limited_recorded::<Brand, R>(rt, alloc, opened),
+        None => false,
+    }
 }
 
 #[test]
@@ -273,63 +305,96 @@ fn a_second_connection_of_an_address_is_rejected(rt: HostRuntime) {
     assert!(rt; is_limited(&rt, rt.alloc()));
 }
 
-/// Whether a connection that is rejected still holds its reference where another table, of which its seat has seen too
-/// much, refuses the release; and gives it back to its own.
-fn keeps_it<R: Wait>(
+/// Has another table count five events, and a seat of this one see that.
+fn sees_more<J: Naming>(
+    rt: &impl Wait,
+    alloc: Global,
+    other: &mut Place<J>,
+    seat: &mut SharedSeat<J>,
+) -> bool {
+    is_asked(rt, alloc, &other.table, &mut other.viewer, 5)
+        && is_asked(rt, alloc, &other.table, seat, 1)
+}
+
+/// Whether a connection that is rejected still holds its reference where its seat has since seen more of another table, so that
+/// the release is refused; and gives it back by another seat.
+fn keeps_it<J: Naming, R: Wait>(
     alloc: Global,
     rt: &R,
-    own: &Shards<PlainTable>,
-    other: &Shards<PlainTable>,
-    seat: Seat,
-    conn: &mut Conn<'_, TrackRef>,
+    own: Place<J>,
+    other: &mut Place<J>,
+    conn: &mut Conn<'_, SharedRef<J>>,
 ) -> bool
-    requires own { own.now.shards ≡ 2 }
-    requires other { other.now.shards ≡ 2 }
+    requires own { own.table.shards ≡ 2 }
     requires visitor { IsVisitor conn.old }
 {
+    let Place {
+        table,
+        seat,
+        viewer,
+    } = own;
     let mut clock = CountingClock::new();
-    let (is_admitted, seat) = judged_by(alloc, Seated::new(own, rt, seat), conn, &mut clock);
+    let (is_admitted, mut seat) = judged_by(alloc, Seated::new(&table, rt, seat), conn, &mut clock);
     let before = calls(&seat);
-    let (kept, seat) = goes_on_by(alloc, Seated::new(other, rt, seat), conn, &mut clock);
+    let has_seen = sees_more(rt, alloc, other, &mut seat);
+    let (kept, seat) = goes_on_by(alloc, Seated::new(&table, rt, seat), conn, &mut clock);
     let is_held = holds_in(conn, Phase::Rejected);
-    let between = calls(&seat);
-    let (rested, seat) = goes_on_by(alloc, Seated::new(own, rt, seat), conn, &mut clock);
-    let counts = [before, between, calls(&seat)];
+    let (rested, viewer) = goes_on_by(alloc, Seated::new(&table, rt, viewer), conn, &mut clock);
+    let counts = [before, calls(&seat), calls(&viewer)];
     !is_admitted
+        && has_seen
         && is_held
         && kept == Rested::Kept
         && rested == Rested::Still
-        && counts == [2, 2, 3]
+        && counts == [2, 3, 1]
 }
 
 /// Whether that is so of a connection that comes, which has nothing left then.
-fn keeps_until_released(
+fn keeps_until_released<J: Naming>(
     alloc: Global,
     rt: &impl Wait,
     setup: &Setup,
-    own: &Shards<PlainTable>,
-    other: &Shards<PlainTable>,
-    seat: Seat,
+    own: Place<J>,
+    mut other: Place<J>,
 ) -> bool
     requires setup { (length setup.now.tables ≡ 1) × (setup.now.shards ≡ 2) }
-    requires own { own.now.shards ≡ 2 }
-    requires other { other.now.shards ≡ 2 }
+    requires own { own.table.shards ≡ 2 }
 {
     let mut conn = come(setup);
-    let is_kept = keeps_it(alloc, rt, own, other, seat, &mut conn);
+    let is_kept = keeps_it(alloc, rt, own, &mut other, &mut conn);
     leaves_nothing(conn) && is_kept
 }
 
-/// Whether that is so of a proxy that rejects every connection.
-fn is_kept(rt: &impl Wait, alloc: Global) -> bool {
-    let (Ok(setup), Ok((table, seat, _)), Ok((stranger, _, _))) = (
-        limiting(alloc, 0),
-        open(alloc),
-        open(alloc),
-    ) else {
+/// Two tables of a record.
+fn two_places<J: Naming>(alloc: Global, opened: Opened) -> Option<(Place<J>, Place<J>)>
+    requires { (opened.first.table_id ≡ J.record_id) × (opened.books ≡ J.books) }
+    ensures { IfSome result (λ made. made.0.table.shards ≡ 2) }
+{
+    let records = Records::<J>::new(alloc, opened).ok()?;
+    let (left, own) = open_more(alloc, records).ok()?;
+    let (_left, other) = open_more(alloc, left).ok()?;
+    Some((own, other))
+}
+
+/// Whether that is so of two tables of a record, and of a proxy that rejects every connection.
+fn kept_recorded<J: Naming, R: Wait>(rt: &R, alloc: Global, opened: Opened) -> bool
+    requires { (opened.first.table_id ≡ J.record_id) × (opened.books ≡ J.books) }
+{
+    let Ok(setup) = limiting(alloc, 0) else {
         return false;
     };
-    keeps_until_released(alloc, rt, &setup, &table, &stranger, seat)
+    match two_places::<J>(alloc, opened) {
+        Some((own, other)) => keeps_until_released(alloc, rt, &setup, own, other),
+        None => false,
+    }
+}
+
+/// The same of a new record.
+fn is_kept<R: Wait>(rt: &R, alloc: Global) -> bool {
+    match open_record(alloc) {
+        Some(opened) => kept_recorded::<Brand, R>(rt, alloc, opened),
+        None => false,
+    }
 }
 
 #[test]

@@ -1,8 +1,10 @@
 use Rattle.std.proofs.Common.{◌≡◌, ◌+◌, ◌≤◌, length, vec_len, vec_capacity}
+use Rattle.shard_locks.specs.Shared.{AreKept}
 use Rattle.shard_locks.proofs.unlocked.lock_all.Given as goal
 
 abbrev pub invariant-loop-book : goal.invariant-loop-book
 invariant-loop-book g l = record {
+  kept : AreKept l.books.items l.keepers.items;
   room : vec_len l.books + vec_len l.room ≤ vec_capacity l.room;
   same : length l.books.items + length l.room.items ≡ length l.fn.books.items;
 }

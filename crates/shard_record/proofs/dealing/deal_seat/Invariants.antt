@@ -7,7 +7,7 @@ use Rattle.shard_record.proofs.dealing.deal_seat.Given as goal
 -- the books so far are gone through
 abbrev pub invariant-loop-book : goal.invariant-loop-book
 invariant-loop-book g l = record {
-  first : (book : ℕ) → FirstAt l.number l.seats l.books l.book book (at book l.first);
+  first : (book : ℕ) → FirstAt l.kept l.number l.seats l.books l.book book (at book l.first);
   seat : (book : ℕ) → SeatAt l.number l.books l.book book (at book l.seat);
   settled : IsSettled l.seat;
 }

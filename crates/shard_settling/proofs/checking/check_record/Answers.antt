@@ -5,6 +5,7 @@ use Rattle.stick_model.proofs.RunLemmas.{run_determined, stored_run_length}
 use Rattle.shard_book.specs.declared.recorded.Recorded.{Recorded}
 use Rattle.shard_book.specs.BookState.{BookState, stored_of}
 use Rattle.shard_book.proofs.BookLemmas.{length-stored_of}
+use Rattle.shard_locks.specs.Shared.{seats_of}
 use Rattle.shard_settling.specs.Settled.{AreTold}
 use Rattle.shard_settling.proofs.checking.check_record.Goals as goal
 
@@ -20,7 +21,7 @@ returns-then-not-are_told-clause-err g c = (
       let b : BookState = c.args.book.now in
       let seen = recorded.witnessed c.if-not-keep.false in
       let same = run_determined b.base (stored_of b.calls) seen.replies c.in-Ok.replies.items b.live b.live seen.run c.in-Ok.ensures in
-      let Told : List Recorded × List Reply → Type 0 = λ p. AreTold c.args.shard c.args.seats.now p.0 p.1 in
+      let Told : List Recorded × List Reply → Type 0 = λ p. AreTold c.args.shard (seats_of c.args.seats.now) p.0 p.1 in
       let told = subst Told (λ i. (sym c.calls.ensures.calls i, (same.0 ∙ sym c.as_slice.ensures.value) i)) seen.told in
       false≢true (sym c.if-not-are_told.true ∙ c.are_told.ensures.1 told),
 )

@@ -2,6 +2,7 @@ use Rattle.std.proofs.Common.{◌≡◌, ◌<◌, ℕ, List, Some, length, arith
 use Rattle.std.specs.Prelude.{slice_get}
 use Rattle.stick_model.specs.declared.specification.Spec.{Spec}
 use Rattle.shard_book.specs.BookState.{BookState}
+use Rattle.shard_locks.specs.Shared.{seats_of}
 use Rattle.shard_settling.specs.Settled.{IsRecorded}
 use Rattle.shard_settling.specs.Faults.{IsRecordFault}
 use Rattle.shard_settling.proofs.FaultLemmas.{record_fault}
@@ -17,8 +18,8 @@ returns-in_err-check_record-clause-err g c =
     let part : Spec = c.index-specs-shard.result in
     let at : slice_get books i ≡ Some book = get_at books i book c.loop-shard-test.true c.index-books-shard.is in
     let made : slice_get specs i ≡ Some part = get_at specs i part (omega (arith, c.requires.shards, c.loop-shard-test.true)) c.index-specs-shard.is in
-    let told : IsRecordFault specs c.args.keep c.args.seats.now books c.in_err-check_record.field-0.0 =
-    record_fault specs c.args.keep c.args.seats.now books i part book c.in_err-check_record.field-0.0 made at c.loop-shard.invariant c.in_err-check_record.ensures.err in
+    let told : IsRecordFault specs c.args.keep (seats_of c.args.seats.now) books c.in_err-check_record.field-0.0 =
+    record_fault specs c.args.keep (seats_of c.args.seats.now) books i part book c.in_err-check_record.field-0.0 made at c.loop-shard.invariant c.in_err-check_record.ensures.err in
     search rules
 
 pub loop-shard-preserved : goal.loop-shard-preserved
@@ -28,7 +29,7 @@ loop-shard-preserved g c =
     let i : ℕ = c.loop-shard.shard in
     let book : BookState = c.index-books-shard.result in
     let part : Spec = c.index-specs-shard.result in
-    both_below_next (λ (k : ℕ) (b : BookState) (made : Spec). IsRecorded made c.args.keep c.args.seats.now k b) books specs i book part
+    both_below_next (λ (k : ℕ) (b : BookState) (made : Spec). IsRecorded made c.args.keep (seats_of c.args.seats.now) k b) books specs i book part
     (get_at books i book c.loop-shard-test.true c.index-books-shard.is) (get_at specs i part (omega (arith, c.requires.shards, c.loop-shard-test.true)) c.index-specs-shard.is)
     c.loop-shard.invariant c.in_ok-check_record.ensures.ok
 

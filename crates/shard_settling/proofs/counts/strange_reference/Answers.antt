@@ -7,7 +7,7 @@ use Rattle.shard_settling.proofs.ListLemmas.{get_at}
 use Rattle.shard_settling.proofs.counts.strange_reference.Goals as goal
 
 pub returns-then-other-shards-clause-some : goal.returns-then-other-shards-clause-some
-returns-then-other-shards-clause-some c =
+returns-then-other-shards-clause-some g c =
     let refs : List RefState = c.args.refs.now in
     let reference : RefState = c.reference-item.result in
     let at : slice_get refs c.loop-reference.reference-index ≡ Some reference = get_at refs c.loop-reference.reference-index reference c.loop-reference-test.true c.reference-item.is in

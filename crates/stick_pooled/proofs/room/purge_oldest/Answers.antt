@@ -9,7 +9,7 @@ loop-round-init c = none-gone c.args.store.now c.requires.stock c.requires.risin
 
 pub loop-round-preserved : goal.loop-round-preserved
 loop-round-preserved c =
-    subst (AreGone (c.loop-round._round + 1) c.args.store.now) (sym c.remove.ensures)
+    subst (AreGone (c.loop-round._round + 1) c.args.store.now) (sym (c.note_purged.ensures ∙ c.remove.ensures))
     (one-gone c.loop-round._round c.args.store.now c.loop-round.store c.loop-round.invariant c.in-Some.front (sym c.in-Some.ensures.first))
 
 pub returns-in_default : goal.returns-in_default

@@ -1,7 +1,7 @@
 use Rattle.std.proofs.Common.{◌≡◌, ◌++◌, length, take, drop, ap, arith}
 use Rattle.std.proofs.lemmas.Grind.{common_steps}
 use Rattle.admit_drive.specs.Tables.{table_states}
-use Rattle.table_loading.specs.Seen.{seen_fault}
+use Rattle.table_cli.specs.SeenLines.{seen_fault}
 use Rattle.stickd_script.proofs.LoadedLemmas.{loaded_so, unloaded_so}
 use Rattle.stickd_script.proofs.loaded.load_tables.Goals as goal
 

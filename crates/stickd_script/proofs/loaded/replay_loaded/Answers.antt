@@ -1,7 +1,7 @@
 use Rattle.std.proofs.Common.{◌≡◌, ℕ, append-nil, ap, inr, refl, subst, sym, ◌∙◌}
 use Rattle.base_lines.specs.Service.{StopsAfter}
 use Rattle.admit_drive.specs.Tables.{table_states}
-use Rattle.table_loading.specs.Seen.{seen_fault}
+use Rattle.table_cli.specs.SeenLines.{seen_fault}
 use Rattle.stickd_script.specs.BadLines.{bad_among, noted}
 use Rattle.stickd_script.specs.Loaded.{with_tables}
 use Rattle.stickd_script.specs.Script.{Says, Stops}

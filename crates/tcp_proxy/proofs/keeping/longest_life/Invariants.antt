@@ -1,7 +1,7 @@
 use Rattle.std.proofs.Common.{◌≡◌, drop, fold, max, map, ℕ}
 use Rattle.rule_model.specs.declared.sections.NamedSpec.{NamedSpec}
 use Rattle.stick_model.specs.declared.specification.Spec.{Spec}
-use Rattle.table_loading.specs.Lives.{life_of, longest_life}
+use Rattle.table_cli.specs.Lives.{life_of, longest_life}
 use Rattle.tcp_proxy.proofs.keeping.longest_life.Given as goal
 
 -- those so far, and those that are left

@@ -1,8 +1,8 @@
-use Rattle.std.proofs.Common.{◌≡◌, ◌≤◌, ◌∙◌, subst, List, length, take, arith}
+use Rattle.std.proofs.Common.{◌≡◌, ◌≤◌, ◌∙◌, ap, subst, ◌+◌, List, length, take, arith}
 use Rattle.std.proofs.lemmas.List.{take_all}
 use Rattle.rule_model.specs.declared.sections.NamedSpec.{NamedSpec}
 use Rattle.tcp_proxy.specs.Opened.{AreDeclared}
-use Rattle.tcp_proxy.proofs.OpenLemmas.{declared_more, declared_served, one_more, seats_more}
+use Rattle.tcp_proxy.proofs.OpenLemmas.{dealt_more, declared_more, declared_served, left_for_one, one_more, seats_more}
 use Rattle.tcp_proxy.proofs.opening.open_tables.Goals as goal
 
 pub loop-named-preserved : goal.loop-named-preserved
@@ -15,7 +15,13 @@ loop-named-preserved g c =
       one_more c.loop-named.opened.commands.items c.add.new.self.commands.items c.in_ok-one.one.commands c.loop-named.named-index were.3 c.in_ok-add.ensures.commands,
       seats_more c.loop-named.opened.commands.items c.add.new.self.commands.items c.in_ok-one.one.commands c.args.clients were.4 c.in_ok-one.ensures.commands c.in_ok-add.ensures.commands,
       one_more c.loop-named.opened.keepers.items c.add.new.self.keepers.items c.in_ok-one.one.keeper c.loop-named.named-index were.5 c.in_ok-add.ensures.keepers,
+      dealt_more c.args.dealer.now c.loop-named.dealer c.open_table.new.dealer c.args.setup.now.shards (c.args.workers + c.args.clients + 1) c.loop-named.named-index were.6 c.in_ok-one.ensures.dealt,
     )
+
+pub open_table-requires-clause-left : goal.open_table-requires-clause-left
+open_table-requires-clause-left g c =
+    left_for_one c.args.dealer.now c.loop-named.dealer c.args.setup.now.shards (c.args.workers + c.args.clients + 1) c.loop-named.named-index (length c.args.setup.now.tables)
+    (omega (arith, c.loop-named-test.true, ap length c.as_slice-named-items.ensures)) c.requires.left c.loop-named.invariant.6
 
 pub returns-clause-served : goal.returns-clause-served
 returns-clause-served g c =

@@ -1,4 +1,4 @@
-use Rattle.std.proofs.Common.{◌≡◌, All, length, take, vec_len}
+use Rattle.std.proofs.Common.{◌≡◌, ◌+◌, ◌*◌, All, length, take, vec_len}
 use Rattle.tcp_proxy.specs.Opened.{AreDeclared}
 use Rattle.tcp_proxy.proofs.opening.open_tables.Given as goal
 
@@ -10,3 +10,4 @@ invariant-loop-named g l =
     × (length l.opened.commands.items ≡ l.named-index)
     × All (λ seats. vec_len seats ≡ l.clients) l.opened.commands.items
     × (length l.opened.keepers.items ≡ l.named-index)
+    × (l.dealer ≡ record l.fn.dealer { kept = l.fn.dealer.kept + l.setup.shards * l.named-index; seated = l.fn.dealer.seated + (l.workers + l.clients + 1) * l.named-index })

@@ -1,4 +1,4 @@
-use Rattle.std.proofs.Common.{rules, ap, map, option_map, ◌≡◌, ◌≤◌, ◌+◌, ◌-◌, ◌*◌, ℕ, sym, subst, ◌∙◌, arith, vec_len}
+use Rattle.std.proofs.Common.{ap, map, option_map, ◌≡◌, ◌≤◌, ◌+◌, ◌-◌, ◌*◌, ℕ, sym, subst, ◌∙◌, arith, vec_len}
 use Rattle.tcp_relay.specs.Seating.{HaveRoom, held_in}
 use Rattle.tcp_relay.specs.Connections.{left_by_all}
 use Rattle.tcp_relay.proofs.LeavingLemmas.{left_last, left_none}
@@ -34,4 +34,4 @@ returns-clause-more g c most places few =
     few_more (most + (g.W.Width.most - vec_len c.loop-place.held) * 3) (most + g.W.Width.most * 3) places c.loop-place.refs.items (omega (arith)) (c.loop-place.invariant.more most places few)
 
 pub returns-clause-kept : goal.returns-clause-kept
-returns-clause-kept g c = sym (left_none (option_map (λ connection. connection.conn)) c.loop-place.held.items (held_in c.loop-place.refs.items) (search rules)) ∙ c.loop-place.invariant.kept
+returns-clause-kept g c = sym (left_none (option_map (λ connection. connection.conn)) c.loop-place.held.items (held_in c.loop-place.refs.items) (omega (arith, c.in_default.ensures.cases.0, c.loop-place.held.ok))) ∙ c.loop-place.invariant.kept

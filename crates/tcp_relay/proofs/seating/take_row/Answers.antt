@@ -1,7 +1,17 @@
-use Rattle.std.proofs.Common.{◌≡◌, ◌<◌, ◌≤◌, ◌∙◌, rules, ap, arith, length, take}
+use Rattle.std.proofs.Common.{◌≡◌, ◌<◌, ◌≤◌, ◌∙◌, rules, refl, sym, ap, arith, length, take}
 use Rattle.std.proofs.Math.Seq.{take-length}
-use Rattle.tcp_relay.proofs.SeatingLemmas.{fewer_more, row_more}
+use Rattle.tcp_relay.proofs.SeatingLemmas.{fewer_more, none_in, row_more}
 use Rattle.tcp_relay.proofs.seating.take_row.Goals as goal
+
+pub loop-place-init : goal.loop-place-init
+loop-place-init g c = record {
+  row = none_in c.args.row.items (λ one. one.table) (sym c.args.row.ok.0 ∙ c.requires.empty);
+  len = c.requires.empty;
+  room = c.requires.room;
+  tables = refl;
+  some = λ k d low high. c.requires.some k d high;
+  fewer = λ count places each. (λ k d low high. absurd (omega (arith, high)), λ k d low high. each k d high);
+}
 
 pub loop-place-preserved : goal.loop-place-preserved
 loop-place-preserved g c =

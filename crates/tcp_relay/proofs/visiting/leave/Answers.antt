@@ -3,7 +3,8 @@ use Rattle.std.specs.Prelude.{IfSome}
 use Rattle.shard_book.specs.SeatState.{RefState}
 use Rattle.admit_core.specs.declared.conn.Conn.{Conn}
 use Rattle.tcp_relay.specs.Connections.{IsVisitor}
-use Rattle.tcp_relay.proofs.ConnectionLemmas.{each_still, ready, visitor_still}
+use Rattle.tcp_relay.proofs.ConnectionLemmas.{each_still, ports_of, ready, still_passed, visitor_still}
+use Rattle.tcp_relay.proofs.PassedStays.{rests_keep}
 use Rattle.tcp_relay.proofs.visiting.leave.Goals as goal
 
 kept_is : (tables shards : ℕ) (conn : Conn RefState) (left : Option (Conn RefState)) → IsVisitor tables shards conn → IfSome left (λ kept. kept ≡ conn) → IfSome left (IsVisitor tables shards)
@@ -27,3 +28,10 @@ returns-clause-connection g c =
     let rested = c.finish-rested in
     kept_is g.W.Width.tables g.W.Width.shards rested.new.conn c.let_go.result
     (visitor_still g.W.Width.tables g.W.Width.shards c.args.seated.now lent.result.now lent.ensures.value lent.ensures.len c.requires.count c.requires.shards rested.new.ports rested.ensures.parts rested.new.conn rested.ensures.living rested.ensures.ready) c.let_go.ensures.kept
+
+pub returns-clause-still : goal.returns-clause-still
+returns-clause-still g c =
+    let lent = c.as_mut_slice-ports in
+    let rested = c.finish-rested in
+    still_passed g.W.Width.tables g.W.Width.shards c.args.seated.now lent.result.now lent.ensures.value lent.ensures.len c.requires.count c.requires.shards rested.new.ports rested.ensures.parts
+    (rests_keep _ (ports_of lent.result.now) (ports_of rested.new.ports) c.args.conn rested.new.conn _ _ rested.result c.requires.connection.living rested.ensures.rested)

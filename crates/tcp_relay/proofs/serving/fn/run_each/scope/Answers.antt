@@ -19,22 +19,22 @@ pair name R S r s =
     let T = type_at name (R ∷ S ∷ []) in
     recorded_send (field_at name (R ∷ S ∷ [])).row _ _ T.to_one (struct_send (shape T) (r, (s, tt)))
 
--- what the bounds say
+-- what the bounds say, which stand behind those of lifetimes
 tables : (g : given.Over) (c : goal.In-Some g) → IsSend g.row.T
-tables g c = search
+tables g c = c.requires.1.1.1.1.1.0
 
 runtime : (g : given.Over) (c : goal.In-Some g) → IsSync g.row.R
-runtime g c = search
+runtime g c = c.requires.1.1.1.1.1.4
 
 gate : (g : given.Over) (c : goal.In-Some g) → IsSync g.row.G
-gate g c = search
+gate g c = c.requires.1.1.1.1.1.5
 
 -- it takes along what the workers share, by reference, and its worker, lent
 takes : (g : given.Over) (c : goal.In-Some g) (name : Sym) (long of lent held : NamedLft)
-    → IsSend (TupleAt name (ShrRef long.mir long.lft (Shared.the_row of (param 1 g.row.R) (param 2 g.row.G) (param 3 g.row.W) g.W.Width) ∷ MutRef lent.mir lent.lft (Worker.the_row held (param 0 g.row.T) (param 1 g.row.R) (param 3 g.row.W) g.T.Table g.W.Width) ∷ []))
+    → IsSend (TupleAt name (ShrRef long.mir long.lft (Shared.the_row of (param 2 g.row.R) (param 3 g.row.G) (param 4 g.row.W) g.W.Width) ∷ MutRef lent.mir lent.lft (Worker.the_row held (param 0 g.row.T) (param 1 g.row.J) (param 2 g.row.R) (param 4 g.row.W) g.T.Table g.J.Naming g.W.Width) ∷ []))
 takes g c name long of lent held =
-    pair name _ _ (shr_send _ _ _ (shared.the_sync of (param 1 g.row.R) (param 2 g.row.G) (param 3 g.row.W) g.W.Width (param_sync 1 g.row.R (runtime g c)) (param_sync 2 g.row.G (gate g c))))
-    (mut_send _ _ _ (worker.the_send held (param 0 g.row.T) (param 1 g.row.R) (param 3 g.row.W) g.T.Table g.W.Width (param_send 0 g.row.T (tables g c)) (param_sync 1 g.row.R (runtime g c))))
+    pair name _ _ (shr_send _ _ _ (shared.the_sync of (param 2 g.row.R) (param 3 g.row.G) (param 4 g.row.W) g.W.Width (param_sync 2 g.row.R (runtime g c)) (param_sync 3 g.row.G (gate g c))))
+    (mut_send _ _ _ (worker.the_send held (param 0 g.row.T) (param 1 g.row.J) (param 2 g.row.R) (param 4 g.row.W) g.T.Table g.J.Naming g.W.Width (param_send 0 g.row.T (tables g c)) (param_sync 2 g.row.R (runtime g c))))
 
 pub spawn-started-requires-send-F : goal.spawn-started-requires-send-F
 spawn-started-requires-send-F g c κs within =

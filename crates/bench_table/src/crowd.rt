@@ -1,0 +1,182 @@
+//! A crowd at a limit. Many threads track one key at once and look at its entry, and who sees more references than the limit
+//! gives its own back. However their calls fall between one another, no more stay than the limit says.
+
+ghost use Rattle.std.specs.Prelude.{◌≡◌};
+
+use crate::locks::{give_back, track_key};
+use shard_locks::{Shards, SharedRef, SharedSeat};
+use shard_record::{Naming, Opened};
+use std::alloc::Global;
+use std::fmt::{Display, Formatter, Write};
+use std::marker::Brand;
+use std::sync::Wait;
+use std::thread::Threads;
+use std::{fmt, io, thread};
+use stick_pooled::StickTable;
+use stick_table::{Refusal, Table};
+use test_calls::{Records, key, spec};
+
+/// How many clients come at once, each on a thread of its own, and how many of them may stay.
+const CLIENTS: u32 = 16;
+
+const LIMIT: u32 = 3;
+
+/// In how many shards the table is, of how many entries, and with so many references for each shard.
+const SHARDS: u32 = 4;
+
+const PLACES: u32 = 64;
+
+const REFERENCES: u32 = 64;
+
+/// How a round ended: how many clients stayed, and how many references were out then.
+#[derive(Clone, Copy)]
+struct Stayed {
+    clients: u32,
+    references: u32,
+}
+
+impl Stayed {
+    /// Whether no more stayed than may, and each of them has a reference.
+    fn is_within(self) -> bool {
+        self.clients <= LIMIT && self.references == self.clients
+    }
+}
+
+impl Display for Stayed {
+    fn fmt<W: Write>(&self, f: &mut Formatter<W>) -> fmt::Result {
+        let Stayed {
+            clients,
+            references,
+        } = *self;
+        write!(f, "{clients} stayed, {references} references out")
+    }
+}
+
+/// Whether a look at the entry of a reference shows no more references than may stay.
+fn is_within<T: Table, J: Naming>(
+    rt: &impl Wait,
+    table: &Shards<T, J>,
+    seat: &mut SharedSeat<J>,
+    reference: &SharedRef<J>,
+) -> bool {
+    match table.look(rt, seat, reference, 0) {
+        Ok(row) => row.refs <= LIMIT,
+        Err(_) => false,
+    }
+}
+
+/// A client comes: whether it stays. The reference of one that stays is out until the round ends.
+fn come<T: Table, J: Naming>(
+    rt: &impl Wait,
+    alloc: Global,
+    table: &Shards<T, J>,
+    mut seat: SharedSeat<J>,
+) -> bool {
+    let Ok(key) = key(alloc, 1) else {
+        return false;
+    };
+    let Some(reference) = track_key(rt, table, &mut seat, key) else {
+        return false;
+    };
+    if is_within(rt, table, &mut seat, &reference) {
+        reference.abandon();
+        return true;
+    }
+    give_back(rt, table, &mut seat, reference);
+    false
+}
+
+/// How many clients of a crowd stay, each of whom has a seat.
+fn stay<T: Table + Send, J: Naming + Send + Sync, R: Threads + Wait + Sync>(
+    rt: &R,
+    alloc: Global,
+    table: &Shards<T, J>,
+    seats: Vec<SharedSeat<J>>,
+) -> Result<u32, Refusal> {
+    let came = thread::map_vec(rt, seats, &|seat| come(rt, alloc, table, seat))?;
+    let mut clients = 0u32;
+    for stays in came {
+        clients = clients.saturating_add(u32::from(stays));
+    }
+    Ok(clients)
+}
+
+/// How many references to a table's entries are out.
+fn references_out<T: Table, J: Naming>(rt: &impl Wait, table: &Shards<T, J>) -> u32 {
+    let mut references = 0u32;
+    for shard in 0..table.shards() {
+        references = references.saturating_add(table.occupancy(rt, shard).references);
+    }
+    references
+}
+
+/// A round, its calls in a record.
+fn round_recorded<J: Naming + Send + Sync, T: Table + Send, R: Threads + Wait + Sync>(
+    rt: &R,
+    alloc: Global,
+    opened: Opened,
+) -> Result<Stayed, Refusal>
+    requires record { (opened.first.table_id ≡ J.record_id) × (opened.books ≡ J.books) }
+{
+    let spec = spec(alloc, PLACES, REFERENCES, 1 << 62)?;
+    let records = Records::<J>::new(alloc, opened)?;
+    let (_left, (table, seats)) = records.open::<T>(alloc, spec, SHARDS, CLIENTS, false)?;
+    let clients = stay(rt, alloc, &table, seats)?;
+    Ok(Stayed {
+        clients,
+        references: references_out(rt, &table),
+    })
+}
+
+/// A round of a new table.
+fn run_round<T: Table + Send, R: Threads + Wait + Sync>(
+    rt: &R,
+    alloc: Global,
+) -> Result<Stayed, Refusal> {
+    let Ok(opened) = Opened::new(alloc, SHARDS, CLIENTS) else {
+        return Err(Refusal::Memory);
+    };
+    round_recorded::<Brand, T, R>(rt, alloc, opened)
+}
+
+/// Runs a round, and says where it didn't end as it should; answers whether it did.
+fn is_kept<T: Table + Send, R: Threads + Wait + Sync + Eprint + AllocGlobal>(
+    rt: &R,
+) -> io::Result<bool> {
+    match run_round::<T, R>(rt, rt.alloc()) {
+        Ok(stayed) => {
+            if stayed.is_within() {
+                return Ok(true);
+            }
+            eprintln!(rt; "bench_table: {stayed}")?;
+            Ok(false)
+        }
+        Err(refusal) => {
+            eprintln!(rt; "bench_table: refused: {refusal}")?;
+            Ok(false)
+        }
+    }
+}
+
+/// Runs so many rounds, until one doesn't end as it should; answers whether each did.
+fn are_kept<T: Table + Send, R: Threads + Wait + Sync + Print + Eprint + AllocGlobal>(
+    rt: &R,
+    rounds: u32,
+) -> io::Result<bool> {
+    for _ in 0..rounds {
+        if !is_kept::<T, R>(rt)? {
+            return Ok(false);
+        }
+    }
+    println!(rt; "crowd: {rounds} rounds, at most {LIMIT} of {CLIENTS} stay")?;
+    Ok(true)
+}
+
+/// Has crowds of one key come to new pooled tables, so many, one behind the other. Answers whether no more stayed than the limit
+/// says, each time, and as many references were out.
+pub fn run_crowds<R: Threads + Wait + Sync + Print + Eprint + AllocGlobal>(
+    rt: &R,
+    rounds: u32,
+) -> io::Result<bool> {
+    are_kept::<StickTable, R>(rt, rounds)
+}

@@ -1,2 +1,0 @@
-pub mod ClockLemmas
-pub mod LineLemmas

@@ -1,4 +1,0 @@
-pub mod Lives
-pub mod Lines
-pub mod Loading
-pub mod Seen

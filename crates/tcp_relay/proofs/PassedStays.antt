@@ -1,0 +1,120 @@
+-- What has passed has passed for ever, as seats are told of more.
+use Rattle.std.proofs.Common.{◌≡◌, ℕ, zero, suc, refl, sym, ap, subst, Bool, true, false, ◌&&◌, List, [], slice_get, Option, Some, None}
+use Rattle.std.specs.List.{list_any}
+use Rattle.std.specs.Option.{option_map_or}
+use Rattle.std.proofs.Math.Bool.{Bool-set}
+use Rattle.std.proofs.Math.Logic.{∥∥₁_elim}
+use Rattle.std.proofs.lemmas.Bool.{false≢true}
+use mathlib.Core.List.{IsPrefix}
+use Rattle.stick_model.specs.Key.{Key, same_key}
+use Rattle.stick_model.specs.declared.replies.Reply.{Reply}
+use Rattle.shard_record.specs.declared.view.Call.{Call as Noted}
+use Rattle.shard_record.specs.Calls.{Held, IsHistory, passed_in}
+use Rattle.shard_record.proofs.Records.{passed_later}
+use Rattle.shard_book.specs.SeatState.{RefState}
+use Rattle.shard_locks.specs.Ported.{seated_meaning}
+use Rattle.shard_locks.specs.ShardsState.{SeatedState}
+use Rattle.rule_model.specs.declared.sections.Setup.{Setup}
+use Rattle.rule_eval.specs.declared.wants.Samples.{Samples}
+use Rattle.admit_core.specs.Connection.{Connection}
+use Rattle.admit_core.specs.declared.conn.Conn.{Conn}
+use Rattle.admit_port.specs.Calls.{AnswersAt, Call}
+use Rattle.admit_port.specs.DriveCode.{IsConnection}
+use Rattle.admit_port.specs.Moves.{Moves}
+use Rattle.admit_port.specs.Visit.{Goes, GoesJudged, HasGoneJudged, HasRested, Rests, Visit}
+use Rattle.admit_port.specs.declared.moved.Moved.{Moved}
+use Rattle.admit_port.specs.declared.moved.Moved.TheVariants.{Answered, Turned, Refused, Kept}
+use Rattle.admit_port.specs.declared.moved.Rested.{Rested}
+use Rattle.admit_port.specs.declared.moved.Rested.TheVariants.{Still, Kept as RestsKept}
+use Rattle.tcp_relay.specs.Passed.{HasPassed, HasPassedBy, HavePassedStill, PassedStaysLaw, known_at, known_of, shows_few}
+use Rattle.tcp_relay.proofs.PassedCalls.{any_later, was_out_later}
+use Rattle.tcp_relay.proofs.PassedLooks.{passes}
+use Rattle.tcp_relay.proofs.PassedSeats.{seats_grow}
+
+-- by more calls of the same table
+has_later : (shards limit : ℕ) (key : Key) (log later : List Noted) (reference : RefState) → IsPrefix log later → IsHistory later → HasPassed shards limit key log reference → HasPassed shards limit key later reference
+has_later shards limit key log later reference begins history has =
+    let looked : list_any (shows_few key limit reference.ticket) later ≡ true = any_later (shows_few key limit reference.ticket) log later begins has.looked in
+    record {
+      history = history;
+      on_shard = has.on_shard;
+      of_key = was_out_later log later reference.ticket key begins has.of_key;
+      looked = looked;
+      passed = passes later key limit reference.ticket looked;
+    }
+
+-- as a seat is told of a call
+told_passed : (setup : Setup) (samples : Samples) (limit : ℕ) (old new : List SeatedState) (asked : Call) (reply : Reply) (entry : ℕ × RefState) → AnswersAt seated_meaning old asked reply new → HasPassedBy setup samples limit old entry
+    → HasPassedBy setup samples limit new entry
+told_passed setup samples limit old new asked reply entry by passed =
+    let grown = seats_grow old new asked reply by entry.0 entry.1.shard passed.seat passed.at in
+    record {
+      key = passed.key;
+      source = passed.source;
+      seat = grown.later;
+      at = grown.at;
+      has = has_later setup.shards limit passed.key (known_of passed.seat entry.1.shard) (known_of grown.later entry.1.shard) entry.1 grown.more (grown.history passed.has.history) passed.has;
+    }
+
+pub stays_law : PassedStaysLaw
+stays_law setup samples limit now old new connection after Answered entry moves passed = told_passed setup samples limit old new moves.0 moves.1 entry moves.3 passed
+stays_law setup samples limit now old new connection after Turned entry moves passed = subst (λ seats. HasPassedBy setup samples limit seats entry) (sym moves.1) passed
+stays_law setup samples limit now old new connection after Refused entry moves passed = subst (λ seats. HasPassedBy setup samples limit seats entry) (sym moves.2) passed
+stays_law setup samples limit now old new connection after Kept entry moves passed = subst (λ seats. HasPassedBy setup samples limit seats entry) (sym moves.3) passed
+
+-- ---- as a connection goes on
+
+none_passed : (key : Key) (limit : ℕ) (held : Held) → passed_in key limit [] held ≡ true → ⊥
+none_passed key limit held is = by (same_key key held.1) is
+  where
+    by : (b : Bool) → (b && false) ≡ true → ⊥
+    by true both = false≢true both
+    by false both = false≢true both
+
+told_still : (old new : List SeatedState) (asked : Call) (reply : Reply) → AnswersAt seated_meaning old asked reply new → HavePassedStill old new
+told_still old new asked reply by table part limit key held was = of_seat (slice_get old table) refl was
+  where
+    of_seat : (o : Option SeatedState) → slice_get old table ≡ o → passed_in key limit (option_map_or (λ (seat : SeatedState). known_of seat part) o []) held ≡ true → passed_in key limit (known_at new table part) held ≡ true
+    of_seat None at passed = absurd (none_passed key limit held passed)
+    of_seat (Some seat) at passed =
+        let grown = seats_grow old new asked reply by table part seat at in
+        let later : known_at new table part ≡ known_of grown.later part = ap (λ o. option_map_or (λ (s : SeatedState). known_of s part) o []) grown.at in
+        subst (λ log. passed_in key limit log held ≡ true) (sym later) (passed_later key limit (known_of seat part) (known_of grown.later part) held grown.more passed)
+
+moves_still : (now : ℕ) (old new : List SeatedState) (connection after : Connection RefState) (moved : Moved) → Moves seated_meaning now old connection new after moved → HavePassedStill old new
+moves_still now old new connection after Answered moves = told_still old new moves.0 moves.1 moves.3
+moves_still now old new connection after Turned moves = λ table part limit key held was. subst (λ seats. passed_in key limit (known_at seats table part) held ≡ true) (sym moves.1) was
+moves_still now old new connection after Refused moves = λ table part limit key held was. subst (λ seats. passed_in key limit (known_at seats table part) held ≡ true) (sym moves.2) was
+moves_still now old new connection after Kept moves = λ table part limit key held was. subst (λ seats. passed_in key limit (known_at seats table part) held ≡ true) (sym moves.3) was
+
+module _ {C : Type 0} (shows : C → ℕ → C → Type 0) where
+  judged_still : (count : ℕ) (old new : Visit SeatedState RefState C) → GoesJudged seated_meaning shows count old new → HavePassedStill old.ports new.ports
+  judged_still zero old new goes table part limit key held was = subst (λ (visit : Visit SeatedState RefState C). passed_in key limit (known_at visit.ports table part) held ≡ true) (sym goes) was
+  judged_still (suc count) old new goes table part limit key held was =
+      let once = goes.4 in
+      judged_still count goes.1 new goes.5 table part limit key held (moves_still once.0 old.ports goes.1.ports old.connection goes.1.connection goes.2 once.3 table part limit key held was)
+
+  goes_still : (count : ℕ) (old new : Visit SeatedState RefState C) → Goes seated_meaning shows count old new → HavePassedStill old.ports new.ports
+  goes_still zero old new goes table part limit key held was = subst (λ (visit : Visit SeatedState RefState C). passed_in key limit (known_at visit.ports table part) held ≡ true) (sym goes) was
+  goes_still (suc count) old new goes table part limit key held was =
+      let once = goes.2 in
+      goes_still count goes.0 new goes.3 table part limit key held (moves_still once.0 old.ports goes.0.ports old.connection goes.0.connection goes.1 once.3 table part limit key held was)
+
+  rests_still : (old new : Visit SeatedState RefState C) (rested : Rested) → Rests seated_meaning shows old new rested → HavePassedStill old.ports new.ports
+  rests_still old new Still rests table part limit key held was =
+      subst (λ (visit : Visit SeatedState RefState C). passed_in key limit (known_at visit.ports table part) held ≡ true) (sym rests.still.0) (goes_still rests.count old rests.last rests.goes table part limit key held was)
+  rests_still old new RestsKept rests table part limit key held was =
+      moves_still rests.still.0 rests.last.ports new.ports rests.last.connection new.connection Kept rests.still.3 table part limit key held (goes_still rests.count old rests.last rests.goes table part limit key held was)
+
+  -- one that was judged, and one that came to rest, whatever connection each was
+  pub judged_keep : (old new : List SeatedState) (conn later : Conn RefState) (clock shown : C) → IsConnection conn → HasGoneJudged seated_meaning shows old conn clock new later shown → HavePassedStill old new
+  judged_keep old new conn later clock shown living gone table part limit key held was =
+      ∥∥₁_elim living (Bool-set _ _) (λ found.
+      let visit = gone found.0 found.1 in
+      judged_still visit.2.0 (record { ports = old; connection = found.0; clock = clock }) (record { ports = new; connection = visit.0; clock = shown }) visit.2.1 table part limit key held was)
+
+  pub rests_keep : (old new : List SeatedState) (conn later : Conn RefState) (clock shown : C) (rested : Rested) → IsConnection conn → HasRested seated_meaning shows old conn clock new later shown rested → HavePassedStill old new
+  rests_keep old new conn later clock shown rested living gone table part limit key held was =
+      ∥∥₁_elim living (Bool-set _ _) (λ found.
+      let visit = gone found.0 found.1 in
+      rests_still (record { ports = old; connection = found.0; clock = clock }) (record { ports = new; connection = visit.0; clock = shown }) rested visit.2 table part limit key held was)

@@ -1,0 +1,4 @@
+use Rattle.test_proxy.proofs.connections.carried.Given as goal
+
+abbrev pub ghosts-carried_recorded : goal.ghosts-carried_recorded
+ghosts-carried_recorded g a = record { record_id = a.opened.first.table_id; books = a.opened.books }

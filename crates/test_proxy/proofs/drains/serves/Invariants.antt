@@ -1,0 +1,4 @@
+use Rattle.test_proxy.proofs.drains.serves.Given as goal
+
+abbrev pub ghosts-serves_recorded : goal.ghosts-serves_recorded
+ghosts-serves_recorded g a = record { record_id = a.opened.first.table_id; books = a.opened.books }

@@ -1,0 +1,4 @@
+use Rattle.test_refusals.proofs.calls.lead_once.Given as goal
+
+abbrev pub ghosts-lead_recorded : goal.ghosts-lead_recorded
+ghosts-lead_recorded g a = record { record_id = a.opened.first.table_id; books = a.opened.books }

@@ -1,0 +1,4 @@
+use Rattle.test_refusals.proofs.calls.rolls_once.Given as goal
+
+abbrev pub ghosts-rolls_recorded : goal.ghosts-rolls_recorded
+ghosts-rolls_recorded g a = record { record_id = a.opened.first.table_id; books = a.opened.books }

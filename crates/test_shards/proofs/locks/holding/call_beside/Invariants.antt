@@ -1,0 +1,4 @@
+use Rattle.test_shards.proofs.locks.holding.call_beside.Given as goal
+
+abbrev pub ghosts-beside_recorded : goal.ghosts-beside_recorded
+ghosts-beside_recorded g a = record { record_id = a.opened.first.table_id; books = a.opened.books }
