@@ -2,6 +2,7 @@
 
 ghost use Rattle.std.specs.Prelude.{◌≡◌, ◌≤◌, ◌^◌, true, is_some, length, IfOk, IfErr, OnOk, OnErr, IsOk};
 ghost use Rattle.stick_model.specs.State.{key_of};
+ghost use Rattle.stick_model.specs.Legal.{IsLegal};
 ghost use Rattle.stick_model.specs.Limits.{IsTableSpec, IsTableEvent};
 ghost use Rattle.stick_model.specs.Refusals.{has_life};
 ghost use Rattle.stick_model.specs.declared.events.Event.TheVariants.{Release};
@@ -121,6 +122,15 @@ impl<T: Table> Book<T> {
             references: self.live.references(),
             purged: self.live.purged(),
         }
+    }
+
+    /// A plain copy of the table as it is now.
+    pub fn copied(&self) -> Result<PlainTable, NoMemory>
+        ensures copy { IfOk result (λ table. table ≡ self.now.live) }
+        ensures limits { IfOk result (λ table. IsTableSpec table.spec) }
+        ensures legal { IfOk result (λ table. IsLegal table) }
+    {
+        self.live.to_plain()
     }
 
     /// The table from which the record begins.

@@ -25,7 +25,6 @@ use crate::tracking::tracking_of;
 use crate::unlocked::{lock_all, room_for, unlock_all};
 use crate::{SharedRef, SharedSeat, Tracking, Unlocked};
 use base_sequence::NoMemory;
-use shard_book::Occupancy;
 use shard_port::{counted_value, shown_row};
 use shard_record::{Dealer, Naming, Record, Token};
 use std::alloc::Global;
@@ -47,7 +46,7 @@ pub struct Shards<T: Table, J: Naming> {
     records: Arc<Record<J>, Global>,
     /// The number by which the record has the book of the first shard.
     first: u32,
-    books: Locks<T, J>,
+    pub(crate) books: Locks<T, J>,
 }
 
 impl<T: Table, J: Naming> Model for Shards<T, J> {
@@ -377,14 +376,6 @@ impl<T: Table, J: Naming> Shards<T, J> {
         }
         let mut kept = self.books[shard as usize].lock(rt);
         roll_long(&mut kept, least)
-    }
-
-    /// What of a shard is occupied, as `Kept::occupancy` tells it under the shard's lock.
-    pub fn occupancy(&self, rt: &impl Wait, shard: u32) -> Occupancy
-        requires shard { shard < self.now.shards }
-    {
-        let kept = self.books[shard as usize].lock(rt);
-        kept.occupancy()
     }
 
     /// Does some work while a shard's lock is held. Nothing of the shard changes.

@@ -1,0 +1,33 @@
+//! What is read of a shard under its lock, by no event; `Seated` calls it.
+
+ghost use Rattle.std.specs.Prelude.{◌<◌, IfOk};
+ghost use Rattle.stick_model.specs.Legal.{IsLegal};
+ghost use Rattle.stick_model.specs.Limits.{IsTableSpec};
+
+use crate::Shards;
+use base_sequence::NoMemory;
+use shard_book::Occupancy;
+use shard_record::Naming;
+use std::sync::Wait;
+use stick_table::{PlainTable, Table};
+
+impl<T: Table, J: Naming> Shards<T, J> {
+    /// What of a shard is occupied, as `Kept::occupancy` tells it under the shard's lock.
+    pub fn occupancy(&self, rt: &impl Wait, shard: u32) -> Occupancy
+        requires shard { shard < self.now.shards }
+    {
+        let kept = self.books[shard as usize].lock(rt);
+        kept.occupancy()
+    }
+
+    /// A plain copy of what a shard is, made while its lock is held: of 100,000 entries that takes some ms. It is no event, and
+    /// changes nothing.
+    pub fn copied(&self, rt: &impl Wait, shard: u32) -> Result<PlainTable, NoMemory>
+        requires shard { shard < self.now.shards }
+        ensures limits { IfOk result (λ table. IsTableSpec table.spec) }
+        ensures legal { IfOk result (λ table. IsLegal table) }
+    {
+        let held = self.books[shard as usize].lock(rt);
+        held.book().copied()
+    }
+}
