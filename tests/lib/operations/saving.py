@@ -225,5 +225,5 @@ def random_tables_are_the_same():
             assert shown[len(names):] == last, (seed, turn, 'what goes first')
 
 
-TRIALS = [a_listing_becomes_lines, entries_stand_as_the_stats_socket_tells, what_can_not_be_saved_is_told, a_restart_keeps_entries, a_crash_leaves_the_file_of_before,
-          a_bad_file_lets_nothing_listen, random_tables_are_the_same]
+TRIALS = [a_listing_becomes_lines, entries_stand_as_the_stats_socket_tells, what_can_not_be_saved_is_told, a_restart_keeps_entries,
+          a_crash_leaves_the_file_of_before, a_bad_file_lets_nothing_listen, random_tables_are_the_same]
