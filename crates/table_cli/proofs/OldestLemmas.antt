@@ -36,7 +36,7 @@ listed_rows old new moment reply step =
 pub listed_records : (old new : State) (moment : ℕ) (reply : Reply) → Step old (ListRows moment Everything) reply new → new.records ≡ (advance old moment).records
 listed_records old new moment reply step = sym (ap (λ (o : Outcome). o.1.records) step.gives)
 
-beside-map : (f : Key × Record → Row) (entries : List (Key × Record)) → beside entries (map f entries) ≡ map (λ (entry : Key × Record). record { stamp = entry.1.stamp; row = f entry }) entries
+beside-map : (f : Key × Record → Row) (entries : List (Key × Record)) → beside (map f entries) entries ≡ map (λ (entry : Key × Record). record { stamp = entry.1.stamp; row = f entry }) entries
 beside-map f [] = refl
 beside-map f (entry ∷ entries) = ap (λ (all : List Stamped). record { stamp = entry.1.stamp; row = f entry } ∷ all) (beside-map f entries)
 
@@ -45,15 +45,15 @@ rows_in (Rows used rows) = rows
 rows_in _ = []
 
 -- the rows that a listing of everything shows, beside the entries that it leaves
-pub listed_stamped : (old new : State) (moment used : ℕ) (rows : List Row) (reply : Reply) (all : List Stamped) → Step old (ListRows moment Everything) reply new → reply ≡ Rows used rows → all ≡ beside new.records rows
+pub listed_stamped : (old new : State) (moment used : ℕ) (rows : List Row) (reply : Reply) (all : List Stamped) → Step old (ListRows moment Everything) reply new → reply ≡ Rows used rows → all ≡ beside rows new.records
     → all ≡ map (stamped (advance old moment)) (advance old moment).records
 unfolding rows_in
 listed_stamped old new moment used rows reply all step is made =
     let entries : List (Key × Record) = (advance old moment).records in
     let shown : rows ≡ map (λ (entry : Key × Record). row (advance old moment) entry.0 entry.1) entries = ap rows_in (sym is ∙ listed_rows old new moment reply step) in
     made
-    ∙ ap (λ (left : List (Key × Record)). beside left rows) (listed_records old new moment reply step)
-    ∙ ap (beside entries) shown
+    ∙ ap (beside rows) (listed_records old new moment reply step)
+    ∙ ap (λ (all_rows : List Row). beside all_rows entries) shown
     ∙ beside-map (λ (entry : Key × Record). row (advance old moment) entry.0 entry.1) entries
 
 -- ---- shards

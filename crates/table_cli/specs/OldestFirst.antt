@@ -72,7 +72,7 @@ ShowsNamed holds moment name tables text = ShowsPlace holds moment (place_of nam
 -- ---- lists side by side
 
 -- rows beside the stamps of entries, as far as both go
-abbrev pub beside : List (Key × Record) → List Row → List Stamped
-beside [] rows = []
-beside (entry ∷ entries) [] = []
-beside (entry ∷ entries) (shown ∷ rows) = record { stamp = entry.1.stamp; row = shown } ∷ beside entries rows
+abbrev pub beside : List Row → List (Key × Record) → List Stamped
+beside [] entries = []
+beside (shown ∷ rows) [] = []
+beside (shown ∷ rows) (entry ∷ entries) = record { stamp = entry.1.stamp; row = shown } ∷ beside rows entries

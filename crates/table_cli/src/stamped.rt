@@ -27,7 +27,7 @@ fn beside(
     entries: &[(StickKey, Record)],
     rows: Rows,
 ) -> Result<Vec<Stamped>, NoMemory>
-    ensures { IfOk result (λ all. all.items ≡ spec.beside entries.now rows) }
+    ensures { IfOk result (λ all. all.items ≡ spec.beside rows entries.now) }
 {
     let mut all = Vec::new(alloc);
     let mut left = entries;
