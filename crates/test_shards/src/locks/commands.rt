@@ -21,7 +21,7 @@ use table_cli::{CliFault, answer};
 use test_calls::{open_record, spec};
 
 /// A command line at a moment in ms, and its answer.
-type Answered = (u32, &'static [u8], &'static [u8]);
+pub(crate) type Answered = (u32, &'static [u8], &'static [u8]);
 
 /// Lines on a table of integers in two shards, whose entries live for 500 ms.
 static LINES: [Answered; 9] = [
@@ -86,7 +86,11 @@ fn is_answered<K: Keeper>(
 }
 
 /// Whether the lines are answered so, one after another, on a table.
-fn are_answered<K: Keeper>(alloc: Global, tables: &mut [Named<K>], lines: &[Answered]) -> bool {
+pub(crate) fn are_answered<K: Keeper>(
+    alloc: Global,
+    tables: &mut [Named<K>],
+    lines: &[Answered],
+) -> bool {
     for line in lines {
         if !is_answered(alloc, tables, *line) {
             return false;
@@ -96,7 +100,7 @@ fn are_answered<K: Keeper>(alloc: Global, tables: &mut [Named<K>], lines: &[Answ
 }
 
 /// The tables of a line's service: one, named n.
-fn named<K: Keeper + Drop>(alloc: Global, keeper: K) -> Result<Vec<Named<K>>, NoMemory> {
+pub(crate) fn named<K: Keeper + Drop>(alloc: Global, keeper: K) -> Result<Vec<Named<K>>, NoMemory> {
     let name = Sequence::from_slice(alloc, b"n")?;
     let mut tables = Vec::new(alloc);
     tables.push(Named { name, keeper })?;
@@ -109,7 +113,7 @@ fn open_books(alloc: Global) -> Result<Books<PlainTable>, NoMemory> {
 }
 
 /// The service of such a table.
-fn serve_books(alloc: Global) -> Result<Vec<Named<Books<PlainTable>>>, NoMemory> {
+pub(crate) fn serve_books(alloc: Global) -> Result<Vec<Named<Books<PlainTable>>>, NoMemory> {
     named(alloc, open_books(alloc)?)
 }
 
@@ -166,7 +170,7 @@ fn records_of_one_thread_begin_again(rt: HostRuntime) -> Result<(), Fail> {
 }
 
 /// Whether a seat's lines were answered so, and how many events of each shard the seat made.
-fn made_by<J: Naming, R: Wait>(
+pub(crate) fn made_by<J: Naming, R: Wait>(
     mut tables: Vec<Named<Seated<'_, PlainTable, J, R>>>,
     are_answered: bool,
 ) -> Option<(bool, u64, u64)> {
