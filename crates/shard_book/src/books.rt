@@ -63,7 +63,7 @@ fn roll_each<T: Table>(books: &mut Vec<Book<T>>) -> Result<(), NoMemory>
 {
     for shard in 0..books.as_slice().len() {
         match books[shard].roll() {
-            Ok(()) => {}
+            Ok(_base) => {}
             Err(error) => return Err(error),
         }
     }

@@ -19,7 +19,7 @@ use crate::{Book, Occupancy, Seat, serve};
 use base_sequence::NoMemory;
 use shard_record::{Keeper, Naming, Record, Token};
 use std::marker::Model;
-use stick_table::{Event, Refusal, Reply, Table, Ticket};
+use stick_table::{Event, PlainTable, Refusal, Reply, Table, Ticket};
 
 /// A book beside what keeps its record.
 #[derive(Drop)]
@@ -89,9 +89,10 @@ impl<T: Table, J: Naming> Kept<T, J> {
         self.keeper.is_of(number)
     }
 
-    /// Rolls the book, as `Book::roll` does. Its record stays.
-    pub fn roll(&mut self) -> Result<(), NoMemory>
+    /// Rolls the book, as `Book::roll` does, whose base before comes back. Its record stays.
+    pub fn roll(&mut self) -> Result<PlainTable, NoMemory>
         ensures ok { OnOk result (self.new.book ≡ rolled self.old.book) }
+        ensures before { IfOk result (λ base. base ≡ self.old.book.base) }
         ensures err { OnErr result (self.new.book ≡ self.old.book) }
         ensures record { (self.new.log ≡ self.old.log) × (self.new.number ≡ self.old.number) }
     {

@@ -365,8 +365,8 @@ impl<T: Table, J: Naming> Shards<T, J> {
     }
 
     /// Makes a shard's live state the base of its calls, as `Kept::roll` does, where it has that many calls and no
-    /// receipts are kept; answers whether it did. The whole table is copied while the lock is held. Where a growth is
-    /// refused, nothing changes. The record of all calls stays.
+    /// receipts are kept; answers whether it did. The whole table is copied while the lock is held, and the base before is
+    /// dropped behind it. Where a growth is refused, nothing changes. The record of all calls stays.
     pub fn roll(&self, rt: &impl Wait, shard: u32, least: u64) -> Result<bool, NoMemory>
         requires shard { shard < self.now.shards }
         ensures kept { self.now.keep ≡ true → result ≡ Ok false }
@@ -375,7 +375,9 @@ impl<T: Table, J: Naming> Shards<T, J> {
             return Ok(false);
         }
         let mut kept = self.books[shard as usize].lock(rt);
-        roll_long(&mut kept, least)
+        let base = roll_long(&mut kept, least)?;
+        drop(kept);
+        Ok(base.is_some())
     }
 
     /// Does some work while a shard's lock is held. Nothing of the shard changes.
