@@ -12,8 +12,11 @@ from lib.shims import build_shim
 
 # A connection takes two descriptors here, its own and the server's.
 CROWD = min(1000, (raise_descriptors(4000) - 200) // 2)
-# How long a client may wait for what is to be at once, in seconds: less than until it tries a second time.
-AT_ONCE = 1
+# How long a client that waits for a place may wait for what is to be at once, in seconds: a machine may be busy. One that is forgotten
+# waits for ever, as nothing else happens meanwhile.
+AT_ONCE = 5
+# The time for clients where connections end by it, in ms: the greeting of a busy server comes well before. And a stall past it.
+SILENT_FOR, PAST_IT = 1500, 1.7
 # Within how many seconds behind its time a silent client is closed: two looks, 100 ms apart, and room for a machine that is busy.
 LATE = 0.2 + 0.6
 
@@ -120,42 +123,39 @@ def many_come_at_once():
 ENDINGS = {
     'close': (lambda client: client.close(), []),
     'reset': (reset, []),
-    'timeout': (lambda client: None, ['--timeout-client', '500ms']),
+    'timeout': (lambda client: None, ['--timeout-client', f'{SILENT_FOR}ms']),
 }
 
 
-def comes_where_all_places_end(proxy, held_at_once, ends, within):
-    """Holds as many connections as there may be. While the proxy stands still one more client comes, and all others end: then that
-    one is served. How long that took."""
+def comes_where_all_places_end(proxy, held_at_once, ends, stall):
+    """Holds as many connections as there may be. While the proxy stands still, for so many seconds, one more client comes, and all
+    others end: then that one is served."""
     held = [proxy.connect() for _ in range(held_at_once)]
-    assert all(map(is_greeted, held)), 'so many are served'
+    greeted = sum(map(is_greeted, held))
+    assert greeted == held_at_once, f'{greeted} of {held_at_once} are served'
     with proxy.stopped():
         one_more = proxy.newcomer()
         for client in held:
             ends(client)
-        if within > AT_ONCE:
-            time.sleep(0.6)
-    began = time.monotonic()
-    one_more.settimeout(within)
-    assert is_greeted(one_more), f'the one that waited is not served within {within} s'
+        time.sleep(stall)
+    one_more.settimeout(AT_ONCE)
+    assert is_greeted(one_more), f'the one that waited is not served within {AT_ONCE} s'
     one_more.close()
     for client in held:
         client.close()
-    return time.monotonic() - began
 
 
 def is_never_forgotten(threads, ending, seconds, rounds):
     """Rounds of a client that waits for a place while all others end, for so many seconds and at least three, or so many rounds."""
     ends, words = ENDINGS[ending]
-    # Nobody is forgotten for longer than another end may take: by a timeout, with the stall before it.
-    within = AT_ONCE + (1.5 if ending == 'timeout' else 0)
+    stall = PAST_IT if ending == 'timeout' else 0
     held_at_once = max(4, threads)
     with Server(greets) as server:
         with Proxy(server.port, [TABLE, TRACK], '--connections', str(held_at_once), *words, threads=threads) as proxy:
             began, made = time.monotonic(), 0
             while made < rounds if rounds else made < 3 or time.monotonic() < began + seconds:
                 try:
-                    comes_where_all_places_end(proxy, held_at_once, ends, within)
+                    comes_where_all_places_end(proxy, held_at_once, ends, stall)
                 except AssertionError as fault:
                     raise AssertionError(f'{threads} threads, ends by {ending}, round {made + 1}: {fault}') from fault
                 made += 1
