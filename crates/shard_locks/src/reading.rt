@@ -1,4 +1,4 @@
-//! What is read of a shard under its lock, by no event; `Seated` calls it.
+//! What is read of a shard under its lock, by no event, and what is done meanwhile; `Seated` calls it, and tests of locks do.
 
 ghost use Rattle.std.specs.Prelude.{◌<◌, IfOk};
 ghost use Rattle.stick_model.specs.Legal.{IsLegal};
@@ -29,5 +29,16 @@ impl<T: Table, J: Naming> Shards<T, J> {
     {
         let held = self.books[shard as usize].lock(rt);
         held.book().copied()
+    }
+
+    /// Does some work while a shard's lock is held. Nothing of the shard changes.
+    pub fn hold<R: Wait, F: FnOnce()>(&self, rt: &R, shard: u32, work: F)
+        requires shard { shard < self.now.shards }
+        requires work { F.pre work }
+        ensures work { F.post work tt }
+    {
+        let kept = self.books[shard as usize].lock(rt);
+        work();
+        drop(kept);
     }
 }
