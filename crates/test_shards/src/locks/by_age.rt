@@ -1,6 +1,7 @@
 //! What a table holds in the order in which its entries go: of a table that threads share, and of one that one thread has.
 
 ghost use Rattle.std.specs.Prelude.{◌≡◌};
+ghost use Rattle.test_calls.specs.Planned.{IsNamed};
 
 use crate::locks::commands::{Answered, are_answered, made_by, named, serve_books};
 use crate::locks::threads::open_two;
@@ -8,13 +9,13 @@ use base_clock::StoppedClock;
 use byte_ports::MemorySink;
 use shard_book::{Keeper, Named};
 use shard_locks::Seated;
-use shard_record::{Naming, Opened};
+use shard_record::Naming;
 use std::alloc::Global;
 use std::marker::Brand;
 use std::sync::Wait;
 use std::test::Fail;
 use table_cli::answer_oldest_first;
-use test_calls::open_record;
+use test_calls::{Planned, TWELVE, open_record};
 
 /// Lines of one moment, which refresh the entry of 5 last. Keys 5 and 7 lie on the first shard, key 6 on the second.
 static LINES: [Answered; 4] = [
@@ -65,9 +66,9 @@ fn one_thread_is_told_by_age(rt: HostRuntime) -> Result<(), Fail> {
 fn told_recorded<J: Naming, R: Wait>(
     rt: &R,
     alloc: Global,
-    opened: Opened,
+    opened: Planned,
 ) -> Option<(bool, u64, u64)>
-    requires { (opened.first.table_id ≡ J.record_id) × (opened.books ≡ J.books) }
+    requires { IsNamed opened J.record_id J.books J.specs }
 {
     let Ok((desk, seat)) = open_two::<J>(alloc, opened) else {
         return None;
@@ -83,7 +84,7 @@ fn told_recorded<J: Naming, R: Wait>(
 
 /// The same of a new record.
 fn is_seat_told<R: Wait>(rt: &R, alloc: Global) -> Option<(bool, u64, u64)> {
-    match open_record(alloc) {
+    match open_record(alloc, &[TWELVE]) {
         Some(opened) => told_recorded::<Brand, R>(rt, alloc, opened),
         None => None,
     }

@@ -1,24 +1,25 @@
 //! Commands on tables that threads share, asked by one seat, and on tables that one thread has.
 
 ghost use Rattle.std.specs.Prelude.{◌≡◌};
+ghost use Rattle.test_calls.specs.Planned.{IsNamed};
 
 use crate::locks::books::{Sums, holds};
 use crate::locks::calls::two_desks;
-use crate::locks::tables::Desk;
+use crate::locks::tables::{Desk, plan_of};
 use crate::locks::threads::open_two;
 use base_clock::StoppedClock;
 use base_sequence::{NoMemory, Sequence};
 use byte_ports::MemorySink;
 use shard_book::{Books, Keeper, Named};
 use shard_locks::{Seated, Shards, SharedSeat};
-use shard_record::{Naming, Opened};
+use shard_record::Naming;
 use std::alloc::Global;
 use std::marker::Brand;
 use std::sync::Wait;
 use std::test::Fail;
 use stick_table::PlainTable;
 use table_cli::{CliFault, answer};
-use test_calls::{open_record, spec};
+use test_calls::{Planned, TWELVE, open_record, spec};
 
 /// A command line at a moment in ms, and its answer.
 pub(crate) type Answered = (u32, &'static [u8], &'static [u8]);
@@ -212,8 +213,8 @@ fn sums(events: u64) -> Sums {
 }
 
 /// Whether a seat of a new table is answered so. Keys 5, 7 and 9 lie on the first shard, key 6 on the second.
-fn answered_recorded<J: Naming, R: Wait>(rt: &R, alloc: Global, opened: Opened) -> bool
-    requires { (opened.first.table_id ≡ J.record_id) × (opened.books ≡ J.books) }
+fn answered_recorded<J: Naming, R: Wait>(rt: &R, alloc: Global, opened: Planned) -> bool
+    requires { IsNamed opened J.record_id J.books J.specs }
 {
     let Ok((desk, seat)) = open_two::<J>(alloc, opened) else {
         return false;
@@ -225,7 +226,7 @@ fn answered_recorded<J: Naming, R: Wait>(rt: &R, alloc: Global, opened: Opened) 
 
 /// The same of a new record.
 fn is_seat_answered<R: Wait>(rt: &R, alloc: Global) -> bool {
-    match open_record(alloc) {
+    match open_record(alloc, &[TWELVE]) {
         Some(opened) => answered_recorded::<Brand, R>(rt, alloc, opened),
         None => false,
     }
@@ -268,9 +269,9 @@ fn shown_to<J: Naming>(
 fn shown_recorded<J: Naming, R: Wait>(
     rt: &R,
     alloc: Global,
-    opened: Opened,
+    opened: Planned,
 ) -> Option<(bool, u64, u64)>
-    requires { (opened.first.table_id ≡ J.record_id) × (opened.books ≡ J.books) }
+    requires { IsNamed opened J.record_id J.books J.specs }
 {
     match open_two::<J>(alloc, opened) {
         Ok((mut desk, seat)) => shown_to(rt, &mut desk, seat),
@@ -280,7 +281,7 @@ fn shown_recorded<J: Naming, R: Wait>(
 
 /// The same of a new record.
 fn is_shown<R: Wait>(rt: &R, alloc: Global) -> Option<(bool, u64, u64)> {
-    match open_record(alloc) {
+    match open_record(alloc, &[TWELVE]) {
         Some(opened) => shown_recorded::<Brand, R>(rt, alloc, opened),
         None => None,
     }
@@ -311,9 +312,9 @@ fn answered_by<J: Naming>(
 fn behind_recorded<J: Naming, R: Wait>(
     rt: &R,
     alloc: Global,
-    opened: Opened,
+    opened: Planned,
 ) -> Option<(bool, u64, u64)>
-    requires { (opened.first.table_id ≡ J.record_id) × (opened.books ≡ J.books) }
+    requires { IsNamed opened J.record_id J.books J.specs }
 {
     match two_desks::<J>(alloc, opened, (2, 2), false) {
         Ok((desk, other)) => answered_by(rt, desk, &other),
@@ -323,7 +324,7 @@ fn behind_recorded<J: Naming, R: Wait>(
 
 /// The same of a new record.
 fn is_behind<R: Wait>(rt: &R, alloc: Global) -> Option<(bool, u64, u64)> {
-    match open_record(alloc) {
+    match open_record(alloc, &[plan_of(2), plan_of(2)]) {
         Some(opened) => behind_recorded::<Brand, R>(rt, alloc, opened),
         None => None,
     }
