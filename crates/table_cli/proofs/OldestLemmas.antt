@@ -1,9 +1,9 @@
 -- On rows beside the stamps of their entries, and on the rows of shards, one behind the other.
-use Rattle.std.proofs.Common.{◌≡◌, ◌∙◌, ◌<◌, ◌≤◌, ◌+◌, ℕ, suc, Bool, true, filter, Option, Some, None, List, [], ◌∷◌, ◌++◌, map, length, get_or, position, refl, sym, ap, subst, inl, inr, arith}
+use Rattle.std.proofs.Common.{◌≡◌, ◌∙◌, ◌<◌, ◌+◌, ℕ, suc, true, filter, Some, None, List, [], ◌∷◌, ◌++◌, map, length, get_or, position, refl, sym, ap, subst, arith}
 use Rattle.std.specs.Str.{bytes_eq}
 use Rattle.stick_model.specs.Key.{Key}
 use Rattle.stick_model.specs.State.{State, advance, row}
-use Rattle.stick_model.specs.Step.{Outcome, Step, begun}
+use Rattle.stick_model.specs.Step.{Outcome, Step}
 use Rattle.stick_model.specs.declared.rows.Record.{Record}
 use Rattle.stick_model.specs.declared.rows.Row.{Row}
 use Rattle.stick_model.specs.declared.specification.Spec.{Spec}

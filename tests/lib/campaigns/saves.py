@@ -13,7 +13,7 @@ AT_ONCE = 50
 SIZES = [3, 4, 5, 8, 13]
 # How many new keys are put into each table, one behind the other. Its rows are compared behind each.
 NEW = 5
-# The longest expire, in ms: no entry's time is over before the campaign is.
+# The ms of the longest expire: no entry's time is over before the campaign is.
 LIFE = 3_600_000
 KEYS = {'integer': '{}', 'ip': '10.0.0.{}', 'string len 8': 'key{}'}
 UNKNOWN = b'# not known: '
@@ -68,12 +68,12 @@ def saved_over(socket):
 
 
 def loaded(room, saved, tables, kept):
-    """What the tables are answered that are loaded from what was saved, all in one script."""
+    """What the tables are answered that are loaded from what was saved. All is done at the moment from which the tables go on."""
     conf = write_file(room, 'tables.cfg', ''.join(table.section() for table in tables))
     path = os.path.join(room, 'tables.saved')
     with open(path, 'wb') as file:
         file.write(saved)
-    script = ''.join(f'{LIFE} cmd {command}\n' for table in tables for command in table.asked)
+    script = ''.join(f'0 cmd {command}\n' for table in tables for command in table.asked)
     ran = run([stickd(), 'replay', conf, '--load', path, *kept], script.encode())
     assert (ran.status, ran.stderr) == (0, b''), ran
     return ran.stdout.decode()
