@@ -13,6 +13,7 @@ use stick_model::{Reply, Ticket};
 
 impl StickTable {
     /// What a look at a key is answered, once the clock has come to this moment.
+    #[inline(always)]
     fn row_reply(&self, clock: u64, key: &StickKey) -> Result<Reply, NoMemory>
         requires past { self.now.clock ≤ clock }
         requires limit { clock < 2 ^ 62 }
@@ -26,6 +27,7 @@ impl StickTable {
     }
 
     /// What a look at a ticket is answered, once the clock has come to this moment.
+    #[inline(always)]
     fn look_reply(&self, clock: u64, ticket: Ticket) -> Result<Reply, NoMemory>
         requires past { self.now.clock ≤ clock }
         requires out { key_of ticket self.now.tickets ≢ None }

@@ -33,6 +33,7 @@ fn hold(store: &mut Store, slot: u32, event: u64, moment: u64)
 
 impl StickTable {
     /// Makes a reference to a key, which counts a connection, where there is room.
+    #[inline(always)]
     pub(crate) fn enter(
         &mut self,
         now: u64,
@@ -54,6 +55,7 @@ impl StickTable {
     }
 
     /// Makes a reference to the entry of a key, where it has one.
+    #[inline(always)]
     fn enter_there(&mut self, key: &StickKey) -> Option<Ticket>
         requires life { self.old.events + length self.old.tickets + 2 ≤ self.old.spec.life }
         requires left { length self.old.tickets < self.old.spec.max_refs }
@@ -71,7 +73,9 @@ impl StickTable {
         Some(self.book.insert(self.events, handle.slot))
     }
 
-    /// Makes a reference to a new entry of a key that has none, where there is room.
+    /// Makes a reference to a new entry of a key that has none, where there is room. It stands apart, so that it takes no
+    /// registers from the few steps of an entry that is there.
+    #[inline(never)]
     fn enter_new(&mut self, key: StickKey) -> Option<Ticket>
         requires life { self.old.events + length self.old.tickets + 2 ≤ self.old.spec.life }
         requires left { length self.old.tickets < self.old.spec.max_refs }
