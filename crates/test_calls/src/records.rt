@@ -14,6 +14,7 @@ use shard_record::{Dealer, Naming, Opened};
 use std::alloc::{AllocError, Global};
 use stick_key::size_of_shard;
 use stick_table::{Spec, Table};
+use stored_data::Column;
 
 /// How many books a test's record has, and how many seats.
 const BOOKS: u32 = 8;
@@ -103,17 +104,36 @@ pub fn open_record_of(alloc: Global, whole: &Spec, shards: u32, tables: u32) -> 
     Some(planned)
 }
 
+/// Whether two tables store the same.
+fn is_stored_alike(columns: &[Column], others: &[Column]) -> bool
+    ensures { result ≡ true → columns.now ≡ others.now }
+{
+    columns == others
+}
+
+/// Whether two tables keep the same kind of entries as long.
+fn is_of_kind(part: &Spec, whole: &Spec) -> bool
+    ensures { result ≡ true → (part.now.kind ≡ whole.now.kind) × (part.now.expire ≡ whole.now.expire) × (part.now.columns ≡ whole.now.columns) }
+{
+    part.kind == whole.kind
+        && part.expire == whole.expire
+        && is_stored_alike(part.columns.columns(), whole.columns.columns())
+}
+
+/// Whether two tables make room alike, and give as many references.
+fn is_full_alike(part: &Spec, whole: &Spec) -> bool
+    ensures { result ≡ true → (part.now.nopurge ≡ whole.now.nopurge) × (part.now.purge ≡ whole.now.purge) × (part.now.max_refs ≡ whole.now.max_refs) }
+{
+    part.nopurge == whole.nopurge && part.purge == whole.purge && part.max_refs == whole.max_refs
+}
+
 /// Whether a specification is another one with this size.
 fn is_part(part: &Spec, whole: &Spec, size: u32) -> bool
     ensures { result ≡ true → part.now ≡ record whole.now { size = size } }
 {
-    part.kind == whole.kind
-        && part.size == size
-        && part.expire == whole.expire
-        && part.nopurge == whole.nopurge
-        && part.purge == whole.purge
-        && part.columns.columns() == whole.columns.columns()
-        && part.max_refs == whole.max_refs
+    part.size == size
+        && is_of_kind(part, whole)
+        && is_full_alike(part, whole)
         && part.life == whole.life
         && part.seed == whole.seed
 }
