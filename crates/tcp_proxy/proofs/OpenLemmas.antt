@@ -1,5 +1,5 @@
 -- The tables of a setup, opened one after another.
-use Rattle.std.proofs.Common.{◌≡◌, ℕ, zero, suc, ◌+◌, ◌*◌, ◌/◌, ◌%◌, ◌≤◌, ◌<◌, refl, sym, subst, ap, ◌∙◌, Bool, All, List, [], ◌∷◌, ◌++◌, length, map, take, get_or, vec_len, slice_get, Option, Some, None, arith}
+use Rattle.std.proofs.Common.{◌≡◌, ℕ, suc, ◌+◌, ◌*◌, ◌/◌, ◌%◌, ◌≤◌, ◌<◌, refl, sym, subst, ap, ◌∙◌, Bool, All, List, [], ◌∷◌, ◌++◌, length, map, take, get_or, vec_len, slice_get, Option, Some, None, arith}
 use Rattle.std.specs.Global.{Vec}
 use Rattle.std.proofs.Math.Nat.{mul-le-mul_left, mul-suc, mul_comm}
 use Rattle.std.proofs.lemmas.Grind.{get_or_default_zero}

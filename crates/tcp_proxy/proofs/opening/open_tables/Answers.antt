@@ -1,4 +1,4 @@
-use Rattle.std.proofs.Common.{◌≡◌, ◌≤◌, ◌<◌, ◌∙◌, ap, sym, subst, ◌+◌, ◌*◌, List, get_or, length, take, arith}
+use Rattle.std.proofs.Common.{◌≡◌, ◌≤◌, ◌<◌, ◌∙◌, ap, rules, subst, ◌+◌, ◌*◌, List, get_or, length, take, arith}
 use Rattle.std.proofs.lemmas.List.{take_all}
 use Rattle.rule_model.specs.declared.sections.NamedSpec.{NamedSpec}
 use Rattle.tcp_proxy.specs.Opened.{AreDeclared}
@@ -10,8 +10,8 @@ loop-table-preserved g c =
     let were = c.loop-table.invariant in
     let items = c.args.setup.now.tables in
     let within : c.loop-table.table < length items = omega (arith, c.loop-table-test.true, ap length c.as_slice-tables.ensures) in
-    let named : c.index.result.now ≡ get_or items c.loop-table.table c.index.result.now = c.index.ensures ∙ ap (λ (them : List NamedSpec). get_or them c.loop-table.table c.index.result.now) c.as_slice-tables.ensures in (
-      declared_more c.args.setup.now.shards c.args.keep items c.loop-table.table c.index.result.now c.loop-table.opened.tables.items c.add.new.self.tables.items c.in_ok-one.one.table
+    let named : c.index-tables-table.result ≡ get_or items c.loop-table.table c.index-tables-table.result = c.index-tables-table.is ∙ ap (λ (them : List NamedSpec). get_or them c.loop-table.table c.index-tables-table.result) c.as_slice-tables.ensures in (
+      declared_more c.args.setup.now.shards c.args.keep items c.loop-table.table c.index-tables-table.result c.loop-table.opened.tables.items c.add.new.self.tables.items c.in_ok-one.one.table
           were.0 within named c.in_ok-one.ensures.table c.in_ok-add.ensures.tables,
       one_more c.loop-table.opened.workers.items c.add.new.self.workers.items c.in_ok-one.one.workers c.loop-table.table were.1 c.in_ok-add.ensures.workers,
       seats_more c.loop-table.opened.workers.items c.add.new.self.workers.items c.in_ok-one.one.workers c.args.workers were.2 c.in_ok-one.ensures.workers c.in_ok-add.ensures.workers,
@@ -30,10 +30,11 @@ pub open_table-requires-clause-parts : goal.open_table-requires-clause-parts
 open_table-requires-clause-parts g c =
     let items = c.args.setup.now.tables in
     let within : c.loop-table.table < length items = omega (arith, c.loop-table-test.true, ap length c.as_slice-tables.ensures) in
-    let named : c.index.result.now ≡ get_or items c.loop-table.table c.index.result.now = c.index.ensures ∙ ap (λ (them : List NamedSpec). get_or them c.loop-table.table c.index.result.now) c.as_slice-tables.ensures in
+    let named : c.index-tables-table.result ≡ get_or items c.loop-table.table c.index-tables-table.result = c.index-tables-table.is ∙ ap (λ (them : List NamedSpec). get_or them c.loop-table.table c.index-tables-table.result) c.as_slice-tables.ensures in
+    let none : 0 + c.args.setup.now.shards * c.loop-table.table ≡ c.args.setup.now.shards * c.loop-table.table = omega arith in
     let begins : c.loop-table.dealer.kept ≡ c.args.setup.now.shards * c.loop-table.table =
-    ap (λ d. d.kept) c.loop-table.invariant.6 ∙ ap (λ n. n + c.args.setup.now.shards * c.loop-table.table) c.requires.first in
-    table_parts c.args.setup.now c.args.seeds.now g.J.Naming.specs c.loop-table.dealer.kept c.loop-table.table c.index-2.result.now c.index.result.now c.requires.specs begins within c.requires.seeds named c.index-2.ensures
+    ap (λ d. d.kept) c.loop-table.invariant.6 ∙ ap (λ n. n + c.args.setup.now.shards * c.loop-table.table) c.requires.first ∙ none in
+    table_parts c.args.setup.now c.args.seeds.now g.J.Naming.specs c.loop-table.dealer.kept c.loop-table.table _ c.index-tables-table.result c.requires.specs begins within c.requires.seeds named (search rules)
 
 pub returns-clause-served : goal.returns-clause-served
 returns-clause-served g c =
