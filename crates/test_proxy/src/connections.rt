@@ -102,8 +102,8 @@ fn two_then_one_recorded<
     J: Naming + Send + Sync,
     R: Net<Listener = TcpListener, Stream = TcpStream> + Threads + Wait + Clock + Sync,
 >(rt: &R, alloc: Global, opened: Planned) -> Option<(u64, u64, u64, u64)>
-    requires record { IsNamed opened J.record_id J.books J.specs }
-    requires planned { IsPlanned opened }
+    requires record { IsNamed opened.opened opened.spec J.record_id J.books J.specs }
+    requires planned { IsPlanned opened.opened opened.spec }
 {
     let site = open_site(rt, alloc, Some(1), None)?;
     let OpenTable {
@@ -151,8 +151,8 @@ fn none_behind_recorded<
     J: Naming + Send + Sync,
     R: Net<Listener = TcpListener, Stream = TcpStream> + Threads + Wait + Clock + Sync,
 >(rt: &R, alloc: Global, opened: Planned) -> Option<(u64, u64, u64)>
-    requires record { IsNamed opened J.record_id J.books J.specs }
-    requires planned { IsPlanned opened }
+    requires record { IsNamed opened.opened opened.spec J.record_id J.books J.specs }
+    requires planned { IsPlanned opened.opened opened.spec }
 {
     let site = open_site(rt, alloc, None, None)?;
     let OpenTable {
@@ -188,8 +188,8 @@ fn all_rejected_recorded<
     J: Naming + Send + Sync,
     R: Net<Listener = TcpListener, Stream = TcpStream> + Threads + Wait + Clock + Sync,
 >(rt: &R, alloc: Global, opened: Planned) -> Option<(u64, u64, u64)>
-    requires record { IsNamed opened J.record_id J.books J.specs }
-    requires planned { IsPlanned opened }
+    requires record { IsNamed opened.opened opened.spec J.record_id J.books J.specs }
+    requires planned { IsPlanned opened.opened opened.spec }
 {
     let Ok(server) = TcpListener::bind(rt, "127.0.0.1:0") else {
         return None;
@@ -273,8 +273,8 @@ fn carried_recorded<
     J: Naming + Send + Sync,
     R: Net<Listener = TcpListener, Stream = TcpStream> + Threads + Wait + Clock + Sync,
 >(rt: &R, alloc: Global, opened: Planned) -> Option<(u64, u64, u64)>
-    requires record { IsNamed opened J.record_id J.books J.specs }
-    requires planned { IsPlanned opened }
+    requires record { IsNamed opened.opened opened.spec J.record_id J.books J.specs }
+    requires planned { IsPlanned opened.opened opened.spec }
 {
     let Ok(server) = TcpListener::bind(rt, "127.0.0.1:0") else {
         return None;

@@ -69,8 +69,8 @@ fn serves_recorded<
     until: u64,
     opened: Planned,
 ) -> Option<u64>
-    requires record { IsNamed opened J.record_id J.books J.specs }
-    requires planned { IsPlanned opened }
+    requires record { IsNamed opened.opened opened.spec J.record_id J.books J.specs }
+    requires planned { IsPlanned opened.opened opened.spec }
 {
     let rt = site.rt;
     let OpenTable { table, seats, .. } = open::<J>(site.alloc, opened)?;

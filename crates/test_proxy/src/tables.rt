@@ -33,7 +33,7 @@ pub struct Planned {
 
 /// The record of the calls of the table `t`.
 pub fn open_record(alloc: Global) -> Option<Planned>
-    ensures planned { IfSome result IsPlanned }
+    ensures planned { IfSome result (λ planned. IsPlanned planned.opened planned.spec) }
 {
     let Ok(spec) = spec(alloc) else {
         return None;
@@ -44,8 +44,8 @@ pub fn open_record(alloc: Global) -> Option<Planned>
 
 /// The empty table `t`, whose seats keep receipts.
 pub fn open<J: Naming + Send + Sync>(alloc: Global, planned: Planned) -> Option<OpenTable<J>>
-    requires record { IsNamed planned J.record_id J.books J.specs }
-    requires planned { IsPlanned planned }
+    requires record { IsNamed planned.opened planned.spec J.record_id J.books J.specs }
+    requires planned { IsPlanned planned.opened planned.spec }
 {
     let Planned { opened, spec } = planned;
     let Ok(mut dealer) = Dealer::<J>::new(alloc, opened) else {
