@@ -66,7 +66,7 @@ def passes(trial):
 
 
 def passes_in_time(trial, once):
-    """Makes a trial and, where it fails, once more: each waits for what a machine that is busy does late, and what is wrong fails
+    """Makes a trial and, where it fails, once more: each waits for what a busy machine does late, and what is always wrong fails
     twice. What failed is said either way."""
     if passes(trial):
         return True
