@@ -1,4 +1,5 @@
 """Clients of all fates, on 64 threads of the program, counted by themselves: what the program tells of them is compared."""
+import codecs
 import collections
 import contextlib
 import multiprocessing
@@ -22,6 +23,8 @@ LIMIT, DRAINED, SILENT = 2, 200, '3s'
 # Clients of which a scrape sees the acceptance and not yet the verdict, at most: all that there are, and as many that come meanwhile.
 JUDGED = 2 * PROCESSES * AT_ONCE
 FORK = multiprocessing.get_context('fork')
+# Names of hosts are encoded by this. Threads of a process that was forked may fail to find it, unless it was looked up before.
+codecs.lookup('idna')
 WORDS = {'accepted': 'accepted', 'admitted': 'admitted', 'rejected': 'rejected', 'refused': 'refused by the server',
          'silent': 'ended by a silent client', 'drained': 'closed by the drain', 'ended': 'ended'}
 METRICS = {'accepted': 'stickd_connections_accepted_total', 'admitted': 'stickd_connections_admitted_total',
