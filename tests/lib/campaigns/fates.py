@@ -101,10 +101,12 @@ def one_too_many(proxy, source, mine):
 
 
 def is_silent(proxy, source, mine):
-    """A client that says nothing, until it is closed for that."""
+    """A client that says nothing, until it is closed for that. Where the machine is so busy that each stall of a thread begins its time
+    anew, it ends by itself at last."""
     with proxy.connect(source) as client:
         mine['admitted'] += is_greeted(client)
-        mine['silent'] += read_all(client) == b''
+        with contextlib.suppress(TimeoutError):
+            mine['silent'] += read_all(client) == b''
     mine['accepted'] += 1
 
 
