@@ -228,9 +228,10 @@ def expected(mine):
 
 
 def are_those_of(told, mine):
-    """Whether the counts that are told are those of the clients. One that ended by itself at last may be told as silent."""
+    """Whether the counts that are told are those of the clients, and no more silent ones ended by themselves at last than were closed.
+    One of those may be told as silent."""
     late = told['silent'] - mine['silent']
-    return 0 <= late <= mine['late'] and {**told, 'silent': mine['silent']} == expected(mine)
+    return 0 <= late <= mine['late'] <= mine['silent'] and {**told, 'silent': mine['silent']} == expected(mine)
 
 
 def fates(given):
