@@ -2,10 +2,11 @@
 //! gives its own back. However their calls fall between one another, no more stay than the limit says.
 
 ghost use Rattle.std.specs.Prelude.{◌≡◌};
+ghost use Rattle.test_calls.specs.Planned.{IsNamed};
 
 use crate::locks::{give_back, track_key};
 use shard_locks::{Shards, SharedRef, SharedSeat};
-use shard_record::{Naming, Opened};
+use shard_record::Naming;
 use std::alloc::Global;
 use std::fmt::{Display, Formatter, Write};
 use std::marker::Brand;
@@ -14,7 +15,7 @@ use std::thread::Threads;
 use std::{fmt, io, thread};
 use stick_pooled::StickTable;
 use stick_table::{Refusal, Table};
-use test_calls::{Records, key, spec};
+use test_calls::{Planned, Records, key, spec};
 
 /// How many clients come at once, each on a thread of its own, and how many of them may stay.
 const CLIENTS: u32 = 16;
@@ -114,9 +115,9 @@ fn references_out<T: Table, J: Naming>(rt: &impl Wait, table: &Shards<T, J>) -> 
 fn round_recorded<J: Naming + Send + Sync, T: Table + Send, R: Threads + Wait + Sync>(
     rt: &R,
     alloc: Global,
-    opened: Opened,
+    opened: Planned,
 ) -> Result<Stayed, Refusal>
-    requires record { (opened.first.table_id ≡ J.record_id) × (opened.books ≡ J.books) }
+    requires record { IsNamed opened J.record_id J.books J.specs }
 {
     let spec = spec(alloc, PLACES, REFERENCES, 1 << 62)?;
     let records = Records::<J>::new(alloc, opened)?;
@@ -133,9 +134,8 @@ fn run_round<T: Table + Send, R: Threads + Wait + Sync>(
     rt: &R,
     alloc: Global,
 ) -> Result<Stayed, Refusal> {
-    let Ok(opened) = Opened::new(alloc, SHARDS, CLIENTS) else {
-        return Err(Refusal::Memory);
-    };
+    let spec = spec(alloc, PLACES, REFERENCES, 1 << 62)?;
+    let opened = Planned::alone(alloc, &spec, SHARDS, CLIENTS)?;
     round_recorded::<Brand, T, R>(rt, alloc, opened)
 }
 

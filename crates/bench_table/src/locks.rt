@@ -7,13 +7,14 @@ mod opening;
 mod runner;
 
 ghost use Rattle.std.specs.Prelude.{◌≡◌, ◌≤◌};
+ghost use Rattle.test_calls.specs.Planned.{IsNamed};
 
 use base_sequence::NoMemory;
 pub use locked::{give_back, track_key};
-use opening::{bare_callers, locked_callers, open_table};
+use opening::{bare_callers, locked_callers, open_record, open_table};
 use runner::{Timed, Work, measure};
 use shard_locks::{Shards, SharedSeat};
-use shard_record::{Naming, Opened};
+use shard_record::Naming;
 use std::io;
 use std::io::Print;
 use std::marker::Brand;
@@ -22,6 +23,7 @@ use std::sync::Wait;
 use std::thread::Threads;
 use stick_pooled::StickTable;
 use stick_table::Table;
+use test_calls::Planned;
 
 /// How many rounds there are where no times are printed.
 const FEW: u32 = 100;
@@ -78,10 +80,10 @@ fn locked_recorded<
     J: Naming + Send + Sync,
     T: Table + Send,
     R: Threads + Wait + Clock + Sync + AllocGlobal,
->(rt: &R, setting: Setting, work: Work, opened: Opened) -> io::Result<Timed>
+>(rt: &R, setting: Setting, work: Work, opened: Planned) -> io::Result<Timed>
     requires shards { (1 ≤ setting.shards) × (setting.shards ≤ 64) }
     requires threads { (1 ≤ setting.threads) × (setting.threads ≤ 64) }
-    requires record { (opened.first.table_id ≡ J.record_id) × (opened.books ≡ J.books) }
+    requires record { IsNamed opened J.record_id J.books J.specs }
 {
     let (table, seats) = open_table::<T, J>(rt.alloc(), setting.shards, setting.threads, opened)?;
     Ok(time_seats(rt, &table, seats, work, setting.rounds.unwrap_or(FEW))?)
@@ -96,7 +98,7 @@ fn time_locked<T: Table + Send, R: Threads + Wait + Clock + Sync + AllocGlobal>(
     requires shards { (1 ≤ setting.shards) × (setting.shards ≤ 64) }
     requires threads { (1 ≤ setting.threads) × (setting.threads ≤ 64) }
 {
-    let opened = Opened::new(rt.alloc(), setting.shards, setting.threads)?;
+    let opened = open_record(rt.alloc(), setting.shards, setting.threads)?;
     locked_recorded::<Brand, T, R>(rt, setting, work, opened)
 }
 

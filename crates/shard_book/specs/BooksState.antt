@@ -46,6 +46,10 @@ pub record ExtendsAt (old : BooksState) (i seat : ℕ) (event : Event) (reply : 
 abbrev pub At : List State → ℕ → (State → Type 0) → Type 0
 At states i P = (live : State) × (slice_get states i ≡ Some live) × P live
 
+-- what shard `i` is now
+abbrev pub IsLiveAt : BooksState → ℕ → State → Type 0
+IsLiveAt table i live = (book : BookState) × (slice_get table.books i ≡ Some book) × (live ≡ book.live)
+
 -- why a shard may refuse an event: as its book does
 abbrev pub IsRefusedAt : List State → ℕ → Event → Refusal → Type 0
 IsRefusedAt states i event refusal = At states i (λ live. IsCallRefused live event refusal)

@@ -1,6 +1,8 @@
 -- A book beside the record of all its calls since it was opened.
 use Rattle.std.specs.Prelude.{◌≡◌, ℕ, List, [], ◌∷◌, ◌++◌, map}
+use Rattle.stick_model.specs.State.{State}
 use Rattle.stick_model.specs.Step.{slot_of}
+use Rattle.stick_model.specs.declared.specification.Spec.{Spec}
 use Rattle.stick_model.specs.declared.events.Stored.{Stored}
 use Rattle.stick_model.specs.declared.events.Event.{Event}
 use Rattle.stick_model.specs.declared.events.Event.TheVariants.{Expire}
@@ -19,15 +21,22 @@ pub record KeptState : Type 0 where
 abbrev pub stored : Call → Stored
 stored one = record { event = one.event; slot = slot_of one.reply }
 
+-- the calls are all those of one table since it was opened, and that was made with this
+pub record IsMadeWith (spec : Spec) (log : List Call) : Type 0 where
+  pub live : State
+  pub history : IsHistoryOf log live
+  pub made : live.spec ≡ spec
+
 -- the record is what was before the book's base, and then the calls that the book has since. What was before leads to the base,
--- and all of it to what the table is now
-pub record IsKept (book : BookState) (log : List Call) : Type 0 where
+-- and all of it to what the table is now; and that was made with this
+pub record IsKept (spec : Spec) (book : BookState) (log : List Call) : Type 0 where
   pub before : List Call
   pub since : List Call
   pub parts : log ≡ before ++ since
   pub base : IsHistoryOf before book.base
   pub calls : stored_of book.calls ≡ map stored since
   pub live : IsHistoryOf log book.live
+  pub made : book.live.spec ≡ spec
 
 -- the event of the call that was recorded last, if there is one
 abbrev pub last_of : Event → List Recorded → Event

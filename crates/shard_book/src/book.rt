@@ -2,6 +2,7 @@
 
 ghost use Rattle.std.specs.Prelude.{◌≡◌, ◌≤◌, ◌^◌, true, is_some, length, IfOk, IfErr, OnOk, OnErr, IsOk};
 ghost use Rattle.stick_model.specs.State.{key_of};
+ghost use Rattle.stick_model.specs.Legal.{IsLegal};
 ghost use Rattle.stick_model.specs.Limits.{IsTableSpec, IsTableEvent};
 ghost use Rattle.stick_model.specs.Refusals.{has_life};
 ghost use Rattle.stick_model.specs.declared.events.Event.TheVariants.{Release};
@@ -12,6 +13,7 @@ use crate::{Occupancy, Recorded};
 use base_sequence::NoMemory;
 use std::alloc::Global;
 use std::marker::Model;
+use std::mem;
 use stick_table::{Event, PlainTable, Refusal, Reply, Spec, Table};
 
 /// A table, what it was at its base, and the calls recorded since: those that were answered, in their order.
@@ -92,16 +94,18 @@ impl<T: Table> Book<T> {
     }
 
     /// Makes the live state the base, and empties the record. The record's memory stays, and so its places for the
-    /// releases of the tickets that are out. The table is copied: of 100,000 entries that takes some ms. Where a growth
-    /// is refused, nothing changes.
-    pub fn roll(&mut self) -> Result<(), NoMemory>
+    /// releases of the tickets that are out. The table is copied: of 100,000 entries that takes some ms. The base before comes
+    /// back, so that whoever holds a lock can drop it behind that. Where a growth is refused, nothing changes.
+    pub fn roll(&mut self) -> Result<PlainTable, NoMemory>
         ensures book { IsBook self.new }
         ensures ok { OnOk result (self.new ≡ rolled self.old) }
+        ensures before { IfOk result (λ base. base ≡ self.old.base) }
         ensures err { OnErr result (self.new ≡ self.old) }
     {
-        self.base = self.live.to_plain()?;
+        let base = self.live.to_plain()?;
+        let before = mem::replace(&mut self.base, base);
         self.calls.clear();
-        Ok(())
+        Ok(before)
     }
 
     /// How many events the live table has counted.
@@ -121,6 +125,15 @@ impl<T: Table> Book<T> {
             references: self.live.references(),
             purged: self.live.purged(),
         }
+    }
+
+    /// A plain copy of the table as it is now.
+    pub fn copied(&self) -> Result<PlainTable, NoMemory>
+        ensures copy { IfOk result (λ table. table ≡ self.now.live) }
+        ensures limits { IfOk result (λ table. IsTableSpec table.spec) }
+        ensures legal { IfOk result (λ table. IsLegal table) }
+    {
+        self.live.to_plain()
     }
 
     /// The table from which the record begins.

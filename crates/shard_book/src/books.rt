@@ -13,7 +13,7 @@ use base_sequence::NoMemory;
 use std::alloc::Global;
 use std::marker::Model;
 use stick_key::size_of_shard;
-use stick_table::{Event, Refusal, Reply, Spec, Table};
+use stick_table::{Event, PlainTable, Refusal, Reply, Spec, Table};
 
 /// The seat for which commands are recorded.
 const COMMANDS: u32 = 0;
@@ -63,7 +63,7 @@ fn roll_each<T: Table>(books: &mut Vec<Book<T>>) -> Result<(), NoMemory>
 {
     for shard in 0..books.as_slice().len() {
         match books[shard].roll() {
-            Ok(()) => {}
+            Ok(_base) => {}
             Err(error) => return Err(error),
         }
     }
@@ -142,7 +142,7 @@ impl<T: Table> Books<T> {
 
 impl<T: Table> Keeper for Books<T> {
     ghost use Rattle.std.specs.Prelude.{length};
-    ghost use Rattle.shard_book.specs.BooksState.{AreBooks, BooksState, ExtendsAt, IsRefusedAt, live_states};
+    ghost use Rattle.shard_book.specs.BooksState.{AreBooks, BooksState, ExtendsAt, IsLiveAt, IsRefusedAt, live_states};
 
     ghost table = { λ table. table.spec };
 
@@ -156,6 +156,9 @@ impl<T: Table> Keeper for Books<T> {
     ghost answers = { λ old i event reply new. ExtendsAt old i 0 event reply new × AreBooks new };
 
     ghost refuses = { λ old i event refusal. IsRefusedAt (live_states old) i event refusal };
+
+    // That shard's own table.
+    ghost holds = { λ old i live. IsLiveAt old i live };
 
     fn size(&self) -> u32 {
         self.spec.size
@@ -171,6 +174,10 @@ impl<T: Table> Keeper for Books<T> {
 
     fn occupancy(&self, shard: u32) -> Occupancy {
         self.shard_occupancy(shard)
+    }
+
+    fn copied(&self, shard: u32) -> Result<PlainTable, NoMemory> {
+        self.book(shard).copied()
     }
 
     fn ask(&mut self, shard: u32, event: Event) -> Result<Reply, Refusal> {

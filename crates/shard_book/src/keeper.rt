@@ -2,11 +2,14 @@
 //! implement it.
 
 use crate::Occupancy;
-use stick_table::{Event, Refusal, Reply, Spec};
+use base_sequence::NoMemory;
+use stick_table::{Event, PlainTable, Refusal, Reply, Spec};
 
 /// A table in shards, wherever they are kept: what commands ask.
 pub trait Keeper {
     ghost use Rattle.std.specs.Prelude.{◌≡◌, ◌≤◌, ◌<◌, ℕ, IfOk, IfErr, OnErr};
+    ghost use Rattle.stick_model.specs.State.{State as TableState};
+    ghost use Rattle.stick_model.specs.Legal.{IsLegal};
     ghost use Rattle.stick_model.specs.Limits.{IsTableSpec, IsTableEvent};
     ghost use Rattle.stick_model.specs.declared.specification.Spec.{Spec as ItsSpec};
     ghost use Rattle.stick_model.specs.declared.events.Event.{Event as AnEvent};
@@ -30,6 +33,9 @@ pub trait Keeper {
     // In a state, a shard may refuse an event so.
     ghost refuses: { State → ℕ → AnEvent → ARefusal → Type 0 };
 
+    // In a state, a shard may be this table.
+    ghost holds: { State → ℕ → TableState → Type 0 };
+
     /// The greatest number of entries of all shards together.
     fn size(&self) -> u32
         ensures { result ≡ (table self.now).size };
@@ -50,6 +56,13 @@ pub trait Keeper {
     /// event, and changes nothing.
     fn occupancy(&self, shard: u32) -> Occupancy
         requires { shard < parts self.now };
+
+    /// A plain copy of what a shard is, within the limits and in a legal state. To make it is no event, and changes nothing.
+    fn copied(&self, shard: u32) -> Result<PlainTable, NoMemory>
+        requires { shard < parts self.now }
+        ensures holds { IfOk result (holds (state self.now) shard) }
+        ensures limits { IfOk result (λ table. IsTableSpec table.spec) }
+        ensures legal { IfOk result (λ table. IsLegal table) };
 
     /// Asks a shard an event that names no ticket, and of a key only where the key lies on it. A refusal changes nothing.
     fn ask(&mut self, shard: u32, event: Event) -> Result<Reply, Refusal>

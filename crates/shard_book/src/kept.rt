@@ -12,14 +12,14 @@ ghost use Rattle.shard_record.specs.Parts.{holder};
 ghost use Rattle.shard_record.specs.Views.{only};
 ghost use Rattle.shard_record.specs.Telling.{HasAnswered, IsNoRelease, IsReference, IsSeer, IsSettled, IsTold, key_at, log_of, number_of, ticket_at};
 ghost use Rattle.shard_book.specs.BookState.{Extends, opened, rolled};
-ghost use Rattle.shard_book.specs.Kept.{IsKept, last_event as event_of_last};
+ghost use Rattle.shard_book.specs.Kept.{IsKept, IsMadeWith, last_event as event_of_last};
 ghost use Rattle.shard_book.specs.Told.{IsRefusedBy, IsRefusedTo, Told};
 
 use crate::{Book, Occupancy, Seat, serve};
 use base_sequence::NoMemory;
 use shard_record::{Keeper, Naming, Record, Token};
 use std::marker::Model;
-use stick_table::{Event, Refusal, Reply, Table, Ticket};
+use stick_table::{Event, PlainTable, Refusal, Reply, Table, Ticket};
 
 /// A book beside what keeps its record.
 #[derive(Drop)]
@@ -35,14 +35,15 @@ impl<T: Table, J: Naming> Model for Kept<T, J> {
 
     ghost view = { λ kept. record { book = kept.book; number = kept.keeper.book; log = kept.keeper.log } };
 
-    ghost invariant = { λ kept. IsKept kept.book kept.keeper.log };
+    ghost invariant = { λ kept. IsKept (J.specs kept.keeper.book) kept.book kept.keeper.log };
 }
 
 impl<T: Table, J: Naming> Kept<T, J> {
-    /// The book of an empty table, and what keeps an empty record.
+    /// The book of an empty table, and what keeps an empty record. The table was made as the record has it.
     pub fn new(book: Book<T>, keeper: Keeper<J>) -> Kept<T, J>
         requires limits { IsTableSpec book.base.spec }
         requires book { book ≡ opened book.base.spec }
+        requires made { book.base.spec ≡ J.specs keeper.book }
         requires keeper { keeper.log ≡ [] }
         ensures { result ≡ record { book = book; number = keeper.book; log = [] } }
     {
@@ -51,7 +52,7 @@ impl<T: Table, J: Naming> Kept<T, J> {
 
     /// A book and what keeps its record, together again.
     pub fn from_parts(book: Book<T>, keeper: Keeper<J>) -> Kept<T, J>
-        requires kept { IsKept book keeper.log }
+        requires kept { IsKept (J.specs keeper.book) book keeper.log }
         ensures { result ≡ record { book = book; number = keeper.book; log = keeper.log } }
     {
         Kept { book, keeper }
@@ -61,7 +62,7 @@ impl<T: Table, J: Naming> Kept<T, J> {
     pub fn into_parts(self) -> (Book<T>, Keeper<J>)
         ensures book { result.0 ≡ self.book }
         ensures keeper { result.1 ≡ record { book = self.number; log = self.log } }
-        ensures kept { IsKept result.0 result.1.log }
+        ensures kept { IsKept (J.specs result.1.book) result.0 result.1.log }
     {
         let Kept { book, keeper } = self;
         (book, keeper)
@@ -70,7 +71,7 @@ impl<T: Table, J: Naming> Kept<T, J> {
     /// The book.
     pub fn book(&self) -> &Book<T>
         ensures book { result.now ≡ self.now.book }
-        ensures kept { IsKept result.now self.now.log }
+        ensures kept { IsKept (J.specs self.now.number) result.now self.now.log }
     {
         &self.book
     }
@@ -89,9 +90,10 @@ impl<T: Table, J: Naming> Kept<T, J> {
         self.keeper.is_of(number)
     }
 
-    /// Rolls the book, as `Book::roll` does. Its record stays.
-    pub fn roll(&mut self) -> Result<(), NoMemory>
+    /// Rolls the book, as `Book::roll` does, whose base before comes back. Its record stays.
+    pub fn roll(&mut self) -> Result<PlainTable, NoMemory>
         ensures ok { OnOk result (self.new.book ≡ rolled self.old.book) }
+        ensures before { IfOk result (λ base. base ≡ self.old.book.base) }
         ensures err { OnErr result (self.new.book ≡ self.old.book) }
         ensures record { (self.new.log ≡ self.old.log) × (self.new.number ≡ self.old.number) }
     {
@@ -118,6 +120,7 @@ impl<T: Table, J: Naming> Kept<T, J> {
         ensures recorded { IfOk result (λ told. self.new.log ≡ self.old.log ++ noted (number_of self.old.number token.old) event told.0 ∷ []) }
         ensures mine { IfOk result (λ told. IsTold self.old.number event told.0 token.old token.new) }
         ensures seen { OnOk result (log_of self.old.number token.new ≡ self.new.log) }
+        ensures of_spec { OnOk result (IsMadeWith (J.specs self.old.number) self.new.log) }
         ensures seer { IsSeer self.old.number token.new }
         ensures settled { IsSettled token.new }
         ensures given { IfOk result (λ told. told.1 ≡ only self.old.number (holder self.new.log (tickets_told event told.0 []))) }
@@ -155,6 +158,7 @@ impl<T: Table, J: Naming> Kept<T, J> {
         ensures recorded { OnOk result (self.new.log ≡ self.old.log ++ noted (number_of self.old.number token.old) (Release now ticket) Released ∷ []) }
         ensures mine { OnOk result (IsTold self.old.number (Release now ticket) Released token.old token.new) }
         ensures seen { OnOk result (log_of self.old.number token.new ≡ self.new.log) }
+        ensures of_spec { OnOk result (IsMadeWith (J.specs self.old.number) self.new.log) }
         ensures seer { IsSeer self.old.number token.new }
         ensures settled { IsSettled token.new }
         ensures number { self.new.number ≡ self.old.number }

@@ -10,6 +10,7 @@ use Rattle.shard_port.specs.Port.{Tracks, came_with, is_tracking, place}
 use Rattle.shard_book.specs.SeatState.{RefState, SeatState}
 use Rattle.shard_book.specs.Told.{IsRefusedTo, Told}
 use Rattle.shard_locks.specs.Ported.{SeatedRefuse, came, seated_meaning}
+use Rattle.shard_locks.specs.Shared.{IsOfShard}
 use Rattle.shard_locks.specs.ShardsState.{SeatedState, book_of}
 use Rattle.shard_locks.specs.Tracking.{IsAt, reply_of}
 use Rattle.shard_locks.specs.declared.tracking.Tracking.{Tracking}
@@ -29,10 +30,10 @@ came_is at Full is = refl
 came_is at NoRefs is = refl
 
 pub tracks : (old : SeatedState) (seat : SeatState) (known : View) (now : ℕ) (key : Key) (tracking : Tracking RefState) (reference : Option RefState) → reference ≡ came tracking → Told old.seat (place seated_meaning old key) (Track now key) (reply_of tracking) seat
-    → IsTold (book_of old.table (place seated_meaning old key)) (Track now key) (reply_of tracking) old.known known → IsAt (place seated_meaning old key) tracking → Tracks seated_meaning old now key reference (record { table = old.table; seat = seat; known = known })
-tracks old seat known now key tracking reference is told recorded at = record {
+    → IsTold (book_of old.table (place seated_meaning old key)) (Track now key) (reply_of tracking) old.known known → IsOfShard old.table (place seated_meaning old key) known → IsAt (place seated_meaning old key) tracking → Tracks seated_meaning old now key reference (record { table = old.table; seat = seat; known = known })
+tracks old seat known now key tracking reference is told recorded of_shard at = record {
   reply = reply_of tracking;
   tracking = tracking_is tracking;
   comes = is ∙ came_is (place seated_meaning old key) tracking at;
-  answers = record { told = told; recorded = recorded; table = refl };
+  answers = record { told = told; recorded = recorded; of_shard = of_shard; table = refl };
 }

@@ -9,6 +9,7 @@ use Rattle.shard_book.specs.Keeping.{part_of}
 use Rattle.shard_book.proofs.BookLemmas.{one_behind}
 use Rattle.shard_book.proofs.BooksLemmas.{part_limits}
 use Rattle.shard_book.specs.SeatState.{fresh}
+use Rattle.shard_locks.specs.Shared.{AreParts}
 use Rattle.shard_locks.specs.ShardsState.{ShardsState, UnlockedState, AreShards, fresh_seats}
 
 -- one seat more
@@ -41,6 +42,11 @@ pub part_within : (inside now : ShardsState) (specs : List Spec) (i : ℕ) (foun
 part_within inside now specs i found same are below is =
     let whole : found ≡ part_of inside.spec inside.shards i = part_found inside now specs i found same are below is ∙ sym (ap (λ (table : ShardsState). part_of table.spec table.shards i) same) in
     subst IsTableSpec (sym whole) (part_limits inside.spec inside.shards i are.limits are.some are.places)
+
+-- the record says of its book that it was made so
+pub part_made : (specs : ℕ → Spec) (inside now : ShardsState) (i : ℕ) → inside ≡ now → AreParts specs inside.first inside.spec inside.shards → i < now.shards → specs (inside.first + i) ≡ part_of now.spec now.shards i
+part_made specs inside now i same are below =
+    are.each i (subst (λ (table : ShardsState). i < table.shards) (sym same) below) ∙ ap (λ (table : ShardsState). part_of table.spec table.shards i) same
 
 -- out of their locks, there are as many books as shards were made
 pub parts_count : (inside now : UnlockedState) → inside ≡ now → AreShards inside.spec (length inside.books) inside.specs → length now.books ≡ length inside.specs

@@ -1,5 +1,5 @@
 -- What a seat knows of the record, and what comes of a call for it.
-use Rattle.std.proofs.Common.{◌≡◌, ℕ, ◌+◌, Bool, Result, Ok, Err, IfOk, OnOk, OnErr, List, [], ◌∷◌, ◌++◌, sym, ap, ◌∙◌, subst, arith}
+use Rattle.std.proofs.Common.{◌≡◌, ℕ, ◌+◌, ◌<◌, Bool, Result, Ok, Err, IfOk, OnOk, OnErr, List, [], ◌∷◌, ◌++◌, sym, ap, ◌∙◌, subst, arith}
 use Rattle.std.proofs.lemmas.List.{map-append}
 use Rattle.stick_model.specs.declared.specification.Spec.{Spec}
 use Rattle.stick_model.specs.Key.{Key}
@@ -15,13 +15,14 @@ use Rattle.shard_record.specs.declared.view.Part.{Part}
 use Rattle.shard_record.specs.Dealing.{DealerState, SeesAll}
 use Rattle.shard_record.specs.Parts.{holder}
 use Rattle.shard_record.specs.Views.{View, at, only}
-use Rattle.shard_record.specs.Telling.{IsNoRelease, IsReference, IsTold, key_in, ticket_at, ticket_in}
+use Rattle.shard_record.specs.Telling.{IsNoRelease, IsReference, IsTold, KeeperState, key_in, ticket_at, ticket_in}
 use Rattle.shard_record.proofs.DealingLemmas.{sees_more}
 use Rattle.shard_record.proofs.Views.{at_put}
 use Rattle.shard_book.specs.BookState.{BookState, opened}
-use Rattle.shard_book.specs.Keeping.{MayAsk}
+use Rattle.shard_book.specs.Keeping.{MayAsk, part_of}
+use Rattle.shard_book.specs.Kept.{IsMadeWith}
 use Rattle.shard_book.specs.SeatState.{SeatState, fresh}
-use Rattle.shard_locks.specs.Shared.{HasMade, IsGiven, SharedSeatState, seats_of}
+use Rattle.shard_locks.specs.Shared.{AreParts, HasMade, IsGiven, SharedSeatState, seats_of}
 use Rattle.shard_locks.specs.ShardsState.{fresh_seats}
 use Rattle.shard_locks.proofs.ShardsLemmas.{fresh_seats_more}
 
@@ -72,6 +73,17 @@ seats_more n keeps old new seat known shared were fresh_is is more =
 -- the book of an empty table is that of one with its own specification
 pub opened_is : (book : BookState) (spec : Spec) → book ≡ opened spec → book ≡ opened book.base.spec
 opened_is book spec is = is ∙ ap (λ (b : BookState). opened b.base.spec) (sym is)
+
+-- what a book was made with is what the record says of it
+pub made_at : (specs : ℕ → Spec) (spec : Spec) (shards n : ℕ) (dealer now : DealerState) (part : Spec) (book : BookState) (keeper : KeeperState) → AreParts specs dealer.kept spec shards → n < shards → now ≡ record dealer { kept = dealer.kept + n }
+    → part ≡ part_of spec shards n → book ≡ opened part → keeper ≡ record { book = now.kept; log = [] } → book.base.spec ≡ specs keeper.book
+made_at specs spec shards n dealer now part book keeper are below dealt is opens keeps =
+    ap (λ (b : BookState). b.base.spec) opens ∙ (is ∙ (sym (are.each n below) ∙ ap specs (sym (ap (λ (k : KeeperState). k.book) keeps ∙ ap (λ (d : DealerState). d.kept) dealt))))
+
+-- as a seat knows its calls, they are of a table that was made so
+pub made_seen : {X E : Type 0} (spec : Spec) (result : Result X E) (known log : List Call) → OnOk result (IsMadeWith spec log) → OnOk result (known ≡ log) → OnOk result (IsMadeWith spec known)
+made_seen spec (Ok x) known log made seen = subst (IsMadeWith spec) (sym seen) made
+made_seen spec (Err e) known log made seen = tt
 
 -- ---- a seat that asked may call any book still
 

@@ -7,14 +7,17 @@ use Rattle.shard_record.specs.Telling.{IsTold}
 use Rattle.shard_port.specs.Port.{Meaning}
 use Rattle.shard_book.specs.SeatState.{RefState}
 use Rattle.shard_book.specs.Told.{Told}
+use Rattle.shard_locks.specs.Shared.{IsOfShard}
 use Rattle.shard_locks.specs.ShardsState.{IsReferenceRefused, SeatedState, book_of}
 use Rattle.shard_locks.specs.declared.tracking.Tracking.{Tracking}
 use Rattle.shard_locks.specs.declared.tracking.Tracking.TheVariants.{Tracked, Full, NoRefs}
 
--- the seat was told this, the record of the shard's book grew by just this call, as the seat knows, and the table is the same
+-- the seat was told this; the record of the shard's book grew by just this call, as the seat knows, and is that of a table that was
+-- made with the shard's part of the whole; and the table is the same
 pub record SeatedAnswer (old : SeatedState) (shard : ℕ) (event : Event) (reply : Reply) (new : SeatedState) : Type 0 where
   pub told : Told old.seat shard event reply new.seat
   pub recorded : IsTold (book_of old.table shard) event reply old.known new.known
+  pub of_shard : IsOfShard old.table shard new.known
   pub table : new.table ≡ old.table
 
 -- a shard that is none of the table's is stale, and every other may refuse the seat

@@ -1,5 +1,6 @@
 -- What a seat of a table that threads share knows, and how a table's books and their records go together.
 use Rattle.std.specs.Prelude.{◌≡◌, ℕ, ◌+◌, ◌<◌, ◌≤◌, ◌^◌, List, [], ◌∷◌, ◌++◌, map}
+use Rattle.stick_model.specs.declared.specification.Spec.{Spec}
 use Rattle.stick_model.specs.declared.events.Event.{Event}
 use Rattle.stick_model.specs.declared.replies.Reply.{Reply}
 use Rattle.stick_model.specs.declared.replies.Reply.TheVariants.{Tracked}
@@ -7,8 +8,10 @@ use Rattle.shard_record.specs.Calls.{call, calls_by}
 use Rattle.shard_record.specs.Views.{View}
 use Rattle.shard_record.specs.Telling.{IsReference, KeeperState, log_of, mine_of, number_of, ticket_at}
 use Rattle.shard_book.specs.BookState.{BookState}
-use Rattle.shard_book.specs.Kept.{IsKept}
+use Rattle.shard_book.specs.Keeping.{part_of}
+use Rattle.shard_book.specs.Kept.{IsKept, IsMadeWith}
 use Rattle.shard_book.specs.SeatState.{SeatState}
+use Rattle.shard_locks.specs.ShardsState.{ShardsState, book_of}
 
 -- what it has asked and seen, and what it knows of the record
 pub record SharedSeatState : Type 0 where
@@ -23,6 +26,11 @@ seats_of seats = map (λ (shared : SharedSeatState). shared.seat) seats
 abbrev pub HasMade : ℕ → Event → Reply → View → View → Type 0
 HasMade book event reply old new = calls_by (number_of book old) (log_of book new) ≡ mine_of book old ++ call (number_of book old) event reply ∷ []
 
+-- the calls of a shard's book, as far as a seat knows its record, are all those of one table, which was made with the shard's part of
+-- the whole
+abbrev pub IsOfShard : ShardsState → ℕ → View → Type 0
+IsOfShard table shard known = IsMadeWith (part_of table.spec table.shards shard) (log_of (book_of table shard) known)
+
 -- a token that came with a reply: where that tells a ticket, it is the token of a reference by that ticket
 abbrev pub IsGiven : ℕ → Reply → View → Type 0
 IsGiven book (Tracked ticket row) token = IsReference book token × (ticket ≡ ticket_at book token)
@@ -33,9 +41,13 @@ pub record AreNumbered (first shards books : ℕ) : Type 0 where
   pub within : first + shards ≤ books
   pub few : first + shards < 2 ^ 32
 
--- each book and what keeps its record
-abbrev pub AreKept : List BookState → List KeeperState → Type 0
-AreKept [] [] = Unit {0}
-AreKept [] (keeper ∷ keepers) = ⊥
-AreKept (book ∷ books) [] = ⊥
-AreKept (book ∷ books) (keeper ∷ keepers) = IsKept book keeper.log × AreKept books keepers
+-- the record says of a table's books, by their numbers from `first` on, that each was made with its shard's part of the whole
+pub record AreParts (specs : ℕ → Spec) (first : ℕ) (spec : Spec) (shards : ℕ) : Type 0 where
+  pub each : (shard : ℕ) → shard < shards → specs (first + shard) ≡ part_of spec shards shard
+
+-- each book and what keeps its record, made as the record says
+abbrev pub AreKept : (ℕ → Spec) → List BookState → List KeeperState → Type 0
+AreKept specs [] [] = Unit {0}
+AreKept specs [] (keeper ∷ keepers) = ⊥
+AreKept specs (book ∷ books) [] = ⊥
+AreKept specs (book ∷ books) (keeper ∷ keepers) = IsKept (specs keeper.book) book keeper.log × AreKept specs books keepers

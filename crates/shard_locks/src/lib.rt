@@ -6,6 +6,7 @@ mod insisting;
 mod listing;
 mod opening;
 mod ported;
+mod reading;
 mod rolling;
 mod seat_counts;
 mod seated;

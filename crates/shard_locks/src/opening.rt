@@ -4,7 +4,7 @@ ghost use Rattle.std.specs.Prelude.{◌≡◌, ◌+◌, ◌≤◌, length, map, 
 ghost use Rattle.std.specs.List.{range_with_len};
 ghost use Rattle.stick_model.specs.Limits.{IsTableSpec};
 ghost use Rattle.shard_book.specs.Keeping.{part_of};
-ghost use Rattle.shard_locks.specs.Shared.{seats_of};
+ghost use Rattle.shard_locks.specs.Shared.{AreParts, seats_of};
 ghost use Rattle.shard_locks.specs.ShardsState.{fresh_seats};
 
 use crate::SharedSeat;
@@ -46,7 +46,7 @@ pub(crate) fn specs_of_shards(
     Ok(specs)
 }
 
-/// The books of a table's empty shards, each beside what keeps its record, under their locks.
+/// The books of a table's empty shards, each beside what keeps its record, under their locks. Each is made as the record says.
 pub(crate) fn open_locks<T: Table, J: Naming>(
     alloc: Global,
     dealer: &mut Dealer<J>,
@@ -57,6 +57,7 @@ pub(crate) fn open_locks<T: Table, J: Naming>(
     requires some { 1 ≤ shards }
     requires places { shards ≤ spec.now.size }
     requires left { dealer.old.kept + shards ≤ dealer.old.books }
+    requires parts { AreParts J.specs dealer.old.kept spec.now shards }
     ensures locks { IfOk result (λ locks. length locks.items ≡ shards) }
     ensures dealt { OnOk result (dealer.new ≡ record dealer.old { kept = dealer.old.kept + shards }) }
 {

@@ -3,11 +3,12 @@
 ghost use Rattle.std.specs.Prelude.{◌≡◌};
 
 use crate::{SeatCounts, Shards, SharedSeat};
+use base_sequence::NoMemory;
 use shard_book::{Keeper, Occupancy};
 use shard_record::Naming;
 use std::marker::Model;
 use std::sync::Wait;
-use stick_table::{Event, Refusal, Reply, Spec, Table};
+use stick_table::{Event, PlainTable, Refusal, Reply, Spec, Table};
 
 /// A table in shards that threads share, asked by one seat: what commands ask, as those of a socket. It counts what connections
 /// meet, which its view doesn't show.
@@ -60,6 +61,7 @@ impl<'a, T: Table, J: Naming, R> Seated<'a, T, J, R> {
 }
 
 impl<'a, T: Table, J: Naming, R: Wait> Keeper for Seated<'a, T, J, R> {
+    ghost use Rattle.stick_model.specs.Legal.{IsLegal};
     ghost use Rattle.shard_book.specs.SeatState.{SeatState};
     ghost use Rattle.shard_book.specs.Told.{Told, IsRefusedTo};
 
@@ -75,6 +77,9 @@ impl<'a, T: Table, J: Naming, R: Wait> Keeper for Seated<'a, T, J, R> {
 
     ghost refuses = { IsRefusedTo };
 
+    // Some legal table: what the seat was told says no more of what a shard is by now.
+    ghost holds = { λ old i live. IsLegal live };
+
     fn size(&self) -> u32 {
         self.shards.whole().size
     }
@@ -89,6 +94,10 @@ impl<'a, T: Table, J: Naming, R: Wait> Keeper for Seated<'a, T, J, R> {
 
     fn occupancy(&self, shard: u32) -> Occupancy {
         self.shards.occupancy(self.rt, shard)
+    }
+
+    fn copied(&self, shard: u32) -> Result<PlainTable, NoMemory> {
+        self.shards.copied(self.rt, shard)
     }
 
     #[tactic(auto, using(crate::proofs::ReplyLemmas::told_answers))]

@@ -14,7 +14,7 @@ ghost use Rattle.shard_record.specs.Views.{only};
 ghost use Rattle.shard_record.specs.Telling.{IsNoRelease, IsTold, log_of};
 ghost use Rattle.shard_book.specs.Keeping.{MayAsk, part_of};
 ghost use Rattle.shard_book.specs.Told.{Told, IsRefusedTo};
-ghost use Rattle.shard_locks.specs.Shared.{HasMade, seats_of};
+ghost use Rattle.shard_locks.specs.Shared.{AreParts, HasMade, IsOfShard, seats_of};
 ghost use Rattle.shard_locks.specs.ShardsState.{IsReferenceRefused, IsUnlocked, book_of, fresh_seats};
 ghost use Rattle.shard_locks.specs.Tracking.{IsAt, reply_of};
 
@@ -25,7 +25,6 @@ use crate::tracking::tracking_of;
 use crate::unlocked::{lock_all, room_for, unlock_all};
 use crate::{SharedRef, SharedSeat, Tracking, Unlocked};
 use base_sequence::NoMemory;
-use shard_book::Occupancy;
 use shard_port::{counted_value, shown_row};
 use shard_record::{Dealer, Naming, Record, Token};
 use std::alloc::Global;
@@ -47,24 +46,26 @@ pub struct Shards<T: Table, J: Naming> {
     records: Arc<Record<J>, Global>,
     /// The number by which the record has the book of the first shard.
     first: u32,
-    books: Locks<T, J>,
+    pub(crate) books: Locks<T, J>,
 }
 
 impl<T: Table, J: Naming> Model for Shards<T, J> {
     ghost use Rattle.std.specs.Prelude.{length};
     ghost use Rattle.shard_locks.specs.ShardsState.{ShardsState, AreShards};
-    ghost use Rattle.shard_locks.specs.Shared.{AreNumbered};
+    ghost use Rattle.shard_locks.specs.Shared.{AreNumbered, AreParts};
 
     ghost Value = { ShardsState };
 
     ghost view = { λ table. record { spec = table.spec; shards = length table.books.items; keep = table.keep; first = table.first } };
 
-    ghost invariant = { λ table. AreShards table.spec (length table.books.items) table.specs.items × AreNumbered table.first (length table.books.items) J.books };
+    ghost invariant = { λ table. AreShards table.spec (length table.books.items) table.specs.items × AreNumbered table.first (length table.books.items) J.books
+        × AreParts J.specs table.first table.spec (length table.books.items) };
 }
 
 impl<T: Table, J: Naming> Shards<T, J> {
     /// A table's empty shards, and as many seats for their callers. The first shards have one place more, where the size is
-    /// no multiple. With `keep`, the seats keep receipts. The dealer has a record that keeps the calls of as many books.
+    /// no multiple. With `keep`, the seats keep receipts. The dealer has a record that keeps the calls of as many books, and
+    /// says that these are made so.
     pub fn new(
         alloc: Global,
         dealer: &mut Dealer<J>,
@@ -79,6 +80,7 @@ impl<T: Table, J: Naming> Shards<T, J> {
         requires places { shards ≤ spec.size }
         requires callers { (1 ≤ seats) × (seats ≤ 1024) }
         requires left { HasLeft dealer.old shards seats }
+        requires parts { AreParts J.specs dealer.old.kept spec shards }
         ensures table { IfOk result (λ made. made.0 ≡ record { spec = spec; shards = shards; keep = keep; first = dealer.old.kept }) }
         ensures seats { IfOk result (λ made. seats_of made.1.items ≡ fresh_seats seats keep) }
         ensures dealt { OnOk result (dealer.new ≡ record dealer.old { kept = dealer.old.kept + shards; seated = dealer.old.seated + seats }) }
@@ -191,6 +193,7 @@ impl<T: Table, J: Naming> Shards<T, J> {
         requires { shard < self.now.shards }
         ensures book { result ≡ book_of self.now shard }
         ensures inside { result < J.books }
+        ensures made { J.specs result ≡ part_of self.now.spec self.now.shards shard }
     {
         self.first + shard
     }
@@ -209,6 +212,7 @@ impl<T: Table, J: Naming> Shards<T, J> {
         requires other { IsNoRelease event }
         ensures told { IfOk result (λ told. Told seat.old.seat shard event told.0 seat.new.seat) }
         ensures recorded { IfOk result (λ told. IsTold (book_of self.now shard) event told.0 seat.old.known seat.new.known) }
+        ensures of_spec { OnOk result (IsOfShard self.now shard seat.new.known) }
         ensures given { IfOk result (λ told. told.1 ≡ only (book_of self.now shard) (holder (log_of (book_of self.now shard) seat.new.known) (tickets_told event told.0 []))) }
         ensures refused { IfErr result (IsRefusedTo seat.old.seat shard event) }
         ensures err { OnErr result (seat.new ≡ seat.old) }
@@ -238,6 +242,7 @@ impl<T: Table, J: Naming> Shards<T, J> {
         ensures told { IfOk result (λ reply. Told seat.old.seat shard event reply seat.new.seat) }
         ensures recorded { IfOk result (λ reply. IsTold (book_of self.now shard) event reply seat.old.known seat.new.known) }
         ensures mine { IfOk result (λ reply. HasMade (book_of self.now shard) event reply seat.old.known seat.new.known) }
+        ensures of_spec { OnOk result (IsOfShard self.now shard seat.new.known) }
         ensures refused { IfErr result (IsRefusedTo seat.old.seat shard event) }
         ensures err { OnErr result (seat.new ≡ seat.old) }
     {
@@ -260,6 +265,7 @@ impl<T: Table, J: Naming> Shards<T, J> {
         ensures told { OnOk result (Told seat.old.seat reference.shard (Release now reference.ticket) Released seat.new.seat) }
         ensures recorded { OnOk result (IsTold (book_of self.now reference.shard) (Release now reference.ticket) Released seat.old.known seat.new.known) }
         ensures mine { OnOk result (HasMade (book_of self.now reference.shard) (Release now reference.ticket) Released seat.old.known seat.new.known) }
+        ensures of_spec { OnOk result (IsOfShard self.now reference.shard seat.new.known) }
         ensures back { IfErr result (λ refused. refused.0 ≡ reference) }
         ensures refused { IfErr result (λ refused. IsReferenceRefused self.now.shards seat.old.seat reference.shard (Release now reference.ticket) refused.1) }
         ensures strange { self.now.shards ≤ reference.shard → result ≡ Err (reference, Stale) }
@@ -295,6 +301,7 @@ impl<T: Table, J: Naming> Shards<T, J> {
         ensures told { IfOk result (λ row. Told seat.old.seat reference.now.shard (Look now reference.now.ticket) (Shown row) seat.new.seat) }
         ensures recorded { IfOk result (λ row. IsTold (book_of self.now reference.now.shard) (Look now reference.now.ticket) (Shown row) seat.old.known seat.new.known) }
         ensures mine { IfOk result (λ row. HasMade (book_of self.now reference.now.shard) (Look now reference.now.ticket) (Shown row) seat.old.known seat.new.known) }
+        ensures of_spec { OnOk result (IsOfShard self.now reference.now.shard seat.new.known) }
         ensures refused { IfErr result (IsReferenceRefused self.now.shards seat.old.seat reference.now.shard (Look now reference.now.ticket)) }
         ensures strange { self.now.shards ≤ reference.now.shard → result ≡ Err Stale }
         ensures err { OnErr result (seat.new ≡ seat.old) }
@@ -325,6 +332,7 @@ impl<T: Table, J: Naming> Shards<T, J> {
         ensures told { IfOk result (λ value. Told seat.old.seat reference.now.shard (Count now reference.now.ticket act) (Value value) seat.new.seat) }
         ensures recorded { IfOk result (λ value. IsTold (book_of self.now reference.now.shard) (Count now reference.now.ticket act) (Value value) seat.old.known seat.new.known) }
         ensures mine { IfOk result (λ value. HasMade (book_of self.now reference.now.shard) (Count now reference.now.ticket act) (Value value) seat.old.known seat.new.known) }
+        ensures of_spec { OnOk result (IsOfShard self.now reference.now.shard seat.new.known) }
         ensures refused { IfErr result (IsReferenceRefused self.now.shards seat.old.seat reference.now.shard (Count now reference.now.ticket act)) }
         ensures strange { self.now.shards ≤ reference.now.shard → result ≡ Err Stale }
         ensures err { OnErr result (seat.new ≡ seat.old) }
@@ -353,6 +361,7 @@ impl<T: Table, J: Naming> Shards<T, J> {
         ensures told { IfOk result (λ tracking. Told seat.old.seat (shard key self.now.shards) (Track now key) (reply_of tracking) seat.new.seat) }
         ensures recorded { IfOk result (λ tracking. IsTold (book_of self.now (shard key self.now.shards)) (Track now key) (reply_of tracking) seat.old.known seat.new.known) }
         ensures mine { IfOk result (λ tracking. HasMade (book_of self.now (shard key self.now.shards)) (Track now key) (reply_of tracking) seat.old.known seat.new.known) }
+        ensures of_spec { OnOk result (IsOfShard self.now (shard key self.now.shards) seat.new.known) }
         ensures at { IfOk result (IsAt (shard key self.now.shards)) }
         ensures refused { IfErr result (IsRefusedTo seat.old.seat (shard key self.now.shards) (Track now key)) }
         ensures err { OnErr result (seat.new ≡ seat.old) }
@@ -366,8 +375,8 @@ impl<T: Table, J: Naming> Shards<T, J> {
     }
 
     /// Makes a shard's live state the base of its calls, as `Kept::roll` does, where it has that many calls and no
-    /// receipts are kept; answers whether it did. The whole table is copied while the lock is held. Where a growth is
-    /// refused, nothing changes. The record of all calls stays.
+    /// receipts are kept; answers whether it did. The whole table is copied while the lock is held, and the base before is
+    /// dropped behind it. Where a growth is refused, nothing changes. The record of all calls stays.
     pub fn roll(&self, rt: &impl Wait, shard: u32, least: u64) -> Result<bool, NoMemory>
         requires shard { shard < self.now.shards }
         ensures kept { self.now.keep ≡ true → result ≡ Ok false }
@@ -376,25 +385,8 @@ impl<T: Table, J: Naming> Shards<T, J> {
             return Ok(false);
         }
         let mut kept = self.books[shard as usize].lock(rt);
-        roll_long(&mut kept, least)
-    }
-
-    /// What of a shard is occupied, as `Kept::occupancy` tells it under the shard's lock.
-    pub fn occupancy(&self, rt: &impl Wait, shard: u32) -> Occupancy
-        requires shard { shard < self.now.shards }
-    {
-        let kept = self.books[shard as usize].lock(rt);
-        kept.occupancy()
-    }
-
-    /// Does some work while a shard's lock is held. Nothing of the shard changes.
-    pub fn hold<R: Wait, F: FnOnce()>(&self, rt: &R, shard: u32, work: F)
-        requires shard { shard < self.now.shards }
-        requires work { F.pre work }
-        ensures work { F.post work tt }
-    {
-        let kept = self.books[shard as usize].lock(rt);
-        work();
+        let base = roll_long(&mut kept, least)?;
         drop(kept);
+        Ok(base.is_some())
     }
 }

@@ -12,6 +12,7 @@ ghost use Rattle.shard_record.specs.Parts.{holder};
 ghost use Rattle.shard_record.specs.Views.{only};
 ghost use Rattle.shard_record.specs.Telling.{IsNoRelease, IsReference, IsSettled, IsTold, key_at, log_of, number_of, ticket_at};
 ghost use Rattle.shard_book.specs.BookState.{Extends};
+ghost use Rattle.shard_book.specs.Kept.{IsMadeWith};
 ghost use Rattle.shard_book.specs.Told.{IsRefusedTo, Told};
 
 use shard_book::{Kept, Seat};
@@ -73,6 +74,7 @@ impl<J: Naming> SharedSeat<J> {
         ensures grown { IfOk result (λ told. kept.new.log ≡ kept.old.log ++ noted (number_of kept.old.number self.old.known) event told.0 ∷ []) }
         ensures recorded { IfOk result (λ told. IsTold kept.old.number event told.0 self.old.known self.new.known) }
         ensures seen { OnOk result (log_of kept.old.number self.new.known ≡ kept.new.log) }
+        ensures of_spec { OnOk result (IsMadeWith (J.specs kept.old.number) (log_of kept.old.number self.new.known)) }
         ensures given { IfOk result (λ told. told.1 ≡ only kept.old.number (holder kept.new.log (tickets_told event told.0 []))) }
         ensures number { kept.new.number ≡ kept.old.number }
         ensures refused { IfErr result (IsRefusedTo self.old.seat shard event) }
@@ -105,6 +107,7 @@ impl<J: Naming> SharedSeat<J> {
         ensures grown { OnOk result (kept.new.log ≡ kept.old.log ++ noted (number_of kept.old.number self.old.known) (Release now ticket) Released ∷ []) }
         ensures recorded { OnOk result (IsTold kept.old.number (Release now ticket) Released self.old.known self.new.known) }
         ensures seen { OnOk result (log_of kept.old.number self.new.known ≡ kept.new.log) }
+        ensures of_spec { OnOk result (IsMadeWith (J.specs kept.old.number) (log_of kept.old.number self.new.known)) }
         ensures number { kept.new.number ≡ kept.old.number }
         ensures refused { IfErr result (λ refused. IsRefusedTo self.old.seat shard (Release now ticket) refused.1) }
         ensures fresh { IfErr result (λ refused. refused.1 ≢ Stale) }

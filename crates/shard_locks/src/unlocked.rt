@@ -29,14 +29,15 @@ pub struct Unlocked<T: Table, J: Naming> {
 impl<T: Table, J: Naming> Model for Unlocked<T, J> {
     ghost use Rattle.std.specs.Prelude.{◌≡◌, ◌≤◌, length, vec_len, vec_capacity};
     ghost use Rattle.shard_locks.specs.ShardsState.{AreShards, UnlockedState, HasRoom};
-    ghost use Rattle.shard_locks.specs.Shared.{AreKept, AreNumbered};
+    ghost use Rattle.shard_locks.specs.Shared.{AreKept, AreNumbered, AreParts};
 
     ghost Value = { UnlockedState };
 
     ghost view = { λ table. record { spec = table.spec; specs = table.specs.items; keep = table.keep; first = table.first; books = table.books.items; keepers = table.keepers.items } };
 
     ghost invariant = { λ table. AreShards table.spec (length table.books.items) table.specs.items × HasRoom (vec_len table.room) (vec_capacity table.room) (length table.books.items)
-        × AreNumbered table.first (length table.books.items) J.books × AreKept table.books.items table.keepers.items };
+        × AreNumbered table.first (length table.books.items) J.books × AreKept J.specs table.books.items table.keepers.items
+        × AreParts J.specs table.first table.spec (length table.books.items) };
 }
 
 impl<T: Table, J: Naming> Unlocked<T, J> {
@@ -66,7 +67,7 @@ impl<T: Table, J: Naming> Unlocked<T, J> {
     /// The books, and what keeps the record of each.
     pub fn into_books(self) -> (Vec<Book<T>>, Vec<Keeper<J>>)
         ensures books { result.0.items ≡ self.books }
-        ensures kept { AreKept result.0.items result.1.items }
+        ensures kept { AreKept J.specs result.0.items result.1.items }
     {
         let Unlocked {
             spec: _,
@@ -112,7 +113,7 @@ pub(crate) fn unlock_all<T: Table, J: Naming>(
     requires keepers { vec_len keepers.old + length locks.items ≤ vec_capacity keepers.old }
     requires empty { (books.old.items ≡ []) × (keepers.old.items ≡ []) }
     ensures books { length books.new.items ≡ length locks.items }
-    ensures kept { AreKept books.new.items keepers.new.items }
+    ensures kept { AreKept J.specs books.new.items keepers.new.items }
     ensures locks { length result.items ≡ 0 }
     ensures room { length books.new.items ≤ vec_capacity result }
 {
@@ -132,7 +133,7 @@ pub(crate) fn lock_all<T: Table, J: Naming>(
     mut keepers: Vec<Keeper<J>>,
     mut room: Locks<T, J>,
 ) -> Locks<T, J>
-    requires kept { AreKept books.items keepers.items }
+    requires kept { AreKept J.specs books.items keepers.items }
     requires empty { length room.items ≡ 0 }
     requires room { length books.items ≤ vec_capacity room }
     ensures { length result.items ≡ length books.items }

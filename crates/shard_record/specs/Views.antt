@@ -1,8 +1,10 @@
 -- What tokens know of many books, each of which has a record of its own.
-use Rattle.std.specs.Prelude.{◌≡◌, ℕ, zero, suc, true, false, not, List, [], ◌∷◌, map, filter}
+use Rattle.std.specs.Prelude.{◌≡◌, ℕ, zero, suc, true, false, not, None, List, [], ◌∷◌, map, filter}
 use Rattle.std.specs.List.{range_with_len}
 use Rattle.atomic_table.specs.Seated.{TableId}
 use Rattle.atomic_table.specs.Table.{Me, Step as TableStep}
+use Rattle.stick_key.specs.declared.kind.KeyType.TheVariants.{Ip}
+use Rattle.stick_model.specs.declared.specification.Spec.{Spec}
 use Rattle.stick_model.specs.declared.events.Event.{Event}
 use Rattle.stick_model.specs.declared.replies.Reply.{Reply}
 use Rattle.shard_record.specs.declared.view.Caller.{Caller}
@@ -12,6 +14,10 @@ use Rattle.shard_record.specs.Parts.{IsCompared, Kept, appended, caller, compare
 -- the name of no record
 abbrev pub no_record : TableId
 no_record = record { words = 0; slots = 0; views_name = 0; atom = 0; block = 0; offset = 0; slot_names = [] }
+
+-- what no table was made with
+abbrev pub no_spec : Spec
+no_spec = record { kind = Ip; size = 1; expire = None; nopurge = false; purge = 1; columns = []; max_refs = 1; life = 1; seed = 0 }
 
 -- what a token knows of each book, by the book's number
 abbrev pub View : Type 0

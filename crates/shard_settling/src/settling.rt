@@ -47,7 +47,7 @@ pub fn settle<T: Table, J: Naming>(
 ) -> Result<Settled<T, J>, Unsettled<T, J>>
     // The books handed out are settled, and are those whose records were kept under the locks.
     ensures settled { IfOk result (λ settled. AreSettled (parts_of shards) shards.keep (seats_of seats.items) refs.items settled.books.items) }
-    ensures own_book { IfOk result (λ settled. AreKept settled.books.items settled.keepers.items) }
+    ensures own_book { IfOk result (λ settled. AreKept J.specs settled.books.items settled.keepers.items) }
     ensures counts { IfOk result (λ settled. settled.counts.items ≡ counts_in settled.books.items) }
     ensures tickets { IfOk result (λ settled. settled.tickets.items ≡ tickets_in settled.books.items) }
 

@@ -1,5 +1,5 @@
 -- What is shown of a key that is tracked once more.
-use Rattle.std.proofs.Common.{◌≡◌, ℕ, ◌+◌, refl, sym, ◌∙◌, ap, List, [], ◌∷◌, ◌++◌, Bool, true, false, cond, not, ◌&&◌, nat_eq, arith, Option, Some, None}
+use Rattle.std.proofs.Common.{◌≡◌, ◌≢◌, ℕ, ◌+◌, refl, sym, ◌∙◌, ap, List, [], ◌∷◌, ◌++◌, Bool, true, false, cond, not, ◌&&◌, nat_eq, arith, Option, Some, None, IsSome}
 use Rattle.std.specs.Prelude.{nat_lt}
 use Rattle.std.specs.Option.{option_map, option_map_or}
 use Rattle.std.proofs.lemmas.Bool.{and_parts}
@@ -78,14 +78,11 @@ is-entered state key slot found ticket new free enters = go (stored_in state.spe
 entered-row : (state : State) (key : Key) (found : Record) (ticket : Ticket) (new : State) → IsEntered state key found ticket new → row new key found ≡ row_of state.spec.columns state.clock (refs key state.tickets + 1) key found
 entered-row state key found ticket new is = λ i. row_of (is.spec i).columns (is.clock i) (is.counted i) key found
 
--- a copy of the key was given, and another is shown
-module _ (old : State) (now : ℕ) (given shown key : Key) (ticket : Ticket) (new : State) (same : given ≡ key) (named : shown ≡ key) (free : is_free_slot old ticket.slot ≡ true)
-    (enters : entered (begun old now) given ticket.slot (connected (begun old now) given) ≡ (Some ticket, new)) where
-  pub entered-key : entered (begun old now) key ticket.slot (connected (begun old now) key) ≡ (Some ticket, new)
-  entered-key = ap {B = Option Ticket × State} (λ (k : Key). entered (begun old now) k ticket.slot (connected (begun old now) k)) (sym same) ∙ enters
-
+-- a copy of the key is shown
+module _ (old : State) (now : ℕ) (shown key : Key) (ticket : Ticket) (new : State) (named : shown ≡ key) (free : is_free_slot old ticket.slot ≡ true)
+    (enters : entered (begun old now) key ticket.slot (connected (begun old now) key) ≡ (Some ticket, new)) where
   after : IsEntered (begun old now) key (connected (begun old now) key) ticket new
-  after = is-entered (begun old now) key ticket.slot (connected (begun old now) key) ticket new (and_parts (nat_lt ticket.slot old.spec.max_refs) (is_free ticket.slot old.tickets) free).1 entered-key
+  after = is-entered (begun old now) key ticket.slot (connected (begun old now) key) ticket new (and_parts (nat_lt ticket.slot old.spec.max_refs) (is_free ticket.slot old.tickets) free).1 enters
 
   pub given-out : key_of ticket new.tickets ≡ Some shown
   given-out = after.out ∙ ap Some (sym named)
@@ -98,9 +95,17 @@ module _ (old : State) (now : ℕ) (given shown key : Key) (ticket : Ticket) (ne
       ∙ entered-row (begun old now) key (connected (begun old now) key) ticket new after
 
 -- ---- the row of a reference that is out
+-- a ticket that has a key is in the book
+pub named-some : (s : Stock) (book : Tickets) (ticket : Ticket) → key_of ticket (tickets_of s book) ≢ None → IsSome (entry_of ticket book)
+named-some s book ticket out = go (entry_of ticket book) refl
+  where
+    go : (o : Option ℕ) → entry_of ticket book ≡ o → IsSome o
+    go (Some slot) is = refl
+    go None none = absurd (out (lookup-keys s (same_ticket ticket) book.tickets ∙ ap (option_map (λ slot. key_in (held_at s slot))) none))
+
 module _ (spec : Spec) (clock events : ℕ) (s : Stock) (book : Tickets) (table : IsTable spec clock events s book) (ticket : Ticket) (key : Key) (out : key_of ticket (tickets_of s book) ≡ Some key) where
-  pub out-found : entry_of ticket book ≡ None → ⊥
-  out-found none = none_some (sym (lookup-keys s (same_ticket ticket) book.tickets ∙ ap (option_map (λ slot. key_in (held_at s slot))) none) ∙ out)
+  pub out-some : IsSome (entry_of ticket book)
+  out-some = named-some s book ticket (λ none. none_some (sym none ∙ out))
 
   module _ (slot : ℕ) (is : entry_of ticket book ≡ Some slot) where
     own-key : (h : Held) → held_at s slot ≡ Some h → h.key ≡ key

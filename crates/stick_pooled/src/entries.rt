@@ -5,13 +5,14 @@ ghost use Rattle.stick_pooled.specs.Stock.{Held, held_at, with_entry};
 ghost use Rattle.stick_model.specs.State.{record_at};
 ghost use Rattle.stick_model.specs.Step.{begun, clear as reply_to_clear, put as reply_to_put, put_allowed as reply_to_put_allowed};
 ghost use Rattle.stick_model.specs.declared.replies.Reply.TheVariants.{Written};
-ghost use Rattle.stick_pooled.specs.Steps.{with_event};
+ghost use Rattle.stick_pooled.specs.Steps.{IsSpare, with_event};
 
 use crate::StickTable;
 use crate::entry::Entry;
 use crate::entry_store::Store;
 use crate::pairs::{put_fault, put_pairs};
 use crate::room::make_room;
+use crate::spare_keys::{own_copy, spare_copy};
 use base_sequence::NoMemory;
 use stick_key::StickKey;
 use stick_model::{Cell, Reply};
@@ -65,22 +66,29 @@ impl StickTable {
                 Ok(fault)
             }
             None => {
-                let entry_key = key.copy()?;
-                Ok(self.put_allowed(now, entry_key, pairs))
+                let spare = spare_copy(key)?;
+                Ok(self.put_allowed(now, key, spare, pairs))
             }
         }
     }
 
-    fn put_allowed(&mut self, now: u64, key: StickKey, pairs: &[Cell]) -> Reply
+    fn put_allowed(
+        &mut self,
+        now: u64,
+        key: &StickKey,
+        spare: Option<StickKey>,
+        pairs: &[Cell],
+    ) -> Reply
         requires moment { now < 2 ^ 62 }
         requires life { self.old.events + length self.old.tickets < self.old.spec.life }
-        ensures { reply_to_put_allowed (begun self.old now) key pairs.now ≡ (result, self.new) }
+        requires spare { IsSpare key.now spare }
+        ensures { reply_to_put_allowed (begun self.old now) key.now pairs.now ≡ (result, self.new) }
     {
         self.advance(now);
-        if self.put_there(&key, pairs) {
+        if self.put_there(key, pairs) {
             return Reply::Written { created: false };
         }
-        self.put_new(key, pairs)
+        self.put_new(own_copy(key, spare), pairs)
     }
 
     /// Puts data into the entry of a key, where it has one.

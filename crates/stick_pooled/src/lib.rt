@@ -16,6 +16,7 @@ mod plain_copy;
 mod references;
 mod room;
 mod rows;
+mod spare_keys;
 mod ticket_book;
 mod tracked;
 mod tracking;

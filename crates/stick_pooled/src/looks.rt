@@ -1,5 +1,6 @@
 //! What is shown of a key, and of the key of a reference; `events` calls it for `Get` and `Look`.
-ghost use Rattle.std.specs.Prelude.{◌≡◌, ◌≤◌, ◌<◌, ◌+◌, ◌^◌, IfOk, OnErr, length};
+ghost use Rattle.std.specs.Prelude.{◌≡◌, ◌≢◌, ◌≤◌, ◌<◌, ◌+◌, ◌^◌, None, IfOk, OnErr, length};
+ghost use Rattle.stick_model.specs.State.{key_of};
 ghost use Rattle.stick_model.specs.Step.{begun, get as reply_to_get, look as reply_to_look};
 ghost use Rattle.stick_table.specs.Replies.{shown_reply, looked_reply};
 
@@ -12,6 +13,7 @@ use stick_model::{Reply, Ticket};
 
 impl StickTable {
     /// What a look at a key is answered, once the clock has come to this moment.
+    #[inline(always)]
     fn row_reply(&self, clock: u64, key: &StickKey) -> Result<Reply, NoMemory>
         requires past { self.now.clock ≤ clock }
         requires limit { clock < 2 ^ 62 }
@@ -25,13 +27,13 @@ impl StickTable {
     }
 
     /// What a look at a ticket is answered, once the clock has come to this moment.
+    #[inline(always)]
     fn look_reply(&self, clock: u64, ticket: Ticket) -> Result<Reply, NoMemory>
         requires past { self.now.clock ≤ clock }
+        requires out { key_of ticket self.now.tickets ≢ None }
         ensures { IfOk result (λ reply. reply ≡ looked_reply self.now clock ticket) }
     {
-        let Some(slot) = self.book.find(ticket) else {
-            return Ok(Reply::Absent);
-        };
+        let slot = self.book.entry(ticket);
         let row = show_row(self.alloc, &self.spec, &self.store, clock, slot)?;
         Ok(Reply::Row(row))
     }
@@ -50,6 +52,7 @@ impl StickTable {
 
     pub(crate) fn look(&mut self, now: u64, ticket: Ticket) -> Result<Reply, NoMemory>
         requires moment { now < 2 ^ 62 }
+        requires out { key_of ticket self.old.tickets ≢ None }
         requires life { self.old.events + length self.old.tickets < self.old.spec.life }
         ensures ok { IfOk result (λ reply. reply_to_look (begun self.old now) ticket ≡ (reply, self.new)) }
         ensures err { OnErr result (self.new ≡ self.old) }
@@ -80,6 +83,7 @@ impl StickTable {
         ticket: Ticket,
     ) -> Result<(Reply, Reply), NoMemory>
         requires moment { now < 2 ^ 62 }
+        requires out { key_of ticket self.old.tickets ≢ None }
         requires life { self.old.events + length self.old.tickets < self.old.spec.life }
         ensures ok { IfOk result (λ replies. reply_to_look (begun self.old now) ticket ≡ (replies.0, self.new)) }
         ensures twice { IfOk result (λ replies. replies.1 ≡ replies.0) }

@@ -89,6 +89,7 @@ pub(crate) fn fill_row(
 }
 
 /// The row of a slot's entry, when the clock has come to this moment.
+#[inline(always)]
 pub(crate) fn show_row(
     alloc: Global,
     spec: &Spec,

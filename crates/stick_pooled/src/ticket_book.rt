@@ -27,7 +27,7 @@ impl Model for TicketBook {
 }
 
 impl TicketBook {
-    ghost use Rattle.std.specs.Prelude.{◌≡◌, ◌<◌, ◌≤◌, ◌^◌, IfOk, length, true};
+    ghost use Rattle.std.specs.Prelude.{◌≡◌, ◌<◌, ◌≤◌, ◌^◌, IfOk, IsSome, Some, length, true};
     ghost use Rattle.stick_pooled.specs.Tickets.{entry_of, is_unused, no_tickets, with_ticket, without_ticket};
 
     /// A book for `capacity` tickets, 1 to 2^30, with none out. It takes the memory of them all.
@@ -57,6 +57,18 @@ impl TicketBook {
             generation: ticket.number,
         };
         self.places.get(handle).copied()
+    }
+
+    /// The slot of the entry of a ticket that is known to be out. It reads one place of memory, where `find` reads two.
+    pub fn entry(&self, ticket: Ticket) -> u32
+        requires { IsSome (entry_of ticket self.now) }
+        ensures { entry_of ticket self.now ≡ Some result }
+    {
+        let handle = Handle {
+            slot: ticket.slot,
+            generation: ticket.number,
+        };
+        *self.places.value(handle)
     }
 
     /// Makes a ticket of a number greater than all before it, for the entry of a slot.

@@ -8,6 +8,7 @@ ghost use Rattle.stick_model.specs.declared.rows.Record.{Record};
 
 use crate::StickTable;
 use crate::rows::{fill_row, room_for_cells};
+use crate::spare_keys::spare_copy;
 use base_sequence::NoMemory;
 use stick_key::StickKey;
 use stick_model::{Cell, Reply, Row, Ticket};
@@ -21,9 +22,7 @@ impl StickTable {
         requires room { length (fields_of self.now.spec.columns) ≤ vec_capacity cells }
         ensures { (found : Record) → record_at key self.now.records ≡ Some found → result ≡ row self.now key found }
     {
-        let Some(slot) = self.book.find(ticket) else {
-            unreachable!();
-        };
+        let slot = self.book.entry(ticket);
         fill_row(&self.spec, &self.store, self.clock, slot, key, cells)
     }
 
@@ -39,10 +38,10 @@ impl StickTable {
             self.begin(now);
             return Ok(Reply::NoRefs);
         }
-        let entry_key = key.copy()?;
+        let spare = spare_copy(key)?;
         let shown_key = key.copy()?;
         let cells = room_for_cells(self.alloc, &self.spec.columns)?;
-        match self.enter(now, entry_key) {
+        match self.enter(now, key, spare) {
             Some(ticket) => {
                 let row = self.tracked_row(ticket, shown_key, cells);
                 Ok(Reply::Tracked { ticket, row })
@@ -68,12 +67,12 @@ impl StickTable {
             self.begin(now);
             return Ok((Reply::NoRefs, Reply::NoRefs));
         }
-        let entry_key = key.copy()?;
+        let spare = spare_copy(key)?;
         let shown_key = key.copy()?;
         let other_key = key.copy()?;
         let cells = room_for_cells(self.alloc, &self.spec.columns)?;
         let other_cells = room_for_cells(self.alloc, &self.spec.columns)?;
-        match self.enter(now, entry_key) {
+        match self.enter(now, key, spare) {
             Some(ticket) => {
                 let row = self.tracked_row(ticket, shown_key, cells);
                 let again = self.tracked_row(ticket, other_key, other_cells);

@@ -4,12 +4,13 @@ ghost use Rattle.stick_pooled.specs.Stock.{Held, held_at, with_entry};
 ghost use Rattle.stick_table.specs.References.{entered};
 ghost use Rattle.stick_model.specs.State.{record_at};
 ghost use Rattle.stick_model.specs.Step.{begun, connected, is_free_slot};
-ghost use Rattle.stick_pooled.specs.Steps.{slot_made, with_event};
+ghost use Rattle.stick_pooled.specs.Steps.{IsSpare, slot_made, with_event};
 
 use crate::StickTable;
 use crate::entry::Entry;
 use crate::entry_store::Store;
 use crate::room::make_room;
+use crate::spare_keys::own_copy;
 use stick_key::StickKey;
 use stick_model::Ticket;
 use stored_data::Act;
@@ -32,21 +33,29 @@ fn hold(store: &mut Store, slot: u32, event: u64, moment: u64)
 
 impl StickTable {
     /// Makes a reference to a key, which counts a connection, where there is room.
-    pub(crate) fn enter(&mut self, now: u64, key: StickKey) -> Option<Ticket>
+    #[inline(always)]
+    pub(crate) fn enter(
+        &mut self,
+        now: u64,
+        key: &StickKey,
+        spare: Option<StickKey>,
+    ) -> Option<Ticket>
         requires moment { now < 2 ^ 62 }
         requires life { self.old.events + length self.old.tickets + 2 ≤ self.old.spec.life }
         requires left { length self.old.tickets < self.old.spec.max_refs }
-        ensures entered { entered (begun self.old now) key (slot_made result) (connected (begun self.old now) key) ≡ (result, self.new) }
+        requires spare { IsSpare key.now spare }
+        ensures entered { entered (begun self.old now) key.now (slot_made result) (connected (begun self.old now) key.now) ≡ (result, self.new) }
         ensures free { IfSome result (λ ticket. is_free_slot self.old ticket.slot ≡ true) }
     {
         self.advance(now);
-        if let Some(ticket) = self.enter_there(&key) {
+        if let Some(ticket) = self.enter_there(key) {
             return Some(ticket);
         }
-        self.enter_new(key)
+        self.enter_new(own_copy(key, spare))
     }
 
     /// Makes a reference to the entry of a key, where it has one.
+    #[inline(always)]
     fn enter_there(&mut self, key: &StickKey) -> Option<Ticket>
         requires life { self.old.events + length self.old.tickets + 2 ≤ self.old.spec.life }
         requires left { length self.old.tickets < self.old.spec.max_refs }
@@ -64,7 +73,9 @@ impl StickTable {
         Some(self.book.insert(self.events, handle.slot))
     }
 
-    /// Makes a reference to a new entry of a key that has none, where there is room.
+    /// Makes a reference to a new entry of a key that has none, where there is room. It stands apart, so that it takes no
+    /// registers from the few steps of an entry that is there.
+    #[inline(never)]
     fn enter_new(&mut self, key: StickKey) -> Option<Ticket>
         requires life { self.old.events + length self.old.tickets + 2 ≤ self.old.spec.life }
         requires left { length self.old.tickets < self.old.spec.max_refs }

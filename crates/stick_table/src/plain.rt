@@ -87,6 +87,13 @@ impl PlainTable {
         self.events
     }
 
+    /// Its entries: each key with what is kept of it, in the order of the keys.
+    pub fn records(&self) -> &[(StickKey, Record)]
+        ensures { result.now ≡ self.now.records }
+    {
+        self.records.as_slice()
+    }
+
     /// Its outstanding references with their keys, the oldest first.
     pub fn tickets(&self) -> &[(Ticket, StickKey)]
         ensures { result.now ≡ self.now.tickets }

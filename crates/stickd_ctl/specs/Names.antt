@@ -1,4 +1,4 @@
--- A word that is sent as the name of a table, and the command that shows what it holds.
+-- A word that is sent as the name of a table, and the commands that show what it holds.
 use Rattle.std.specs.Prelude.{ℕ, Bool, false, not, ◌==◌, ◌&&◌, List, ◌++◌, codes, length}
 use Rattle.std.specs.List.{list_all}
 
@@ -13,3 +13,7 @@ is_name word = not (length word == 0) && list_all parts_none word
 -- the command that shows the entries of a table
 abbrev pub show_text : List ℕ → List ℕ
 show_text name = codes "show table " ++ name
+
+-- the same, in the order in which they go
+abbrev pub oldest_first_text : List ℕ → List ℕ
+oldest_first_text name = show_text name ++ codes " oldest-first"

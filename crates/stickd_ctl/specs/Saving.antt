@@ -96,9 +96,17 @@ abbrev pub first_notes : List ℕ
 first_notes =
     codes "# saved by stickd: the ms that an entry has left, and the command that makes it\n"
     ++ codes "# not saved: rates, and which connections hold an entry\n"
-    ++ codes "# not known: which of two entries goes first that have the same time left, as all of a table without expire\n"
 
--- what isn't saved, and the lines of the entries
+-- what is said where some listing doesn't tell which entry goes first
+abbrev pub order_note : Bool → List ℕ
+order_note is_known = if is_known then [] else codes "# not known: which of two entries goes first that have the same time left, as all of a table without expire\n"
+
+-- whether each listing told which entry goes first, how many entries aren't saved, and the lines of the others
 pub record SavedText : Type 0 where
-  pub notes : List ℕ
+  pub order_known : Bool
+  pub losses : List ℕ
   pub lines : List ℕ
+
+-- the whole text: what isn't saved or known, and the lines of the entries
+abbrev pub whole_text : SavedText → List ℕ
+whole_text saved = first_notes ++ order_note saved.order_known ++ saved.losses ++ saved.lines

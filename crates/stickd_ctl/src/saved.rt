@@ -1,11 +1,11 @@
 //! What tables hold, as the lines that `--load` reads: `saving` makes them of a running stickd's listings, and `tcp_proxy` of its
 //! own as it stops.
 
-ghost use Rattle.std.specs.Prelude.{◌≡◌, ◌++◌, List, ℕ, [], IfOk, OnOk, length};
+ghost use Rattle.std.specs.Prelude.{◌≡◌, ◌&&◌, ◌++◌, true, List, ℕ, [], IfOk, OnOk, length};
 ghost use Rattle.std.specs.List.{flat_map};
 ghost use Rattle.stickd_ctl.specs.Json.{numbers_of};
 ghost use Rattle.stickd_ctl.specs.Saving as spec;
-ghost use Rattle.stickd_ctl.specs.Saving.{AreOf, AreOrdered, IsSavedAs, entry_text, first_notes, head_text, is_lost, loss_text, lost_lines, lost_text, pair_text, saved_lines};
+ghost use Rattle.stickd_ctl.specs.Saving.{AreOf, AreOrdered, IsSavedAs, entry_text, head_text, is_lost, loss_text, lost_lines, lost_text, order_note, pair_text, saved_lines, whole_text};
 
 use crate::lines::{is_row, key_of, read_header, split_at_first, value_of};
 use base_lines::{Parts, push_decimal};
@@ -22,6 +22,10 @@ const LONGEST_LIFE: u64 = 0x7fff_ffff;
 const FIRST_NOTES: &[u8] = b"\
 # saved by stickd: the ms that an entry has left, and the command that makes it
 # not saved: rates, and which connections hold an entry
+";
+
+/// What isn't known where a listing stands in the order of its keys.
+const ORDER_NOTE: &[u8] = b"\
 # not known: which of two entries goes first that have the same time left, as all of a table without expire
 ";
 
@@ -230,11 +234,23 @@ fn push_listing(
     Ok(())
 }
 
-/// What tables held, so far. Contracts see what isn't saved, and the lines of the entries.
+/// Appends what isn't known, where the order of some entries isn't.
+fn push_order(text: &mut Vec<u8>, is_known: bool) -> Result<(), NoMemory>
+    ensures { OnOk result (text.new.items ≡ text.old.items ++ order_note is_known) }
+{
+    if is_known {
+        return Ok(());
+    }
+    text.extend_from_slice(ORDER_NOTE)?;
+    Ok(())
+}
+
+/// What tables held, so far. Contracts see whether the order of all entries is known, what isn't saved, and the lines of the others.
 #[derive(Drop)]
 pub struct Saved {
     alloc: Global,
-    notes: Vec<u8>,
+    order_known: bool,
+    losses: Vec<u8>,
     lines: Vec<u8>,
 }
 
@@ -243,43 +259,55 @@ impl Model for Saved {
 
     ghost Value = { SavedText };
 
-    ghost view = { λ saved. record { notes = saved.notes.items; lines = saved.lines.items } };
+    ghost view = { λ saved. record { order_known = saved.order_known; losses = saved.losses.items; lines = saved.lines.items } };
 }
 
 impl Saved {
     /// No table yet.
-    pub fn new(alloc: Global) -> Result<Saved, NoMemory>
-        ensures { IfOk result (λ saved. saved ≡ record { notes = first_notes; lines = [] }) }
+    pub fn new(alloc: Global) -> Saved
+        ensures { result ≡ record { order_known = true; losses = []; lines = [] } }
     {
-        let mut notes = Vec::new(alloc);
-        notes.extend_from_slice(FIRST_NOTES)?;
-        Ok(Saved {
+        Saved {
             alloc,
-            notes,
+            order_known: true,
+            losses: Vec::new(alloc),
             lines: Vec::new(alloc),
-        })
+        }
     }
 
-    /// One table more, by its listing. Nothing is promised of what a table's line doesn't stand before.
-    pub fn add(&mut self, table: &[u8], listing: &[u8]) -> Result<(), NoMemory>
-        ensures notes { OnOk result (self.new.notes ≡ self.old.notes ++ loss_text table.now (length (lost_lines listing.now))) }
+    /// One table more, by its listing, which stands in the order in which its entries go, or doesn't. Nothing is promised of what a
+    /// table's line doesn't stand before.
+    pub fn add(
+        &mut self,
+        table: &[u8],
+        listing: &[u8],
+        is_oldest_first: bool,
+    ) -> Result<(), NoMemory>
+        ensures order { OnOk result (self.new.order_known ≡ (self.old.order_known && is_oldest_first)) }
+        ensures losses { OnOk result (self.new.losses ≡ self.old.losses ++ loss_text table.now (length (lost_lines listing.now))) }
         ensures lines { OnOk result ((lines : List ℕ) × IsSavedAs table.now listing.now lines × (self.new.lines ≡ self.old.lines ++ lines)) }
     {
-        push_loss(&mut self.notes, table, count_lost(listing))?;
+        push_loss(&mut self.losses, table, count_lost(listing))?;
         push_listing(self.alloc, &mut self.lines, table, listing)?;
+        self.order_known = self.order_known && is_oldest_first;
         Ok(())
     }
 
-    /// The whole text: what isn't saved, and then the lines of the entries.
+    /// The whole text: what isn't saved or known, and then the lines of the entries.
     pub fn into_text(self) -> Result<Vec<u8>, NoMemory>
-        ensures { IfOk result (λ text. text.items ≡ self.notes ++ self.lines) }
+        ensures { IfOk result (λ text. text.items ≡ whole_text self) }
     {
         let Saved {
-            alloc: _,
-            mut notes,
+            alloc,
+            order_known,
+            losses,
             lines,
         } = self;
-        notes.extend_from_slice(lines.as_slice())?;
-        Ok(notes)
+        let mut text = Vec::new(alloc);
+        text.extend_from_slice(FIRST_NOTES)?;
+        push_order(&mut text, order_known)?;
+        text.extend_from_slice(losses.as_slice())?;
+        text.extend_from_slice(lines.as_slice())?;
+        Ok(text)
     }
 }

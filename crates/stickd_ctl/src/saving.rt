@@ -8,7 +8,7 @@ use crate::client::{BAD_WORDS, DONE, FAILED, answer_of, say_no_memory, show};
 use crate::errors::is_error;
 use crate::lines::{read_header, split_at_first};
 use crate::saved::Saved;
-use crate::show_table::show_command;
+use crate::show_table::{oldest_first_command, show_command};
 use base_lines::Parts;
 use base_sequence::NoMemory;
 use std::alloc::Global;
@@ -106,6 +106,40 @@ fn asked<R: Net + Eprint + AllocGlobal>(
     Ok(answer)
 }
 
+/// What a table of this name holds, in the order in which its entries go. None where nobody there tells that, as a command socket, or
+/// a stickd that is older; then `show table` tells the rest, or why it doesn't.
+fn asked_oldest_first<R: Net + Eprint + AllocGlobal>(
+    rt: &R,
+    path: &str,
+    name: &[u8],
+) -> Result<Option<Vec<u8>>, Unsaved> {
+    let command = oldest_first_command(rt.alloc(), name)?;
+    let Some(answer) = answer_of(rt, path, command.as_slice())? else {
+        return Err(Unsaved::Said(FAILED));
+    };
+    if is_error(&answer) || !answer.ends_with(b"\n\n") {
+        return Ok(None);
+    }
+    Ok(Some(answer))
+}
+
+/// Adds what a table holds.
+fn save_table<R: Net + Eprint + AllocGlobal>(
+    rt: &R,
+    path: &str,
+    name: &[u8],
+    saved: &mut Saved,
+) -> Result<(), Unsaved> {
+    if let Some(listing) = asked_oldest_first(rt, path, name)? {
+        saved.add(name, listing.as_slice(), true)?;
+        return Ok(());
+    }
+    let command = show_command(rt.alloc(), name)?;
+    let listing = asked(rt, path, command.as_slice())?;
+    saved.add(name, listing.as_slice(), false)?;
+    Ok(())
+}
+
 /// Adds what each of these tables holds.
 fn save_each<R: Net + Eprint + AllocGlobal>(
     rt: &R,
@@ -114,9 +148,7 @@ fn save_each<R: Net + Eprint + AllocGlobal>(
     saved: &mut Saved,
 ) -> Result<(), Unsaved> {
     for name in names {
-        let command = show_command(rt.alloc(), name)?;
-        let listing = asked(rt, path, command.as_slice())?;
-        saved.add(name, listing.as_slice())?;
+        save_table(rt, path, name, saved)?;
     }
     Ok(())
 }
@@ -127,7 +159,7 @@ fn saved_text<R: Net + Eprint + AllocGlobal>(
     path: &str,
     words: &[&str],
 ) -> Result<Vec<u8>, Unsaved> {
-    let mut saved = Saved::new(rt.alloc())?;
+    let mut saved = Saved::new(rt.alloc());
     if words.is_empty() {
         let headers = asked(rt, path, SHOW)?;
         let names = names_in(rt.alloc(), headers.as_slice())?;

@@ -33,7 +33,8 @@ With --watch, on a terminal, '* ' stands before each line that wasn't there the 
 The status is 1 where a command did nothing, or nobody answers at PATH.
   stickd ctl --socket /run/stickd.sock show table www data.conn_cur gt 10
 'save' and the names of tables, or none for all, write what they hold, as --load reads it:
-  stickd ctl --socket /run/stickd.sock save > tables.saved";
+  stickd ctl --socket /run/stickd.sock save > tables.saved
+Where PATH is the stats socket, they keep which entry goes first where a table is full.";
 
 /// What `stickd top --help` says last.
 pub(crate) const TOP_HELP: &str = "\

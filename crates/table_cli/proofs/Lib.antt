@@ -2,3 +2,4 @@ pub mod ShardLemmas
 pub mod TableLemmas
 pub mod ClockLemmas
 pub mod LineLemmas
+pub mod OldestLemmas

@@ -44,14 +44,15 @@ position-map p f xs =
     ap (λ n. cond (nat_lt (position_or_len p (map f xs)) n) (Some (position_or_len p (map f xs))) None) (length-map xs f)
     ∙ ap (λ n. cond (nat_lt n (length xs)) (Some n) None) (position_or_len-map p f xs)
 
-module _ {K S : Type 0} (answers : Answering S) (refuses : Refusing S) (spec : K → Spec) (parts : K → ℕ) (state : K → S) where
+module _ {K S : Type 0} (spec : K → Spec) (parts : K → ℕ) (state : K → S) where
   -- the table at a place, as it is seen
-  seen_at : (tables : List (Named K)) (place : ℕ) (was : Named K) → place < length tables → was ≡ get_or tables place was
+  pub seen_at : (tables : List (Named K)) (place : ℕ) (was : Named K) → place < length tables → was ≡ get_or tables place was
       → state_of spec parts state was ≡ get_or (states_of spec parts state tables) place (state_of spec parts state was)
   seen_at tables place was within is =
       let f : Named K → NamedState S = state_of spec parts state in
       ap f is ∙ sym (get_or-map f tables place was (f was) within)
 
+module _ {K S : Type 0} (answers : Answering S) (refuses : Refusing S) (spec : K → Spec) (parts : K → ℕ) (state : K → S) where
   -- that table alone has another state
   seen_after : (tables : List (Named K)) (place : ℕ) (was now : Named K) → now.name ≡ was.name → spec now.keeper ≡ spec was.keeper → parts now.keeper ≡ parts was.keeper
       → states_of spec parts state (set tables place now) ≡ set (states_of spec parts state tables) place (record (state_of spec parts state was) { state = state now.keeper })
@@ -72,7 +73,7 @@ module _ {K S : Type 0} (answers : Answering S) (refuses : Refusing S) (spec : K
       let f : Named K → NamedState S = state_of spec parts state in
       let placed : place_of name (map f tables) ≡ Some place = position-map (λ (table : NamedState S). bytes_eq table.name name) f tables ∙ sym found in
       subst (λ o. AsksOf answers refuses moment request o (map f tables) text (map f (set tables place now))) (sym placed)
-      (f was, state now.keeper, asked, seen_at tables place was within is, asks, does, seen_after tables place was now same kept divided)
+      (f was, state now.keeper, asked, seen_at spec parts state tables place was within is, asks, does, seen_after tables place was now same kept divided)
 
   -- there is no table of the name
   pub no_table : (moment : ℕ) (request : Request) (name : List ℕ) (tables : List (Named K)) → None ≡ position (λ table. bytes_eq table.name name) tables
@@ -91,7 +92,7 @@ module _ {K S : Type 0} (answers : Answering S) (refuses : Refusing S) (spec : K
       → IsHead (state_of spec parts state was) replies end head
       → HeadAt answers refuses moment (states_of spec parts state tables) place head (states_of spec parts state (set tables place now))
   head_at moment tables place was now replies end head within is same kept divided asks heads =
-      (state_of spec parts state was, state now.keeper, replies, end, seen_at tables place was within is, asks, heads, seen_after tables place was now same kept divided)
+      (state_of spec parts state was, state now.keeper, replies, end, seen_at spec parts state tables place was within is, asks, heads, seen_after tables place was now same kept divided)
 
 pub says_head : {S : Type 0} (table : NamedState S) (replies : List Reply) (end : Option Message) → end ≡ None
     → IsHead table replies end (Ok (header_text table.name table.spec.kind table.spec.size (used_of (total replies))))

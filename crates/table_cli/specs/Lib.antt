@@ -6,3 +6,4 @@ pub mod Lives
 pub mod SavedLines
 pub mod Loading
 pub mod SeenLines
+pub mod OldestFirst

@@ -4,6 +4,8 @@
 //! It says which shards a line asks, what their replies come to, and what it is answered. The commands are `show table`, `set
 //! table` and `clear table` (HAProxy Management Guide 2.8). `table_texts` reads and prints them.
 //!
+//! What a table holds is also shown in the order in which its entries go, which no event of a table tells: `show_oldest_first`.
+//!
 //! What tables held is loaded by the same commands, from the lines that were saved of them. A line is the ms that an entry has
 //! left, and the command that makes it: `60000 cmd set table t key 10.0.0.1 data.gpc0 5`. It is answered by a clock that stands at
 //! the moment at which the entry was refreshed. All such moments lie before the one at which the tables go on.
@@ -13,16 +15,19 @@ mod fault;
 mod lives;
 mod load_fault;
 mod loading;
+mod oldest_first;
 mod saved_line;
 mod serve;
 mod service;
 mod shards;
+mod stamped;
 mod tables;
 
 pub use fault::{CliFault, CliFaultKind};
 pub use lives::{age, life_of, longest_life};
 pub use load_fault::{LineFault, LoadFault};
 pub use loading::load;
+pub use oldest_first::{answer_oldest_first, show_oldest_first};
 pub use saved_line::{Line, read_line};
 pub use serve::answer;
 pub use service::CommandService;

@@ -28,7 +28,7 @@ use stick_model::Event;
 use table_texts::{Answer, Form, Message, Request, read_event, read_form};
 
 /// The place of the first table of a name.
-fn place_of<K: Keeper>(tables: &[Named<K>], name: &[u8]) -> Option<usize>
+pub(crate) fn place_of<K: Keeper>(tables: &[Named<K>], name: &[u8]) -> Option<usize>
     ensures place { result ≡ position (λ table. bytes_eq table.name name.now) tables.now }
     ensures within { IfSome result (λ place. place < length tables.now) }
 {

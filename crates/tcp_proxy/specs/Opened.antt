@@ -1,8 +1,11 @@
 -- The tables of a setup, as threads share them.
-use Rattle.std.specs.Prelude.{◌≡◌, ◌+◌, ◌*◌, ℕ, Bool, List, length, map}
+use Rattle.std.specs.Prelude.{◌≡◌, ◌+◌, ◌*◌, ◌/◌, ◌%◌, ℕ, Bool, List, get_or, length, map, slice_get}
+use Rattle.std.specs.Option.{option_map_or}
 use Rattle.stick_model.specs.declared.specification.Spec.{Spec}
 use Rattle.rule_model.specs.declared.sections.NamedSpec.{NamedSpec}
 use Rattle.rule_model.specs.declared.sections.Setup.{Setup}
+use Rattle.shard_record.specs.Views.{no_spec}
+use Rattle.shard_book.specs.Keeping.{part_of}
 use Rattle.shard_locks.specs.ShardsState.{ShardsState}
 use Rattle.tcp_proxy.specs.declared.opening.CallRecord.{CallRecord}
 
@@ -22,7 +25,22 @@ declared_table shards keep named = record { spec = unseeded named.spec; shards =
 abbrev pub AreDeclared : ℕ → Bool → List NamedSpec → List ShardsState → Type 0
 AreDeclared shards keep named tables = map but_for_seed tables ≡ map (declared_table shards keep) named
 
--- a record has a book for each shard of each table, and a seat at each table for each worker, each thread that answers clients, and the housekeeping
+-- a record has a book for each shard of each table, and a seat at each table for each worker, each thread that answers clients, and the housekeeping; and each table has a seed
 pub record HasPlaces (setup : Setup) (calls : CallRecord) : Type 0 where
   pub books : calls.opened.books ≡ setup.shards * length setup.tables
+  pub seeds : length calls.seeds.items ≡ length setup.tables
   pub seats : calls.opened.seats ≡ (calls.workers + calls.clients + 1) * length setup.tables
+
+-- ---- with what a record has the books made
+
+-- a declared table by a seed of its own
+abbrev pub seeded : ℕ → NamedSpec → Spec
+seeded seed named = record named.spec { seed = seed }
+
+-- the table of this number
+abbrev pub table_spec : List NamedSpec → List ℕ → ℕ → Spec
+table_spec tables seeds table = option_map_or (seeded (get_or seeds table 0)) (slice_get tables table) no_spec
+
+-- the books of a table stand one after another, those of the first table first; each is made with its shard's part of its table
+abbrev pub book_spec : Setup → List ℕ → ℕ → Spec
+book_spec setup seeds book = part_of (table_spec setup.tables seeds (book / setup.shards)) setup.shards (book % setup.shards)

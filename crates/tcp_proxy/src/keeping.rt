@@ -9,9 +9,8 @@ use crate::plan::Plan;
 use crate::running::report;
 use crate::service_threads::{Asked, SeatedTable, ServiceThread, seats_of};
 use crate::shared::ProxyRuntime;
-use base_clock::{Clock, RunningClock, Start, StoppedClock};
+use base_clock::{Clock, RunningClock, Start};
 use base_sequence::NoMemory;
-use byte_ports::MemorySink;
 use log::{Log, info};
 use rule_model::Setup;
 use shard_book::Named;
@@ -24,8 +23,9 @@ use std::mem;
 use std::os::unix::fs::OpenOptionsExt;
 use std::rt::Files;
 use stick_table::Table;
-use stickd_ctl::{Saved, is_error, show_command};
-use table_cli::{answer, life_of, load};
+use stickd_ctl::Saved;
+use table_cli::{life_of, load, show_oldest_first};
+use table_texts::Answer;
 use tcp_relay::FaultKind;
 
 /// The permissions of a saved file: its owner's alone, since it names clients.
@@ -98,7 +98,7 @@ fn load_tables<T: Table, J: Naming, R: ProxyRuntime + Files + AllocGlobal + Epri
 /// Adds what the table of a place holds, at a moment.
 fn save_one<T: Table, J: Naming, R: ProxyRuntime + Files + AllocGlobal + Eprint>(
     alloc: Global,
-    tables: &mut [SeatedTable<'_, T, J, R>],
+    tables: &[SeatedTable<'_, T, J, R>],
     place: usize,
     moment: u64,
     saved: &mut Saved,
@@ -108,12 +108,9 @@ fn save_one<T: Table, J: Naming, R: ProxyRuntime + Files + AllocGlobal + Eprint>
     let Some(named) = tables.get(place) else {
         return Ok(());
     };
-    let name = named.name.copy()?;
-    let command = show_command(alloc, name.as_slice())?;
-    let mut clock = StoppedClock::at(moment);
-    let mut sink = MemorySink::new(alloc, usize::MAX, None);
-    match answer(alloc, tables, &mut clock, command.as_slice(), &mut sink) {
-        Ok(_) if !is_error(sink.written()) => saved.add(name.as_slice(), sink.written()),
+    let name = named.name.as_slice();
+    match show_oldest_first(alloc, tables, moment, name) {
+        Answer::Listing(listing) => saved.add(name, listing.as_slice(), true),
         _ => Err(NoMemory),
     }
 }
@@ -121,12 +118,12 @@ fn save_one<T: Table, J: Naming, R: ProxyRuntime + Files + AllocGlobal + Eprint>
 /// What tables hold at a moment.
 fn text_of<T: Table, J: Naming, R: ProxyRuntime + Files + AllocGlobal + Eprint>(
     alloc: Global,
-    tables: &mut [SeatedTable<'_, T, J, R>],
+    tables: &[SeatedTable<'_, T, J, R>],
     moment: u64,
 ) -> Result<Vec<u8>, NoMemory>
     requires { moment < 2 ^ 62 }
 {
-    let mut saved = Saved::new(alloc)?;
+    let mut saved = Saved::new(alloc);
     for place in 0..tables.len() {
         save_one(alloc, tables, place, moment, &mut saved)?;
     }
@@ -179,11 +176,11 @@ fn save_all<T: Table, J: Naming, R: ProxyRuntime + Files + AllocGlobal + Eprint>
     path: &str,
 ) -> io::Result<(Vec<SharedSeat<J>>, bool)> {
     let moment = RunningClock::new(rt, start).now();
-    let Ok(mut asked) = seat_all(alloc, rt, setup, tables, seats) else {
+    let Ok(asked) = seat_all(alloc, rt, setup, tables, seats) else {
         report(rt, FaultKind::NoMemory)?;
         return Ok((Vec::new(alloc), false));
     };
-    let is_saved = match text_of(alloc, asked.tables.as_mut_slice(), moment) {
+    let is_saved = match text_of(alloc, asked.tables.as_slice(), moment) {
         Ok(text) => match replace_file(alloc, rt, path, text.as_slice()) {
             Ok(()) => {
                 info!(rt; "saved to {path}");

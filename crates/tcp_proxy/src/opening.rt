@@ -3,9 +3,10 @@
 ghost use Rattle.std.specs.Prelude.{◌≡◌, ◌≤◌, ◌+◌, ◌*◌, ◌++◌, ◌∷◌, [], length, vec_len, IfOk, IfSome, OnOk};
 ghost use Rattle.stick_model.specs.Limits.{IsTableSpec};
 ghost use Rattle.shard_record.specs.Dealing.{HasLeft};
+ghost use Rattle.shard_locks.specs.Shared.{AreParts};
 ghost use Rattle.admit_drive.specs.Tables.{CanOpen};
 ghost use Rattle.tcp_relay.specs.Serving.{AreSeats, AreTablesOf};
-ghost use Rattle.tcp_proxy.specs.Opened.{AreDeclared, HasPlaces, but_for_seed, declared_table};
+ghost use Rattle.tcp_proxy.specs.Opened.{AreDeclared, HasPlaces, book_spec, but_for_seed, declared_table, seeded};
 
 use base_sequence::NoMemory;
 use rule_model::{NamedSpec, Setup};
@@ -31,11 +32,12 @@ impl From<NoMemory> for OpenFault {
     }
 }
 
-/// The record of the calls of all tables of a setup, before it has a name; and how many threads are to call each table beside the
-/// one that does the housekeeping: the workers, and those that answer clients.
+/// The record of the calls of all tables of a setup, before it has a name; the seed of each table; and how many threads are to call
+/// each table beside the one that does the housekeeping: the workers, and those that answer clients.
 #[derive(Drop)]
 pub(crate) struct CallRecord {
     pub opened: Opened,
+    pub seeds: Vec<u64>,
     pub workers: u32,
     pub clients: u32,
 }
@@ -77,27 +79,16 @@ impl<T: Table, J: Naming> OpenTables<T, J> {
 
 /// A record for the calls of all tables of a setup, by so many workers and so many threads that answer clients. None where there
 /// is no memory for it, or where its books or seats are more than 2^32 - 1.
-pub(crate) fn open_record(
-    alloc: Global,
-    setup: &Setup,
-    workers: u32,
-    clients: u32,
-) -> Option<CallRecord>
+fn open_unnamed(alloc: Global, setup: &Setup, workers: u32, clients: u32) -> Option<Opened>
     requires workers { (1 ≤ workers) × (workers ≤ 64) }
     requires clients { (1 ≤ clients) × (clients ≤ 128) }
-    ensures callers { IfSome result (λ calls. (calls.workers ≡ workers) × (calls.clients ≡ clients)) }
-    ensures clients { IfSome result (λ calls. (1 ≤ calls.clients) × (calls.clients ≤ 128)) }
-    ensures places { IfSome result (λ calls. HasPlaces setup.now calls) }
+    ensures books { IfSome result (λ opened. opened.books ≡ setup.now.shards * length setup.now.tables) }
+    ensures seats { IfSome result (λ opened. opened.seats ≡ (workers + clients + 1) * length setup.now.tables) }
 {
     let tables = u32::try_from(setup.tables.as_slice().len()).ok()?;
     let books = setup.shards.checked_mul(tables)?;
     let seats = (workers + clients + 1).checked_mul(tables)?;
-    let opened = Opened::new(alloc, books, seats).ok()?;
-    Some(CallRecord {
-        opened,
-        workers,
-        clients,
-    })
+    Opened::new(alloc, books, seats).ok()
 }
 
 /// A number that nobody outside can foresee.
@@ -105,6 +96,51 @@ fn draw_seed(rt: &impl RandomSource) -> io::Result<u64> {
     let mut bytes = [0u8; 8];
     rt.fill_bytes(&mut bytes)?;
     Ok(u64::from_le_bytes(bytes))
+}
+
+/// So many of these.
+fn draw_seeds(alloc: Global, rt: &impl RandomSource, count: usize) -> Result<Vec<u64>, OpenFault>
+    ensures count { IfOk result (λ seeds. length seeds.items ≡ count) }
+{
+    let mut seeds = Vec::new(alloc);
+    let mut drawn = 0usize;
+    while drawn < count {
+        let seed = match draw_seed(rt) {
+            Ok(seed) => seed,
+            Err(reason) => return Err(OpenFault::NoSeed(reason)),
+        };
+        if seeds.push(seed).is_err() {
+            return Err(OpenFault::NoMemory);
+        }
+        drawn += 1;
+    }
+    Ok(seeds)
+}
+
+/// A record for the calls of all tables of a setup, and a seed for each of these.
+pub(crate) fn open_record(
+    alloc: Global,
+    rt: &impl RandomSource,
+    setup: &Setup,
+    workers: u32,
+    clients: u32,
+) -> Result<CallRecord, OpenFault>
+    requires workers { (1 ≤ workers) × (workers ≤ 64) }
+    requires clients { (1 ≤ clients) × (clients ≤ 128) }
+    ensures callers { IfOk result (λ calls. (calls.workers ≡ workers) × (calls.clients ≡ clients)) }
+    ensures clients { IfOk result (λ calls. (1 ≤ calls.clients) × (calls.clients ≤ 128)) }
+    ensures places { IfOk result (λ calls. HasPlaces setup.now calls) }
+{
+    let Some(opened) = open_unnamed(alloc, setup, workers, clients) else {
+        return Err(OpenFault::NoMemory);
+    };
+    let seeds = draw_seeds(alloc, rt, setup.tables.as_slice().len())?;
+    Ok(CallRecord {
+        opened,
+        seeds,
+        workers,
+        clients,
+    })
 }
 
 /// The last of some seats.
@@ -132,6 +168,7 @@ fn open_table<T: Table, J: Naming>(
     requires workers { (1 ≤ workers) × (workers ≤ 64) }
     requires clients { (1 ≤ clients) × (clients ≤ 128) }
     requires left { HasLeft dealer.old shards (workers + clients + 1) }
+    requires parts { AreParts J.specs dealer.old.kept (seeded seed named.now) shards }
     ensures dealt { OnOk result (dealer.new ≡ record dealer.old { kept = dealer.old.kept + shards; seated = dealer.old.seated + (workers + clients + 1) }) }
     ensures table { IfOk result (λ opened. but_for_seed opened.table ≡ declared_table shards keep named.now) }
     ensures workers { IfOk result (λ opened. vec_len opened.workers ≡ workers) }
@@ -151,14 +188,14 @@ fn open_table<T: Table, J: Naming>(
     })
 }
 
-/// Opens the tables of a setup, in order of declaration, each in the setup's number of shards and by a seed of its own.
-/// With `keep` their seats keep receipts. One record has the calls of all. There are so many workers, 1 to 64, and so many threads
-/// that answer clients, 1 to 128.
+/// Opens the tables of a setup, in order of declaration, each in the setup's number of shards and by its seed. With `keep` their
+/// seats keep receipts. One record has the calls of all, and says that they are made so. There are so many workers, 1 to 64, and so
+/// many threads that answer clients, 1 to 128.
 fn open_tables<T: Table, J: Naming>(
     alloc: Global,
-    rt: &impl RandomSource,
     dealer: &mut Dealer<J>,
     setup: &Setup,
+    seeds: &[u64],
     workers: u32,
     clients: u32,
     keep: bool,
@@ -167,6 +204,9 @@ fn open_tables<T: Table, J: Naming>(
     requires workers { (1 ≤ workers) × (workers ≤ 64) }
     requires clients { (1 ≤ clients) × (clients ≤ 128) }
     requires left { HasLeft dealer.old (setup.now.shards * length setup.now.tables) ((workers + clients + 1) * length setup.now.tables) }
+    requires first { dealer.old.kept ≡ 0 }
+    requires seeds { length seeds.now ≡ length setup.now.tables }
+    requires specs { J.specs ≡ book_spec setup.now seeds.now }
     ensures tables { IfOk result (λ opened. AreDeclared setup.now.shards keep setup.now.tables opened.tables.items) }
     ensures served { IfOk result (λ opened. AreTablesOf setup.now opened.tables.items) }
     ensures workers { IfOk result (λ opened. AreSeats (length opened.tables.items) workers opened.workers) }
@@ -179,16 +219,13 @@ fn open_tables<T: Table, J: Naming>(
         commands: Vec::new(alloc),
         keepers: Vec::new(alloc),
     };
-    for named in setup.tables.as_slice() {
-        let seed = match draw_seed(rt) {
-            Ok(seed) => seed,
-            Err(reason) => return Err(OpenFault::NoSeed(reason)),
-        };
+    let tables = setup.tables.as_slice();
+    for table in 0..tables.len() {
         let one = open_table(
             alloc,
             dealer,
-            named,
-            seed,
+            &tables[table],
+            seeds[table],
             setup.shards,
             workers,
             clients,
@@ -202,7 +239,6 @@ fn open_tables<T: Table, J: Naming>(
 /// Opens the tables of a setup as `open_tables` does, with a record that gets its name here.
 pub(crate) fn open_recorded<T: Table, J: Naming>(
     alloc: Global,
-    rt: &impl RandomSource,
     setup: &Setup,
     calls: CallRecord,
     keep: bool,
@@ -211,6 +247,7 @@ pub(crate) fn open_recorded<T: Table, J: Naming>(
     requires workers { (1 ≤ calls.workers) × (calls.workers ≤ 64) }
     requires clients { (1 ≤ calls.clients) × (calls.clients ≤ 128) }
     requires name { (calls.opened.first.table_id ≡ J.record_id) × (calls.opened.books ≡ J.books) }
+    requires specs { J.specs ≡ book_spec setup.now calls.seeds.items }
     requires places { HasPlaces setup.now calls }
     ensures tables { IfOk result (λ opened. AreDeclared setup.now.shards keep setup.now.tables opened.tables.items) }
     ensures served { IfOk result (λ opened. AreTablesOf setup.now opened.tables.items) }
@@ -220,11 +257,13 @@ pub(crate) fn open_recorded<T: Table, J: Naming>(
 {
     let CallRecord {
         opened,
+        seeds,
         workers,
         clients,
     } = calls;
     let Ok(mut dealer) = Dealer::new(alloc, opened) else {
         return Err(OpenFault::NoMemory);
     };
-    open_tables(alloc, rt, &mut dealer, setup, workers, clients, keep)
+    let seeds = seeds.as_slice();
+    open_tables(alloc, &mut dealer, setup, seeds, workers, clients, keep)
 }

@@ -3,7 +3,7 @@
 ghost use Rattle.std.specs.Prelude.{◌≡◌, ◌≤◌, length, is_some, true};
 ghost use Rattle.admit_drive.specs.Tables.{CanOpen};
 ghost use Rattle.tcp_relay.specs.Serving.{AreSeats, AreTablesOf};
-ghost use Rattle.tcp_proxy.specs.Opened.{HasPlaces};
+ghost use Rattle.tcp_proxy.specs.Opened.{HasPlaces, book_spec};
 
 use crate::ending::{Left, give_up_all, settle_all};
 use crate::instruments::Instruments;
@@ -90,9 +90,12 @@ pub fn run_proxy<
         return Ok(false);
     };
     let clients = plan.duties(instruments.awaits_signals()).sum();
-    let Some(calls) = open_record(alloc, setup, plan.threads, clients) else {
-        report(rt, FaultKind::NoMemory)?;
-        return Ok(false);
+    let calls = match open_record(alloc, rt, setup, plan.threads, clients) {
+        Ok(calls) => calls,
+        Err(fault) => {
+            eprintln!(rt; "stickd: {fault}")?;
+            return Ok(false);
+        }
     };
     run_recorded::<Brand, T, R>(alloc, rt, setup, bind, plan, &instruments, calls)
 }
@@ -101,7 +104,7 @@ pub fn run_proxy<
 fn run_recorded<
     J: Naming + Send + Sync,
     T: Table + Send,
-    R: ProxyRuntime + Files + AllocGlobal + Eprint + RandomSource + Print,
+    R: ProxyRuntime + Files + AllocGlobal + Eprint + Print,
 >(
     alloc: Global,
     rt: &R,
@@ -117,10 +120,11 @@ fn run_recorded<
     requires workers { calls.workers ≡ plan.threads }
     requires clients { (1 ≤ calls.clients) × (calls.clients ≤ 128) }
     requires name { (calls.opened.first.table_id ≡ J.record_id) × (calls.opened.books ≡ J.books) }
+    requires specs { J.specs ≡ book_spec setup.now calls.seeds.items }
     requires places { HasPlaces setup.now calls }
 {
     let keep = plan.stop_after.is_some();
-    match open_recorded::<T, J>(alloc, rt, setup, calls, keep) {
+    match open_recorded::<T, J>(alloc, setup, calls, keep) {
         Ok(tables) => start(alloc, rt, setup, bind, plan, instruments, tables),
         Err(fault) => {
             eprintln!(rt; "stickd: {fault}")?;

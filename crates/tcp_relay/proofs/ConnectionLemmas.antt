@@ -1,5 +1,5 @@
 -- A connection that a worker holds can go on by the worker's ports.
-use Rattle.std.proofs.Common.{◌≡◌, ℕ, zero, suc, ◌<◌, ◌≤◌, refl, sym, ap, subst, ◌∙◌, arith, false, List, [], ◌∷◌, ◌++◌, drop, length, map, slice_get, take, Option, Some, None, is_some, Global, Vec, vec_len}
+use Rattle.std.proofs.Common.{◌≡◌, ℕ, zero, suc, ◌<◌, ◌≤◌, refl, sym, ap, subst, ◌∙◌, arith, Bool, false, List, [], ◌∷◌, ◌++◌, drop, length, map, slice_get, take, Option, Some, None, is_some, Global, Vec, vec_len}
 use Rattle.std.proofs.lemmas.List.{length-map, take-append-le}
 use Rattle.std.proofs.Math.Logic.{∥∥₁_elim, ∥∥₁_map}
 use Rattle.std.proofs.Math.Nat.{ℕ_set}
@@ -23,7 +23,7 @@ use Rattle.admit_port.specs.DriveCode.{CanGoOn, IsConnection}
 use Rattle.admit_port.specs.Ports.{ArePorts, HoldsOf, parts_of}
 use Rattle.tcp_relay.specs.Connections.{IsVisitor}
 use Rattle.tcp_relay.specs.Passed.{HasPassedLimits, HavePassedStill}
-use Rattle.tcp_relay.specs.Seating.{AreIn}
+use Rattle.tcp_relay.specs.Seating.{AreIn, StoreAs}
 
 abbrev shards_of : SeatedState → ℕ
 shards_of one = one.table.shards
@@ -109,6 +109,10 @@ module _ (tables shards : ℕ) (seated : Vec SeatedState Global) (lent : List Se
       let can : CanGoOn seated_meaning seated.items conn = can_go_on tables shards seated.items conn (ap length (sym value) ∙ len ∙ count) each is in
       subst (λ ports. CanGoOn seated_meaning ports conn) (sym (same_ports lent ∙ value)) can
 
+  -- and they store what the tables do
+  pub lent_store : (current : ℕ → Bool) → StoreAs (λ (one : SeatedState). one.table.spec) current seated.items → StoreAs (λ (one : SeatedState). one.table.spec) current (ports_of lent)
+  lent_store current had = subst (StoreAs (λ (one : SeatedState). one.table.spec) current) (sym (same_ports lent ∙ value)) had
+
   -- and then they are as many, in as many shards
   module _ (new : List SeatedState) (parts : parts_of seated_meaning.parts (ports_of new) ≡ parts_of seated_meaning.parts (ports_of lent)) where
     same_parts : map shards_of new ≡ map shards_of seated.items
@@ -122,6 +126,9 @@ module _ (tables shards : ℕ) (seated : Vec SeatedState Global) (lent : List Se
 
     pub each_still : AreIn shards_of shards (take (vec_len seated) (new ++ drop (length new) seated.items))
     each_still = subst (AreIn shards_of shards) (sym same_items) (in_shards shards seated.items new same_parts each)
+
+    pub stored_still : (current : ℕ → Bool) → StoreAs (λ (one : SeatedState). one.table.spec) current (ports_of new) → StoreAs (λ (one : SeatedState). one.table.spec) current (take (vec_len seated) (new ++ drop (length new) seated.items))
+    stored_still current had = subst (StoreAs (λ (one : SeatedState). one.table.spec) current) (same_ports new ∙ sym same_items) had
 
     -- what has passed by the ports has passed by the seats
     pub passed_still : (setup : Setup) (samples : Samples) (conn : Conn RefState) → HasPassedLimits setup samples (ports_of new) conn → HasPassedLimits setup samples (take (vec_len seated) (new ++ drop (length new) seated.items)) conn

@@ -1,16 +1,20 @@
 -- As a connection is judged it holds by sc0 what it tracked first; and once it is admitted, that has passed.
-use Rattle.std.proofs.Common.{◌≡◌, ℕ, zero, suc, ◌≤◌, refl, sym, ap, subst, ◌∙◌, true, false, List, [], ◌∷◌, Some, None}
+use Rattle.std.proofs.Common.{◌≡◌, ℕ, zero, suc, ◌≤◌, refl, sym, ap, subst, ◌∙◌, Bool, true, false, List, [], ◌∷◌, slice_get, Option, Some, None}
+use Rattle.std.proofs.lemmas.Bool.{false≢true}
 use Rattle.stored_data.specs.declared.datum.Datum.TheVariants.{ConnCur}
+use Rattle.stick_model.specs.declared.specification.Spec.{Spec}
 use Rattle.stick_model.specs.declared.rows.Row.{Row}
+use Rattle.shard_book.specs.Keeping.{part_of}
 use Rattle.shard_book.specs.SeatState.{RefState}
 use Rattle.shard_locks.specs.Ported.{seated_meaning}
 use Rattle.shard_locks.specs.ShardsState.{SeatedState}
 use Rattle.rule_model.specs.declared.actions.KeyExpression.TheVariants as keys
 use Rattle.rule_model.specs.declared.actions.Slot.{Slot}
+use Rattle.rule_model.specs.declared.sections.NamedSpec.{NamedSpec}
 use Rattle.rule_model.specs.declared.sections.Setup.{Setup}
 use Rattle.rule_eval.specs.Limit.{IsWithin, LimitsFirst}
 use Rattle.rule_eval.specs.Readings.{value_in}
-use Rattle.rule_eval.specs.Tables.{key_of as source_key}
+use Rattle.rule_eval.specs.Tables.{has_datum, key_of as source_key}
 use Rattle.rule_eval.specs.Verdict.{next}
 use Rattle.rule_eval.specs.declared.wants.Answer.{Answer}
 use Rattle.rule_eval.specs.declared.wants.Answer.TheVariants as answers
@@ -19,6 +23,7 @@ use Rattle.rule_eval.specs.declared.wants.Verdict.TheVariants.{Accept}
 use Rattle.rule_eval.specs.declared.wants.Want.{Want}
 use Rattle.rule_eval.specs.declared.wants.Want.TheVariants as wants
 use Rattle.rule_eval.proofs.LimitLaws.{within_lem}
+use Rattle.rule_eval.proofs.ShownLemmas.{conn_cur_read}
 use Rattle.admit_core.specs.Conn.{needed, progress_of, Stands}
 use Rattle.admit_core.specs.Connection.{Connection, Progress, arrived, is_judged, leaving, need, need_given, need_in, need_of, asks}
 use Rattle.admit_core.specs.Held.{holding}
@@ -32,6 +37,7 @@ use Rattle.admit_port.specs.Visit.{GoesJudged, HasGoneJudged, Visit}
 use Rattle.admit_port.specs.declared.moved.Moved.{Moved}
 use Rattle.admit_port.specs.declared.moved.Moved.TheVariants as moved_so
 use Rattle.tcp_relay.specs.Passed.{HasPassed, HasPassedBy, HasPassedLimits, known_of}
+use Rattle.tcp_relay.specs.Seating.{StoreAs}
 use Rattle.tcp_relay.proofs.PassedHeard.{hears}
 use Rattle.tcp_relay.proofs.PassedHeld.{HoldsSame, IsJudged, refused_judged, turned_judged}
 use Rattle.tcp_relay.proofs.PassedLooks.{passes}
@@ -43,6 +49,7 @@ use Rattle.tcp_relay.proofs.PassedSeats.{HasTracked, IsLimited, has_looked}
 stays : (setup : Setup) (samples : Samples) (table limit : ℕ) (seats : List SeatedState) (connection after : Connection RefState) → IsLimited setup samples table limit seats connection → IsJudged setup samples after → HoldsSame connection after → IsLimited setup samples table limit seats after
 stays setup samples table limit seats connection after limited stands same = record {
   stands = stands;
+  current = limited.current;
   tracked = λ entry at.
       let tracked : HasTracked setup table limit seats connection entry = limited.tracked entry (sym same.sc0 ∙ at) in
       record {
@@ -103,12 +110,13 @@ admitted_passed setup samples name table limit seats connection entry first limi
     let within : IsWithin limit connection.answers = within_lem setup name table limit connection.samples tracked.source connection.answers first tracked.is accepted in
     let shown = within_row limit tracked.rest (subst (IsWithin limit) tracked.begins within) in
     let looked : has_looked limit tracked.seen ≡ true = tracked.looked shown.row shown.more shown.is shown.few in
+    let part : Spec = part_of tracked.seen.seat.table.spec tracked.seen.seat.table.shards entry.1.shard in
     let has : HasPassed setup.shards limit tracked.source (known_of tracked.seen.seat entry.1.shard) entry.1 = record {
       history = tracked.seen.history;
       on_shard = tracked.seen.on_shard;
       of_key = tracked.seen.of_key;
       looked = looked;
-      passed = passes (known_of tracked.seen.seat entry.1.shard) tracked.source limit entry.1.ticket looked;
+      passed = passes part (known_of tracked.seen.seat entry.1.shard) tracked.source limit entry.1.ticket looked tracked.seen.made (limited.current tracked.seen.seat (ap (slice_get seats) (sym tracked.in_table) ∙ tracked.seen.at));
     } in
     (tracked.in_table, record { key = tracked.source; source = source; seat = tracked.seen.seat; at = tracked.seen.at; has = has })
 
@@ -132,14 +140,23 @@ rests_admitted connection none judged rests = rests_in connection.progress.phase
 none_some : {X : Type 0} (x : X) → None ≡ Some x → ⊥
 none_some x e = cc
 
+-- the table of the limit stores conn_cur, as the setup says
+stored_first : (setup : Setup) (name : List ℕ) (table limit : ℕ) (current : ℕ → Bool) → StoreAs (λ (named : NamedSpec). named.spec) current setup.tables → LimitsFirst setup name table limit → current table ≡ true
+stored_first setup name table limit current stores first = by (slice_get setup.tables table) refl first.stored
+  where
+    by : (o : Option NamedSpec) → slice_get setup.tables table ≡ o → has_datum o ConnCur ≡ true → current table ≡ true
+    by None at is = absurd (false≢true is)
+    by (Some named) at is = sym (stores table named at) ∙ (sym (conn_cur_read named.spec.columns) ∙ is)
+
 -- one that has just come, and was judged
-pub judged_passed : {C : Type 0} (shows : C → ℕ → C → Type 0) (setup : Setup) (samples : Samples) (old new : List SeatedState) (conn later : Conn RefState) (clock shown : C) → Stands conn (arrived setup samples) → HasGoneJudged seated_meaning shows old conn clock new later shown
+pub judged_passed : {C : Type 0} (shows : C → ℕ → C → Type 0) (setup : Setup) (samples : Samples) (old new : List SeatedState) (conn later : Conn RefState) (clock shown : C) (current : ℕ → Bool) → StoreAs (λ (named : NamedSpec). named.spec) current setup.tables
+    → StoreAs (λ (one : SeatedState). one.table.spec) current old → Stands conn (arrived setup samples) → HasGoneJudged seated_meaning shows old conn clock new later shown
     → is_judged (progress_of later).phase ≡ false → needed later ≡ needs.Rest → HasPassedLimits setup samples new later
-judged_passed shows setup samples old new conn later clock shown stands gone judged rests name table limit entry first held =
+judged_passed shows setup samples old new conn later clock shown current declared stores stands gone judged rests name table limit entry first held =
     let visit = gone (arrived setup samples) stands in
     let after : Connection RefState = visit.0 in
     let progress : progress_of later ≡ after.progress = visit.1.progress in
-    let begins : IsLimited setup samples table limit old (arrived setup samples) = record { stands = record { ours = refl; known = refl; given = refl; accepted = λ at. cc }; tracked = λ it at. absurd (none_some it at) } in
+    let begins : IsLimited setup samples table limit old (arrived setup samples) = record { stands = record { ours = refl; known = refl; given = refl; accepted = λ at. cc }; current = λ seat at. stores table seat at ∙ stored_first setup name table limit current declared first; tracked = λ it at. absurd (none_some it at) } in
     let limited : IsLimited setup samples table limit new after =
     goes_on setup samples name table limit first shows visit.2.0 (record { ports = old; connection = arrived setup samples; clock = clock }) (record { ports = new; connection = after; clock = shown }) visit.2.1 begins in
     let admitted : after.progress.phase ≡ Admitted = rests_admitted after limited.stands.given (sym (ap (λ (p : Progress RefState). is_judged p.phase) progress) ∙ judged) (sym (need_same later after visit.1) ∙ rests) in

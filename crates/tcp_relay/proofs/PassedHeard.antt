@@ -2,6 +2,7 @@
 use Rattle.std.proofs.Common.{◌≡◌, ⊎_elim, ℕ, ◌≤◌, refl, sym, ap, subst, ◌∙◌, Bool, true, false, not, if◌then◌else◌, List, [], ◌∷◌, ◌++◌, Option, Some, None}
 use Rattle.std.proofs.lemmas.Bool.{false≢true}
 use Rattle.stick_key.specs.Shard.{shard}
+use Rattle.stored_data.specs.Stored.{is_column}
 use Rattle.stored_data.specs.declared.datum.Datum.TheVariants.{ConnCur}
 use Rattle.stick_model.specs.Key.{Key}
 use Rattle.stick_model.specs.declared.events.Event.TheVariants as events
@@ -12,7 +13,7 @@ use Rattle.stick_model.specs.declared.rows.Ticket.{Ticket}
 use Rattle.shard_port.specs.Port.{came_with}
 use Rattle.shard_book.specs.SeatState.{RefState}
 use Rattle.shard_locks.specs.Ported.{seated_meaning}
-use Rattle.shard_locks.specs.ShardsState.{SeatedState}
+use Rattle.shard_locks.specs.ShardsState.{SeatedState, ShardsState}
 use Rattle.rule_model.specs.declared.actions.KeyExpression.TheVariants as keys
 use Rattle.rule_model.specs.declared.actions.Slot.TheVariants.{Sc0}
 use Rattle.rule_model.specs.declared.sections.Setup.{Setup}
@@ -31,7 +32,7 @@ use Rattle.admit_core.specs.Connection.{Connection, Progress, asks, heard as hea
 use Rattle.admit_core.specs.declared.need.Need.TheVariants as needs
 use Rattle.admit_port.specs.Calls.{AnswersAt, Call, IsAskedBy, IsAskedFor, answer_of, heard}
 use Rattle.tcp_relay.proofs.PassedHeld.{HasCome, HasTaken, gave_same, sc0_after, taken, taken_judged, wants_judging}
-use Rattle.tcp_relay.proofs.PassedSeats.{HasTracked, IsLimited, IsSeen, Looked, has_looked, looked_later, looked_more, looked_still, seen_still, told_look, told_track}
+use Rattle.tcp_relay.proofs.PassedSeats.{HasTracked, IsLimited, IsSeen, Looked, has_looked, looked_later, looked_more, looked_still, seen_still, tables_stay, told_look, told_track}
 
 -- ---- what a reply tells
 
@@ -221,6 +222,7 @@ module _ (setup : Setup) (samples : Samples) (name : List ℕ) (table limit now 
 
   heard_so : (after : Connection RefState) → HasTaken connection after (answer_of reply) (came_with seated_meaning asked.shard reply) → IsLimited setup samples table limit new after
   heard_so after took_it = record {
+    current = tables_stay old new asked reply answers_it table (λ (t : ShardsState). is_column t.spec.columns ConnCur ≡ true) limited.current;
     stands = taken_judged setup samples connection after (answer_of reply) (came_with seated_meaning asked.shard reply) limited.stands judged took_it;
     tracked = ⊎_elim same come (sc0_after (asks connection) connection.progress (came_with seated_meaning asked.shard reply));
   }

@@ -8,6 +8,7 @@ use Rattle.stick_model.specs.Key.{Key, same_key}
 use Rattle.stick_model.specs.Legal.{IsLegal}
 use Rattle.stick_model.specs.Passed.{passing_look, passing_looks}
 use Rattle.stick_model.specs.State.{State, refs, same_ticket}
+use Rattle.stick_model.specs.declared.specification.Spec.{Spec}
 use Rattle.stick_model.specs.declared.events.Event.{Event}
 use Rattle.stick_model.specs.declared.events.Event.TheVariants.{Get, Track, Look, Count, Release, Put, Clear, ClearWhere, List as ListRows, Expire}
 use Rattle.stick_model.specs.declared.replies.Reply.{Reply}
@@ -23,7 +24,8 @@ use Rattle.shard_record.specs.Calls.{Answers, IsRecord, events_in, passed_in, re
 use Rattle.shard_record.proofs.Records.{start_legal}
 use Rattle.rule_eval.specs.Readings.{value_in}
 use Rattle.admit_core.proofs.ShownLemmas.{reading_law}
-use Rattle.tcp_relay.specs.Passed.{StoresCurrent, few_in, shows_few}
+use Rattle.shard_book.specs.Kept.{IsMadeWith}
+use Rattle.tcp_relay.specs.Passed.{few_in, shows_few}
 use Rattle.tcp_relay.proofs.PassedCalls.{shown}
 
 -- ---- which calls are looks that show a row
@@ -121,10 +123,10 @@ record_spec : (old : State) (log : List Call) (new : State) → IsRecord old log
 record_spec old [] new is = ap (λ (s : State). s.spec) is
 record_spec old (one ∷ log) new is = record_spec is.0 log new is.2 ∙ step_spec old one.event one.reply is.0 is.1.step
 
-pub passes : (log : List Call) (key : Key) (limit : ℕ) (ticket : Ticket) → list_any (shows_few key limit ticket) log ≡ true → StoresCurrent log → passed_in key limit log (ticket, key) ≡ true
-passes log key limit ticket few stores =
-    let history = stores.1 in
-    let begins : is_column history.start.spec.columns ConnCur ≡ true = ap (λ s. is_column s.columns ConnCur) (sym (record_spec history.start log stores.0 history.runs)) ∙ stores.2 in
+pub passes : (spec : Spec) (log : List Call) (key : Key) (limit : ℕ) (ticket : Ticket) → list_any (shows_few key limit ticket) log ≡ true → IsMadeWith spec log → is_column spec.columns ConnCur ≡ true → passed_in key limit log (ticket, key) ≡ true
+passes spec log key limit ticket few made stores =
+    let history = made.history in
+    let begins : is_column history.start.spec.columns ConnCur ≡ true = ap (λ (s : Spec). is_column s.columns ConnCur) (sym (record_spec history.start log made.live history.runs) ∙ made.made) ∙ stores in
     let looked : list_any (same_ticket ticket) (passing_looks key limit (events_in log) (replies_in log)) ≡ true =
-    record_passes history.start log stores.0 key limit ticket (start_legal history.start history.begins) begins history.runs few in
+    record_passes history.start log made.live key limit ticket (start_legal history.start history.begins) begins history.runs few in
     (λ k. same_key-refl key k && looked k)

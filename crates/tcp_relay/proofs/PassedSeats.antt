@@ -1,8 +1,9 @@
 -- What a connection that tracked its source holds, and what its seats know of it, as one of them is told of a call more.
-use Rattle.std.proofs.Common.{◌≡◌, ℕ, ◌≤◌, refl, sym, ap, subst, ◌∙◌, Bool, true, false, nat_eq, List, [], ◌∷◌, ◌++◌, slice_get, Some}
+use Rattle.std.proofs.Common.{◌≡◌, ℕ, ◌+◌, ◌≤◌, arith, refl, sym, ap, subst, ◌∙◌, Bool, true, false, nat_eq, List, [], ◌∷◌, ◌++◌, slice_get, Some}
 use Rattle.std.specs.List.{list_any}
 use mathlib.Core.List.{IsPrefix}
 use Rattle.stick_key.specs.Shard.{shard}
+use Rattle.stored_data.specs.Stored.{is_column}
 use Rattle.stored_data.specs.declared.datum.Datum.TheVariants.{ConnCur}
 use Rattle.stick_model.specs.Key.{Key}
 use Rattle.stick_model.specs.declared.events.Event.{Event}
@@ -16,8 +17,11 @@ use Rattle.shard_record.specs.declared.view.Call.{Call as Noted}
 use Rattle.shard_record.specs.Calls.{IsHistory, call}
 use Rattle.shard_record.specs.Telling.{IsTold, log_of, number_of}
 use Rattle.shard_record.proofs.Prefixes.{prefix_self}
+use Rattle.shard_book.specs.Keeping.{part_of}
+use Rattle.shard_book.specs.Kept.{IsMadeWith}
 use Rattle.shard_book.specs.SeatState.{RefState}
 use Rattle.shard_locks.specs.Ported.{seated_meaning}
+use Rattle.shard_locks.specs.Shared.{IsOfShard}
 use Rattle.shard_locks.specs.ShardsState.{SeatedState, ShardsState, book_of}
 use Rattle.rule_model.specs.declared.actions.KeyExpression.TheVariants as keys
 use Rattle.rule_model.specs.declared.sections.Setup.{Setup}
@@ -31,7 +35,7 @@ use Rattle.admit_port.specs.Calls.{AnswersAt, Call}
 use Rattle.tcp_relay.specs.Passed.{WasOut, known_of, shows_few}
 use Rattle.tcp_relay.proofs.PassedCalls.{any_later, look_few, track_out, was_out_later}
 use Rattle.tcp_relay.proofs.PassedHeld.{IsJudged}
-use Rattle.tcp_relay.proofs.PassedTold.{get_set_other, get_set_same, told_grows, told_history}
+use Rattle.tcp_relay.proofs.PassedTold.{get_set_other, get_set_same, other_same, told_grows, told_history}
 
 -- ---- what holds of a reference that was tracked first
 
@@ -41,6 +45,7 @@ pub record IsSeen (setup : Setup) (seats : List SeatedState) (key : Key) (entry 
   pub at : slice_get seats entry.0 ≡ Some seat
   pub on_shard : entry.1.shard ≡ shard key setup.shards
   pub history : IsHistory (known_of seat entry.1.shard)
+  pub made : IsOfShard seat.table entry.1.shard seat.known
   pub of_key : WasOut (known_of seat entry.1.shard) entry.1.ticket key
 
 -- whether it had a look of few
@@ -61,9 +66,10 @@ pub record HasTracked (setup : Setup) (table limit : ℕ) (seats : List SeatedSt
   pub begins : connection.answers ≡ answers.Tracked ∷ rest
   pub looked : Looked limit (has_looked limit seen) rest
 
--- a connection while it is judged, and once it was
+-- a connection while it is judged, and once it was; the table of the limit stores conn_cur
 pub record IsLimited (setup : Setup) (samples : Samples) (table limit : ℕ) (seats : List SeatedState) (connection : Connection RefState) : Type 0 where
   pub stands : IsJudged setup samples connection
+  pub current : (seat : SeatedState) → slice_get seats table ≡ Some seat → is_column seat.table.spec.columns ConnCur ≡ true
   pub tracked : (entry : ℕ × RefState) → connection.progress.held.sc0 ≡ Some entry → HasTracked setup table limit seats connection entry
 
 pub looked_later : (limit : ℕ) (looked later : Bool) (rest : List Answer) → (looked ≡ true → later ≡ true) → Looked limit looked rest → Looked limit later rest
@@ -87,6 +93,7 @@ pub record HasGrown (old new : List SeatedState) (seat : SeatedState) (of part :
   pub at : slice_get new of ≡ Some later
   pub more : IsPrefix (known_of seat part) (known_of later part)
   pub history : IsHistory (known_of seat part) → IsHistory (known_of later part)
+  pub made : IsOfShard seat.table part seat.known → IsOfShard later.table part later.known
 
 module _ (old new : List SeatedState) (asked : Call) (reply : Reply) (answers_it : AnswersAt seated_meaning old asked reply new) where
   told : IsTold (book_of answers_it.before.table asked.shard) asked.event reply answers_it.before.known answers_it.after.known
@@ -94,6 +101,34 @@ module _ (old new : List SeatedState) (asked : Call) (reply : Reply) (answers_it
 
   pub after_at : slice_get new asked.table ≡ Some answers_it.after
   after_at = ap (λ seats. slice_get seats asked.table) answers_it.others ∙ get_set_same old asked.table answers_it.after answers_it.before answers_it.at
+
+  -- each seat is of the same table
+  pub tables_stay : (of : ℕ) (P : ShardsState → Type 0) → ((seat : SeatedState) → slice_get old of ≡ Some seat → P seat.table) → (seat : SeatedState) → slice_get new of ≡ Some seat → P seat.table
+  tables_stay of P had seat at = by (nat_eq of asked.table) refl
+    where
+      own : of ≡ asked.table → P seat.table
+      own is =
+          let it : seat ≡ answers_it.after = same_seat seat answers_it.after (sym at ∙ ap (slice_get new) is ∙ after_at) in
+          subst (λ (s : SeatedState). P s.table) (sym it) (subst P (sym answers_it.answers.table) (had answers_it.before (ap (slice_get old) is ∙ answers_it.at)))
+
+      by : (b : Bool) → nat_eq of asked.table ≡ b → P seat.table
+      by true is = own (eq-from of asked.table is)
+      by false is = had seat (sym (ap (λ seats. slice_get seats of) answers_it.others ∙ get_set_other old asked.table of answers_it.after is) ∙ at)
+
+  -- the shard that was asked is of a table that was made so, and of each other it knows as much
+  shard_stays : (part : ℕ) → IsOfShard answers_it.before.table part answers_it.before.known → IsOfShard answers_it.before.table part answers_it.after.known
+  shard_stays part had = by (nat_eq (book_of answers_it.before.table part) (book_of answers_it.before.table asked.shard)) refl
+    where
+      own : book_of answers_it.before.table part ≡ book_of answers_it.before.table asked.shard → IsOfShard answers_it.before.table part answers_it.after.known
+      own is =
+          let same : part ≡ asked.shard = omega (arith, is) in
+          subst (λ n. IsOfShard answers_it.before.table n answers_it.after.known) (sym same) answers_it.answers.of_shard
+
+      by : (b : Bool) → nat_eq (book_of answers_it.before.table part) (book_of answers_it.before.table asked.shard) ≡ b → IsOfShard answers_it.before.table part answers_it.after.known
+      by true is = own (eq-from (book_of answers_it.before.table part) (book_of answers_it.before.table asked.shard) is)
+      by false is =
+          subst (IsMadeWith (part_of answers_it.before.table.spec answers_it.before.table.shards part))
+          (sym (other_same (book_of answers_it.before.table asked.shard) asked.event reply answers_it.before.known answers_it.after.known told (book_of answers_it.before.table part) is)) had
 
   -- its seat knows as much as before, or more
   pub seats_grow : (of part : ℕ) (seat : SeatedState) → slice_get old of ≡ Some seat → HasGrown old new seat of part
@@ -110,6 +145,7 @@ module _ (old new : List SeatedState) (asked : Call) (reply : Reply) (answers_it
             at = ap (slice_get new) is ∙ after_at;
             more = subst (IsPrefix (known_of answers_it.before part)) (sym knows) (told_grows first asked.event reply answers_it.before.known answers_it.after.known told (book_of answers_it.before.table part));
             history = λ had. subst IsHistory (sym knows) (told_history first asked.event reply answers_it.before.known answers_it.after.known told (book_of answers_it.before.table part) had);
+            made = λ had. subst (λ (t : ShardsState). IsOfShard t part answers_it.after.known) (sym answers_it.answers.table) (shard_stays part had);
           })
 
       by : (b : Bool) → nat_eq of asked.table ≡ b → HasGrown old new seat of part
@@ -119,6 +155,7 @@ module _ (old new : List SeatedState) (asked : Call) (reply : Reply) (answers_it
         at = ap (λ seats. slice_get seats of) answers_it.others ∙ get_set_other old asked.table of answers_it.after is ∙ at;
         more = prefix_self (known_of seat part);
         history = λ had. had;
+        made = λ had. had;
       }
 
   -- so what was seen is seen still
@@ -130,6 +167,7 @@ module _ (old new : List SeatedState) (asked : Call) (reply : Reply) (answers_it
         at = grown.at;
         on_shard = seen.on_shard;
         history = grown.history seen.history;
+        made = grown.made seen.made;
         of_key = was_out_later (known_of seen.seat entry.1.shard) (known_of grown.later entry.1.shard) entry.1.ticket key grown.more seen.of_key;
       }
 
@@ -160,6 +198,7 @@ told_track setup old new table part now key given row by on_shard =
       at = after_at old new asked (replies.Tracked given row) by;
       on_shard = on_shard;
       history = subst IsHistory (sym knows) history;
+      made = subst (λ (t : ShardsState). IsOfShard t part by.after.known) (sym by.answers.table) by.answers.of_shard;
       of_key = subst (λ log. WasOut log given key) (sym knows) (track_out before number now key given row history);
     }
 

@@ -6,14 +6,17 @@ use Rattle.std.proofs.Math.Bool.{Bool-set}
 use Rattle.std.proofs.Math.Logic.{∥∥₁_elim}
 use Rattle.std.proofs.lemmas.Bool.{false≢true}
 use mathlib.Core.List.{IsPrefix}
+use Rattle.stored_data.specs.Stored.{is_column}
+use Rattle.stored_data.specs.declared.datum.Datum.TheVariants.{ConnCur}
 use Rattle.stick_model.specs.Key.{Key, same_key}
+use Rattle.stick_model.specs.declared.specification.Spec.{Spec}
 use Rattle.stick_model.specs.declared.replies.Reply.{Reply}
 use Rattle.shard_record.specs.declared.view.Call.{Call as Noted}
 use Rattle.shard_record.specs.Calls.{Held, IsHistory, passed_in}
 use Rattle.shard_record.proofs.Records.{passed_later}
 use Rattle.shard_book.specs.SeatState.{RefState}
 use Rattle.shard_locks.specs.Ported.{seated_meaning}
-use Rattle.shard_locks.specs.ShardsState.{SeatedState}
+use Rattle.shard_locks.specs.ShardsState.{SeatedState, ShardsState}
 use Rattle.rule_model.specs.declared.sections.Setup.{Setup}
 use Rattle.rule_eval.specs.declared.wants.Samples.{Samples}
 use Rattle.admit_core.specs.Connection.{Connection}
@@ -27,9 +30,9 @@ use Rattle.admit_port.specs.declared.moved.Moved.TheVariants.{Answered, Turned, 
 use Rattle.admit_port.specs.declared.moved.Rested.{Rested}
 use Rattle.admit_port.specs.declared.moved.Rested.TheVariants.{Still, Kept as RestsKept}
 use Rattle.tcp_relay.specs.Passed.{HasPassed, HasPassedBy, HavePassedStill, PassedStaysLaw, known_at, known_of, shows_few}
+use Rattle.tcp_relay.specs.Seating.{StoreAs}
 use Rattle.tcp_relay.proofs.PassedCalls.{any_later, was_out_later}
-use Rattle.tcp_relay.proofs.PassedLooks.{passes}
-use Rattle.tcp_relay.proofs.PassedSeats.{seats_grow}
+use Rattle.tcp_relay.proofs.PassedSeats.{seats_grow, tables_stay}
 
 -- by more calls of the same table
 has_later : (shards limit : ℕ) (key : Key) (log later : List Noted) (reference : RefState) → IsPrefix log later → IsHistory later → HasPassed shards limit key log reference → HasPassed shards limit key later reference
@@ -40,7 +43,7 @@ has_later shards limit key log later reference begins history has =
       on_shard = has.on_shard;
       of_key = was_out_later log later reference.ticket key begins has.of_key;
       looked = looked;
-      passed = passes later key limit reference.ticket looked;
+      passed = passed_later key limit log later (reference.ticket, key) begins has.passed;
     }
 
 -- as a seat is told of a call
@@ -81,40 +84,70 @@ told_still old new asked reply by table part limit key held was = of_seat (slice
         let later : known_at new table part ≡ known_of grown.later part = ap (λ o. option_map_or (λ (s : SeatedState). known_of s part) o []) grown.at in
         subst (λ log. passed_in key limit log held ≡ true) (sym later) (passed_later key limit (known_of seat part) (known_of grown.later part) held grown.more passed)
 
-moves_still : (now : ℕ) (old new : List SeatedState) (connection after : Connection RefState) (moved : Moved) → Moves seated_meaning now old connection new after moved → HavePassedStill old new
-moves_still now old new connection after Answered moves = told_still old new moves.0 moves.1 moves.3
-moves_still now old new connection after Turned moves = λ table part limit key held was. subst (λ seats. passed_in key limit (known_at seats table part) held ≡ true) (sym moves.1) was
-moves_still now old new connection after Refused moves = λ table part limit key held was. subst (λ seats. passed_in key limit (known_at seats table part) held ≡ true) (sym moves.2) was
-moves_still now old new connection after Kept moves = λ table part limit key held was. subst (λ seats. passed_in key limit (known_at seats table part) held ≡ true) (sym moves.3) was
+-- what stays as seats are told of a call stays as a connection goes on by them
+module _ (P : List SeatedState → Type 0) (told : (old new : List SeatedState) (asked : Call) (reply : Reply) → AnswersAt seated_meaning old asked reply new → P old → P new) where
+  moves_keep : (now : ℕ) (old new : List SeatedState) (connection after : Connection RefState) (moved : Moved) → Moves seated_meaning now old connection new after moved → P old → P new
+  moves_keep now old new connection after Answered moves had = told old new moves.0 moves.1 moves.3 had
+  moves_keep now old new connection after Turned moves had = subst P (sym moves.1) had
+  moves_keep now old new connection after Refused moves had = subst P (sym moves.2) had
+  moves_keep now old new connection after Kept moves had = subst P (sym moves.3) had
+
+  module _ {C : Type 0} (shows : C → ℕ → C → Type 0) where
+    judged_keeps : (count : ℕ) (old new : Visit SeatedState RefState C) → GoesJudged seated_meaning shows count old new → P old.ports → P new.ports
+    judged_keeps zero old new goes had = subst (λ (visit : Visit SeatedState RefState C). P visit.ports) (sym goes) had
+    judged_keeps (suc count) old new goes had =
+        let once = goes.4 in
+        judged_keeps count goes.1 new goes.5 (moves_keep once.0 old.ports goes.1.ports old.connection goes.1.connection goes.2 once.3 had)
+
+    goes_keep : (count : ℕ) (old new : Visit SeatedState RefState C) → Goes seated_meaning shows count old new → P old.ports → P new.ports
+    goes_keep zero old new goes had = subst (λ (visit : Visit SeatedState RefState C). P visit.ports) (sym goes) had
+    goes_keep (suc count) old new goes had =
+        let once = goes.2 in
+        goes_keep count goes.0 new goes.3 (moves_keep once.0 old.ports goes.0.ports old.connection goes.0.connection goes.1 once.3 had)
+
+    rests_keeps : (old new : Visit SeatedState RefState C) (rested : Rested) → Rests seated_meaning shows old new rested → P old.ports → P new.ports
+    rests_keeps old new Still rests had = subst (λ (visit : Visit SeatedState RefState C). P visit.ports) (sym rests.still.0) (goes_keep rests.count old rests.last rests.goes had)
+    rests_keeps old new RestsKept rests had =
+        moves_keep rests.still.0 rests.last.ports new.ports rests.last.connection new.connection Kept rests.still.3 (goes_keep rests.count old rests.last rests.goes had)
+
+-- a reference has passed by what a seat knows; and a table stores conn_cur or doesn't
+abbrev HasPassedAt : ℕ → ℕ → Key → ℕ → Held → List SeatedState → Type 0
+HasPassedAt table part key limit held seats = passed_in key limit (known_at seats table part) held ≡ true
+
+abbrev spec_in : SeatedState → Spec
+spec_in one = one.table.spec
+
+abbrev StoresAt : (ℕ → Bool) → ℕ → List SeatedState → Type 0
+StoresAt current i seats = (seat : SeatedState) → slice_get seats i ≡ Some seat → is_column seat.table.spec.columns ConnCur ≡ current i
+
+passed_told : (table part : ℕ) (key : Key) (limit : ℕ) (held : Held) (old new : List SeatedState) (asked : Call) (reply : Reply) → AnswersAt seated_meaning old asked reply new → HasPassedAt table part key limit held old → HasPassedAt table part key limit held new
+passed_told table part key limit held old new asked reply by was = told_still old new asked reply by table part limit key held was
+
+stores_told : (current : ℕ → Bool) (i : ℕ) (old new : List SeatedState) (asked : Call) (reply : Reply) → AnswersAt seated_meaning old asked reply new → StoresAt current i old → StoresAt current i new
+stores_told current i old new asked reply by had = tables_stay old new asked reply by i (λ (t : ShardsState). is_column t.spec.columns ConnCur ≡ current i) had
 
 module _ {C : Type 0} (shows : C → ℕ → C → Type 0) where
-  judged_still : (count : ℕ) (old new : Visit SeatedState RefState C) → GoesJudged seated_meaning shows count old new → HavePassedStill old.ports new.ports
-  judged_still zero old new goes table part limit key held was = subst (λ (visit : Visit SeatedState RefState C). passed_in key limit (known_at visit.ports table part) held ≡ true) (sym goes) was
-  judged_still (suc count) old new goes table part limit key held was =
-      let once = goes.4 in
-      judged_still count goes.1 new goes.5 table part limit key held (moves_still once.0 old.ports goes.1.ports old.connection goes.1.connection goes.2 once.3 table part limit key held was)
-
-  goes_still : (count : ℕ) (old new : Visit SeatedState RefState C) → Goes seated_meaning shows count old new → HavePassedStill old.ports new.ports
-  goes_still zero old new goes table part limit key held was = subst (λ (visit : Visit SeatedState RefState C). passed_in key limit (known_at visit.ports table part) held ≡ true) (sym goes) was
-  goes_still (suc count) old new goes table part limit key held was =
-      let once = goes.2 in
-      goes_still count goes.0 new goes.3 table part limit key held (moves_still once.0 old.ports goes.0.ports old.connection goes.0.connection goes.1 once.3 table part limit key held was)
-
-  rests_still : (old new : Visit SeatedState RefState C) (rested : Rested) → Rests seated_meaning shows old new rested → HavePassedStill old.ports new.ports
-  rests_still old new Still rests table part limit key held was =
-      subst (λ (visit : Visit SeatedState RefState C). passed_in key limit (known_at visit.ports table part) held ≡ true) (sym rests.still.0) (goes_still rests.count old rests.last rests.goes table part limit key held was)
-  rests_still old new RestsKept rests table part limit key held was =
-      moves_still rests.still.0 rests.last.ports new.ports rests.last.connection new.connection Kept rests.still.3 table part limit key held (goes_still rests.count old rests.last rests.goes table part limit key held was)
-
   -- one that was judged, and one that came to rest, whatever connection each was
   pub judged_keep : (old new : List SeatedState) (conn later : Conn RefState) (clock shown : C) → IsConnection conn → HasGoneJudged seated_meaning shows old conn clock new later shown → HavePassedStill old new
   judged_keep old new conn later clock shown living gone table part limit key held was =
       ∥∥₁_elim living (Bool-set _ _) (λ found.
       let visit = gone found.0 found.1 in
-      judged_still visit.2.0 (record { ports = old; connection = found.0; clock = clock }) (record { ports = new; connection = visit.0; clock = shown }) visit.2.1 table part limit key held was)
+      judged_keeps (HasPassedAt table part key limit held) (passed_told table part key limit held) shows visit.2.0 (record { ports = old; connection = found.0; clock = clock }) (record { ports = new; connection = visit.0; clock = shown }) visit.2.1 was)
 
   pub rests_keep : (old new : List SeatedState) (conn later : Conn RefState) (clock shown : C) (rested : Rested) → IsConnection conn → HasRested seated_meaning shows old conn clock new later shown rested → HavePassedStill old new
   rests_keep old new conn later clock shown rested living gone table part limit key held was =
       ∥∥₁_elim living (Bool-set _ _) (λ found.
       let visit = gone found.0 found.1 in
-      rests_still (record { ports = old; connection = found.0; clock = clock }) (record { ports = new; connection = visit.0; clock = shown }) rested visit.2 table part limit key held was)
+      rests_keeps (HasPassedAt table part key limit held) (passed_told table part key limit held) shows (record { ports = old; connection = found.0; clock = clock }) (record { ports = new; connection = visit.0; clock = shown }) rested visit.2 was)
+
+  pub judged_stores : (old new : List SeatedState) (conn later : Conn RefState) (clock shown : C) (current : ℕ → Bool) → IsConnection conn → HasGoneJudged seated_meaning shows old conn clock new later shown → StoreAs spec_in current old → StoreAs spec_in current new
+  judged_stores old new conn later clock shown current living gone had i seat at =
+      ∥∥₁_elim living (Bool-set _ _) (λ found.
+      let visit = gone found.0 found.1 in
+      judged_keeps (StoresAt current i) (stores_told current i) shows visit.2.0 (record { ports = old; connection = found.0; clock = clock }) (record { ports = new; connection = visit.0; clock = shown }) visit.2.1 (had i) seat at)
+
+  pub rests_store : (old new : List SeatedState) (conn later : Conn RefState) (clock shown : C) (rested : Rested) (current : ℕ → Bool) → IsConnection conn → HasRested seated_meaning shows old conn clock new later shown rested → StoreAs spec_in current old → StoreAs spec_in current new
+  rests_store old new conn later clock shown rested current living gone had i seat at =
+      ∥∥₁_elim living (Bool-set _ _) (λ found.
+      let visit = gone found.0 found.1 in
+      rests_keeps (StoresAt current i) (stores_told current i) shows (record { ports = old; connection = found.0; clock = clock }) (record { ports = new; connection = visit.0; clock = shown }) rested visit.2 (had i) seat at)

@@ -21,7 +21,7 @@ differs a b is e = false≢true (sym is ∙ ap (nat_eq a) (sym e) ∙ same a)
 
 -- of this book a call more, and of any other as much
 module _ (of : ℕ) (event : Event) (reply : Reply) (old new : View) (told : IsTold of event reply old new) where
-  other_same : (book : ℕ) → nat_eq book of ≡ false → log_of book new ≡ log_of book old
+  pub other_same : (book : ℕ) → nat_eq book of ≡ false → log_of book new ≡ log_of book old
   other_same book apart = ap (λ (p : Part). p.log) (ap (at book) told.others ∙ at_put_else of book (spoken (number_of of old) (log_of of new) (mine_of of new)) old (differs book of apart))
 
   pub told_grows : (book : ℕ) → IsPrefix (log_of book old) (log_of book new)

@@ -1,5 +1,5 @@
 -- Lists with room to spare, and rows of tables with their seats.
-use Rattle.std.proofs.Common.{◌≡◌, ◌≤◌, ◌<◌, ◌+◌, ◌++◌, ◌∷◌, [], ◌∙◌, ℕ, zero, suc, refl, sym, ap, subst, arith, List, Option, Some, Vec, get_or, get_or-set_other, get_or-set_same, inl, inr, length, map, nat_lt, slice_get, slice_index_or, slice_set, take, vec_capacity, vec_len}
+use Rattle.std.proofs.Common.{◌≡◌, ◌≤◌, ◌<◌, ◌+◌, ◌++◌, ◌∷◌, [], ◌∙◌, ℕ, zero, suc, refl, sym, ap, subst, arith, List, Bool, Option, Some, Vec, get_or, get_or-set_other, get_or-set_same, inl, inr, length, map, nat_lt, slice_get, slice_index_or, slice_set, take, vec_capacity, vec_len}
 use Rattle.std.specs.List.{AllWithin}
 use Rattle.std.specs.Prelude.{option_map}
 use Rattle.std.proofs.lemmas.Bool.{cases_Bool, ltb-true}
@@ -8,7 +8,7 @@ use Rattle.std.proofs.lemmas.List.Elements.{AllWithin-more_set}
 use Rattle.std.proofs.lemmas.Option.{slice_get-map}
 use Rattle.shard_locks.specs.Shared.{SharedSeatState}
 use Rattle.shard_locks.specs.ShardsState.{SeatedState, ShardsState}
-use Rattle.tcp_relay.specs.Seating.{AreIn, Has, HaveFew, HaveRoom, held_in, put_in}
+use Rattle.tcp_relay.specs.Seating.{AreIn, Has, HaveFew, HaveRoom, StoreAs, held_in, put_in}
 
 -- what has at most so many has at most more
 pub few_more : {X Z : Type 0} (most more places : ℕ) (lists : List (Vec X Z)) → most ≤ more → HaveFew most places lists → HaveFew more places lists
@@ -77,3 +77,7 @@ row_more tables place row new one table seat within so_far grown is at =
 -- where each table is in so many shards, so is each of the row
 pub row_in : (shards : ℕ) (tables : List ShardsState) (row : List SeatedState) → map table_in row ≡ tables → AreIn (λ (table : ShardsState). table.shards) shards tables → AreIn (λ (one : SeatedState). one.table.shards) shards row
 row_in shards tables row same each i one at = each i one.table (ap (λ those. slice_get those i) (sym same) ∙ slice_get-map table_in row i ∙ ap (option_map table_in) at)
+
+-- and where each stores what it should, so does each of the row
+pub row_stores : (current : ℕ → Bool) (tables : List ShardsState) (row : List SeatedState) → map table_in row ≡ tables → StoreAs (λ (table : ShardsState). table.spec) current tables → StoreAs (λ (one : SeatedState). one.table.spec) current row
+row_stores current tables row same each i one at = each i one.table (ap (λ those. slice_get those i) (sym same) ∙ slice_get-map table_in row i ∙ ap (option_map table_in) at)

@@ -3,18 +3,17 @@ use Rattle.std.specs.Prelude.{◌≡◌, ℕ, nat_le, Bool, true, false, ◌&&�
 use Rattle.std.specs.List.{list_any}
 use Rattle.std.specs.Option.{option_map_or}
 use mathlib.Core.List.{IsPrefix}
-use Rattle.stored_data.specs.Stored.{is_column}
 use Rattle.stored_data.specs.declared.datum.Datum.TheVariants.{ConnCur}
 use Rattle.stick_key.specs.Shard.{shard}
 use Rattle.stick_model.specs.Key.{Key, same_key}
-use Rattle.stick_model.specs.State.{State, key_of, same_ticket}
+use Rattle.stick_model.specs.State.{key_of, same_ticket}
 use Rattle.stick_model.specs.declared.rows.Ticket.{Ticket}
 use Rattle.stick_model.specs.declared.events.Event.{Event}
 use Rattle.stick_model.specs.declared.events.Event.TheVariants.{Look}
 use Rattle.stick_model.specs.declared.replies.Reply.{Reply}
 use Rattle.stick_model.specs.declared.replies.Reply.TheVariants.{Row as ARow}
 use Rattle.shard_record.specs.declared.view.Call.{Call}
-use Rattle.shard_record.specs.Calls.{Held, IsHistory, IsHistoryOf, out, passed_in}
+use Rattle.shard_record.specs.Calls.{Held, IsHistory, out, passed_in}
 use Rattle.shard_record.specs.Telling.{log_of}
 use Rattle.shard_book.specs.SeatState.{RefState}
 use Rattle.shard_locks.specs.Ported.{seated_meaning}
@@ -47,18 +46,15 @@ few_in key limit ticket _ _ = false
 abbrev pub shows_few : Key → ℕ → Ticket → Call → Bool
 shows_few key limit ticket one = few_in key limit ticket one.event one.reply
 
--- they may be the calls of a table that stores conn_cur
-abbrev pub StoresCurrent : List Call → Type 0
-StoresCurrent log = (live : State) × IsHistoryOf log live × (is_column live.spec.columns ConnCur ≡ true)
-
 -- they are all the calls of one table. By them the reference is of the key, which lies on its shard, and it had a look whose row
--- shows at most `limit` current connections of that key. So it has passed, where the table stores conn_cur
+-- shows at most `limit` current connections of that key. So it has passed: as the table stores conn_cur, the row had at most so
+-- many references
 pub record HasPassed (shards limit : ℕ) (key : Key) (log : List Call) (reference : RefState) : Type 0 where
   pub history : IsHistory log
   pub on_shard : reference.shard ≡ shard key shards
   pub of_key : WasOut log reference.ticket key
   pub looked : list_any (shows_few key limit reference.ticket) log ≡ true
-  pub passed : StoresCurrent log → passed_in key limit log (reference.ticket, key) ≡ true
+  pub passed : passed_in key limit log (reference.ticket, key) ≡ true
 
 -- ---- as seats know them
 

@@ -1,6 +1,12 @@
 -- Lists of seats and of references, one for each table.
-use Rattle.std.specs.Prelude.{◌≡◌, ℕ, zero, suc, ◌+◌, ◌≤◌, ◌++◌, ◌∷◌, [], List, Option, Some, None, All, map, slice_get, vec_len, vec_capacity}
+use Rattle.std.specs.Prelude.{◌≡◌, ℕ, Bool, false, zero, suc, ◌+◌, ◌≤◌, ◌++◌, ◌∷◌, [], List, Option, Some, None, All, map, slice_get, vec_len, vec_capacity}
+use Rattle.std.specs.Option.{option_map_or}
 use Rattle.std.specs.declared.vec.Vec.{Vec}
+use Rattle.stored_data.specs.Stored.{is_column}
+use Rattle.stored_data.specs.declared.datum.Datum.TheVariants.{ConnCur}
+use Rattle.stick_model.specs.declared.specification.Spec.{Spec}
+use Rattle.rule_model.specs.declared.sections.NamedSpec.{NamedSpec}
+use Rattle.rule_model.specs.declared.sections.Setup.{Setup}
 
 -- a list has so many, and places for so many
 abbrev pub Has : {X Z : Type 0} → ℕ → ℕ → Vec X Z → Type 0
@@ -21,6 +27,14 @@ HaveRoom more lists = All (λ list. vec_len list + more ≤ vec_capacity list) l
 -- each of these is in so many shards
 abbrev pub AreIn : {X : Type 0} → (X → ℕ) → ℕ → List X → Type 0
 AreIn {X = X} parts shards tables = (i : ℕ) (table : X) → slice_get tables i ≡ Some table → parts table ≡ shards
+
+-- whether each of these, by what it is made with, stores conn_cur, is as this says of its place
+abbrev pub StoreAs : {X : Type 0} → (X → Spec) → (ℕ → Bool) → List X → Type 0
+StoreAs {X = X} made current tables = (i : ℕ) (table : X) → slice_get tables i ≡ Some table → is_column (made table).columns ConnCur ≡ current i
+
+-- whether a table of a setup stores it
+abbrev pub stores_current : Setup → ℕ → Bool
+stores_current setup table = option_map_or (λ (named : NamedSpec). is_column named.spec.columns ConnCur) (slice_get setup.tables table) false
 
 -- what each list holds
 abbrev pub held_in : {X Z : Type 0} → List (Vec X Z) → List (List X)

@@ -1,7 +1,8 @@
 -- What serving is given, and what comes back.
-use Rattle.std.specs.Prelude.{◌≡◌, ◌≤◌, ◌*◌, ℕ, Bool, true, false, All, List, Some, length, slice_get, vec_len}
+use Rattle.std.specs.Prelude.{◌≡◌, ◌≤◌, ◌*◌, ℕ, Bool, true, false, All, List, Some, length, map, slice_get, vec_len}
 use Rattle.std.specs.declared.vec.Vec.{Vec}
 use Rattle.std.specs.declared.alloc.Global.{Global}
+use Rattle.rule_model.specs.declared.sections.NamedSpec.{NamedSpec}
 use Rattle.rule_model.specs.declared.sections.Setup.{Setup}
 use Rattle.shard_locks.specs.Shared.{SharedSeatState}
 use Rattle.shard_locks.specs.ShardsState.{ShardsState}
@@ -10,10 +11,11 @@ use Rattle.tcp_relay.specs.declared.served.FaultKind.TheVariants.{Waiting, Threa
 use Rattle.tcp_relay.specs.declared.served.ServeFault.{ServeFault}
 use Rattle.tcp_relay.specs.declared.served.Served.{Served}
 
--- one for each table of a setup, in as many shards as the setup has
+-- one for each table of a setup, in as many shards as the setup has, and each stores what the setup says
 pub record AreTablesOf (setup : Setup) (tables : List ShardsState) : Type 0 where
   pub count : length tables ≡ length setup.tables
   pub shards : (i : ℕ) (table : ShardsState) → slice_get tables i ≡ Some table → table.shards ≡ setup.shards
+  pub columns : map (λ (table : ShardsState). table.spec.columns) tables ≡ map (λ (named : NamedSpec). named.spec.columns) setup.tables
 
 -- for each of so many tables as many seats as there are threads
 abbrev pub AreSeats : {X Z Z' : Type 0} → ℕ → ℕ → Vec (Vec X Z) Z' → Type 0

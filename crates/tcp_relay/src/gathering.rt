@@ -2,7 +2,7 @@
 
 ghost use Rattle.std.specs.Prelude.{◌≡◌, ◌≤◌, ◌*◌, ◌^◌, length, vec_capacity, vec_len};
 ghost use Rattle.tcp_relay.specs.Accepting.{most_of};
-ghost use Rattle.tcp_relay.specs.Seating.{AreIn, HaveEach};
+ghost use Rattle.tcp_relay.specs.Seating.{AreIn, HaveEach, StoreAs};
 ghost use Rattle.tcp_relay.specs.Serving.{AreLeft, AreSeats};
 
 use crate::Served;
@@ -30,6 +30,7 @@ pub(crate) fn seat_workers<'a, T: Table, J: Naming, R, W: Width>(
     requires connections { connections ≤ 2 ^ 32 }
     requires tables { length tables.now ≡ W.tables }
     requires shards { AreIn (λ table. table.shards) W.shards tables.now }
+    requires current { StoreAs (λ table. table.spec) W.current tables.now }
     requires seats { AreSeats W.tables (length rooms.rows.items) seats.old }
     requires rows { HaveEach 0 W.tables rooms.rows.items }
     requires held { (length rooms.held.items ≡ length rooms.rows.items) × HaveEach 0 W.most rooms.held.items }

@@ -2,6 +2,7 @@
 
 ghost use Rattle.std.specs.Prelude.{◌≡◌, ◌≤◌, IfErr, IfOk, is_some, length, true, false, vec_len};
 ghost use Rattle.tcp_relay.specs.Accepting.{most_of};
+ghost use Rattle.tcp_relay.specs.Seating.{stores_current};
 ghost use Rattle.tcp_relay.specs.Serving.{AreSeats, AreTablesOf, IsCause, IsFault, IsServed, IsUnserved};
 ghost use Rattle.tcp_relay.specs.declared.served.FaultKind.TheVariants.{NoMemory as MemoryFault};
 
@@ -209,6 +210,7 @@ fn serve_wide<
 ) -> Result<Served<J>, ServeFault<J>>
     requires width { W.tables ≡ length tables.now }
     requires shards { W.shards ≡ setup.now.shards }
+    requires current { W.current ≡ stores_current setup.now }
     requires most { W.most ≡ most_of limits.connections threads }
     requires server { is_some setup.now.server ≡ true }
     requires tables { AreTablesOf setup.now tables.now }

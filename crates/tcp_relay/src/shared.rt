@@ -1,6 +1,7 @@
 //! What all workers share by reference; `serving` makes it, and `turning` and `visiting` read it.
 
 ghost use Rattle.std.specs.Prelude.{◌≡◌, length};
+ghost use Rattle.tcp_relay.specs.Seating.{StoreAs};
 
 use crate::connection_counter::ConnectionCounter;
 use crate::control::Control;
@@ -34,4 +35,5 @@ pub(crate) struct Shared<'a, R, G, W: Width> {
     pub(crate) of: PhantomData<W>,
     ghost tables: { length setup.now.tables ≡ W.tables },
     ghost shards: { setup.now.shards ≡ W.shards },
+    ghost current: { StoreAs (λ named. named.spec) W.current setup.now.tables },
 }

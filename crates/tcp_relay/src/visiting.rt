@@ -6,7 +6,7 @@ ghost use Rattle.admit_core.specs.Connection.{closed_of};
 ghost use Rattle.admit_core.specs.declared.need.Need.TheVariants.{Rest};
 ghost use Rattle.tcp_relay.specs.Connections.{IsVisitor};
 ghost use Rattle.tcp_relay.specs.Passed.{HasPassedLimits, HavePassedStill};
-ghost use Rattle.tcp_relay.specs.Seating.{AreIn};
+ghost use Rattle.tcp_relay.specs.Seating.{AreIn, StoreAs};
 
 use crate::fates::Ended;
 use crate::leaving::let_go;
@@ -33,8 +33,10 @@ pub(crate) fn judge_one<'a, T: Table, J: Naming, R: ServeRuntime, G: Gate, W: Wi
 ) -> (Conn<'a, SharedRef<J>>, bool)
     requires count { vec_len seated.old ≡ W.tables }
     requires shards { AreIn (λ one. one.table.shards) W.shards seated.old.items }
+    requires current { StoreAs (λ one. one.table.spec) W.current seated.old.items }
     ensures count { vec_len seated.new ≡ W.tables }
     ensures shards { AreIn (λ one. one.table.shards) W.shards seated.new.items }
+    ensures current { StoreAs (λ one. one.table.spec) W.current seated.new.items }
     ensures connection { IsVisitor W.tables W.shards result.0 }
     ensures rests { result.1 ≡ true → needed result.0 ≡ Rest }
     ensures passed { result.1 ≡ true → HasPassedLimits shared.now.setup.now samples seated.new.items result.0 }
@@ -73,9 +75,11 @@ fn leave<'a, T: Table, J: Naming, R: ServeRuntime, G, W: Width>(
 ) -> Option<Conn<'a, SharedRef<J>>>
     requires count { vec_len seated.old ≡ W.tables }
     requires shards { AreIn (λ one. one.table.shards) W.shards seated.old.items }
+    requires current { StoreAs (λ one. one.table.spec) W.current seated.old.items }
     requires connection { IsVisitor W.tables W.shards conn }
     ensures count { vec_len seated.new ≡ W.tables }
     ensures shards { AreIn (λ one. one.table.shards) W.shards seated.new.items }
+    ensures current { StoreAs (λ one. one.table.spec) W.current seated.new.items }
     ensures connection { IfSome result (IsVisitor W.tables W.shards) }
     ensures still { HavePassedStill seated.old.items seated.new.items }
 {

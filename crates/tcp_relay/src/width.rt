@@ -1,15 +1,17 @@
 //! What is known of all workers, as the trait `Width`; the types of workers, connections and lists are made by it.
 
-ghost use Rattle.std.specs.Prelude.{ℕ};
+ghost use Rattle.std.specs.Prelude.{ℕ, Bool, false};
 
 use std::marker::Brand;
 
-/// How many tables there are, in how many shards each is, and how many connections a worker holds at most. A type names them, so
-/// that they are known also of what comes back from a thread.
+/// How many tables there are, in how many shards each is, which of them store conn_cur, and how many connections a worker holds at
+/// most. A type names them, so that they are known also of what comes back from a thread.
 pub trait Width {
     ghost tables: { ℕ };
 
     ghost shards: { ℕ };
+
+    ghost current: { ℕ → Bool };
 
     ghost most: { ℕ };
 }
@@ -18,6 +20,8 @@ impl Width for Brand {
     ghost tables = { 0 };
 
     ghost shards = { 0 };
+
+    ghost current = { λ table. false };
 
     ghost most = { 0 };
 }

@@ -2,7 +2,7 @@
 
 ghost use Rattle.std.specs.Prelude.{◌≡◌, ◌+◌, ◌*◌, ◌==◌, ◌&&◌, ◌||◌, ℕ, not, if◌then◌else◌, length, map, option_map, vec_capacity, vec_len};
 ghost use Rattle.tcp_relay.specs.Counts.{more, sum};
-ghost use Rattle.tcp_relay.specs.Seating.{AreIn, HaveEach, HaveFew, HaveRoom, held_in};
+ghost use Rattle.tcp_relay.specs.Seating.{AreIn, HaveEach, HaveFew, HaveRoom, StoreAs, held_in};
 ghost use Rattle.tcp_relay.specs.Connections.{left_by_all};
 
 use crate::buffers::Buffers;
@@ -101,6 +101,7 @@ pub(crate) struct Worker<'a, T: Table, J: Naming, R, W: Width> {
     of: PhantomData<W>,
     ghost count: { vec_len seated ≡ W.tables },
     ghost shards: { AreIn (λ one. one.table.shards) W.shards seated.items },
+    ghost current: { StoreAs (λ one. one.table.spec) W.current seated.items },
 }
 
 impl<'a, T: Table, J: Naming, R, W: Width> Worker<'a, T, J, R, W> {
@@ -112,6 +113,7 @@ impl<'a, T: Table, J: Naming, R, W: Width> Worker<'a, T, J, R, W> {
     ) -> Worker<'a, T, J, R, W>
         requires count { vec_len seated ≡ W.tables }
         requires shards { AreIn (λ one. one.table.shards) W.shards seated.items }
+        requires current { StoreAs (λ one. one.table.spec) W.current seated.items }
     {
         Worker {
             tally: Tally::new(),

@@ -18,6 +18,7 @@ pub data Command : Type 0 where
   Quit : Command
   ShutdownFrontend : List ℕ → Command
   Stop : ℕ → Command
+  OldestFirst : List ℕ → Command
   Table : Command
   Empty : Command
   Unknown : Command
@@ -61,6 +62,17 @@ stop_of time (more ∷ rest) = Unknown
 abbrev pub is_of_tables : List ℕ → Bool
 is_of_tables verb = bytes_eq verb (codes "show") || bytes_eq verb (codes "set") || bytes_eq verb (codes "clear")
 
+-- behind show table: a name and oldest-first, and nothing else; all other words are those of the command socket
+abbrev pub show_table_of : List (List ℕ) → Command
+show_table_of [] = Table
+show_table_of (name ∷ []) = Table
+show_table_of (name ∷ order ∷ []) = if bytes_eq order (codes "oldest-first") then OldestFirst name else Table
+show_table_of (name ∷ order ∷ more ∷ rest) = Table
+
+-- behind table, by the word before it
+abbrev pub table_of : List ℕ → List (List ℕ) → Command
+table_of verb rest = if bytes_eq verb (codes "show") then show_table_of rest else Table
+
 -- behind show and its noun nothing follows
 abbrev pub show_alone : List ℕ → List (List ℕ) → Command
 show_alone noun [] = show_of noun
@@ -70,7 +82,7 @@ show_alone noun (more ∷ rest) = Unknown
 abbrev pub pair_of : List ℕ → List ℕ → List (List ℕ) → Command
 pair_of verb noun rest =
     if bytes_eq verb (codes "help") then Help
-    else (if bytes_eq noun (codes "table") && is_of_tables verb then Table
+    else (if bytes_eq noun (codes "table") && is_of_tables verb then table_of verb rest
     else (if bytes_eq noun (codes "frontend") && bytes_eq verb (codes "shutdown") then shutdown_of rest
     else (if bytes_eq verb (codes "stop") then stop_of noun rest
     else (if bytes_eq verb (codes "show") then show_alone noun rest
@@ -83,7 +95,7 @@ command_of (verb ∷ noun ∷ rest) = pair_of verb noun rest
 
 -- the commands, a line each
 unfoldable pub command_list : List ℕ
-command_list = codes "  clear table <table> [<filter>]*         : remove an entry from a table (filter: data/key)\n  set table <table> key <k> [data.* <v>]* : update or create a table entry's data\n  show errors                             : report last request and/or response errors for each proxy\n  show info                               : report information about the running process\n  show stat                               : report counters for each proxy and server\n  show table <table> [<filter>]*          : report table usage stats or dump this table's contents (filter: data/key)\n  shutdown frontend <frontend>            : stop a specific frontend\n  stop <ms>                               : end the program; open connections may go on for so long\n  help [<command>]                        : list matching or all commands\n  prompt                                  : toggle interactive mode with prompt\n  quit                                    : disconnect\n"
+command_list = codes "  clear table <table> [<filter>]*         : remove an entry from a table (filter: data/key)\n  set table <table> key <k> [data.* <v>]* : update or create a table entry's data\n  show errors                             : report last request and/or response errors for each proxy\n  show info                               : report information about the running process\n  show stat                               : report counters for each proxy and server\n  show table <table> [<filter>]*          : report table usage stats or dump this table's contents (filter: data/key)\n  show table <table> oldest-first         : dump this table's contents in the order in which entries go\n  shutdown frontend <frontend>            : stop a specific frontend\n  stop <ms>                               : end the program; open connections may go on for so long\n  help [<command>]                        : list matching or all commands\n  prompt                                  : toggle interactive mode with prompt\n  quit                                    : disconnect\n"
 
 -- what an answer says, in front of the list of commands where one follows
 abbrev pub message_words : StatsMessage → List ℕ

@@ -1,7 +1,7 @@
 -- A command of the code, without where its words lie in memory.
 use Rattle.tcp_stats.specs.Commands as spec
 use Rattle.tcp_stats.specs.declared.command.StatsCommand.{StatsCommand}
-use Rattle.tcp_stats.specs.declared.command.StatsCommand.TheVariants.{ShowInfo, ShowStat, ShowErrors, Help, Prompt, Quit, ShutdownFrontend, Stop, Table, Empty, Unknown}
+use Rattle.tcp_stats.specs.declared.command.StatsCommand.TheVariants.{ShowInfo, ShowStat, ShowErrors, Help, Prompt, Quit, ShutdownFrontend, Stop, OldestFirst, Table, Empty, Unknown}
 
 abbrev pub seen : StatsCommand → spec.Command
 seen ShowInfo = spec.ShowInfo
@@ -12,6 +12,7 @@ seen Prompt = spec.Prompt
 seen Quit = spec.Quit
 seen (ShutdownFrontend name) = spec.ShutdownFrontend name.now
 seen (Stop ms) = spec.Stop ms
+seen (OldestFirst name) = spec.OldestFirst name.now
 seen Table = spec.Table
 seen Empty = spec.Empty
 seen Unknown = spec.Unknown

@@ -28,7 +28,9 @@ pub enum StatsCommand<'a> {
     ShutdownFrontend(&'a [u8]),
     /// `stop MS`, which is stickd's own: the program ends, and its connections may go on for so many ms.
     Stop(u64),
-    /// `show table`, `set table` or `clear table`, whatever follows.
+    /// `show table NAME oldest-first`, which is stickd's own: what a table holds, in the order in which its entries go.
+    OldestFirst(&'a [u8]),
+    /// `show table`, `set table` or `clear table`, whatever else follows.
     Table,
     /// No word.
     Empty,
@@ -85,6 +87,32 @@ fn is_of_tables(verb: &[u8]) -> bool
     verb == b"show".as_slice() || verb == b"set".as_slice() || verb == b"clear".as_slice()
 }
 
+/// What `show table` asks with these words behind it: one form is stickd's own, and all others are those of the command socket.
+fn read_show_table(mut rest: Words<'_>) -> StatsCommand<'_>
+    ensures { seen result ≡ spec.show_table_of (words_left rest.entry) }
+{
+    let Some(name) = rest.next() else {
+        return StatsCommand::Table;
+    };
+    let Some(order) = rest.next() else {
+        return StatsCommand::Table;
+    };
+    if rest.next().is_none() && order == b"oldest-first".as_slice() {
+        return StatsCommand::OldestFirst(name);
+    }
+    StatsCommand::Table
+}
+
+/// What a word asks of tables, with these words behind `table`.
+fn read_table<'a>(verb: &[u8], rest: Words<'a>) -> StatsCommand<'a>
+    ensures { seen result ≡ spec.table_of verb.now (words_left rest.entry) }
+{
+    if verb == b"show".as_slice() {
+        return read_show_table(rest);
+    }
+    StatsCommand::Table
+}
+
 /// What a single word asks.
 fn read_single(verb: &[u8]) -> StatsCommand<'static>
     ensures { seen result ≡ spec.single_of verb.now }
@@ -109,7 +137,7 @@ fn read_pair<'a>(verb: &[u8], noun: &[u8], mut rest: Words<'a>) -> StatsCommand<
         return StatsCommand::Help;
     }
     if noun == b"table".as_slice() && is_of_tables(verb) {
-        return StatsCommand::Table;
+        return read_table(verb, rest);
     }
     if noun == b"frontend".as_slice() && verb == b"shutdown".as_slice() {
         return read_shutdown(rest);
@@ -199,6 +227,7 @@ fn command_list() -> &'static str
   show info                               : report information about the running process
   show stat                               : report counters for each proxy and server
   show table <table> [<filter>]*          : report table usage stats or dump this table's contents (filter: data/key)
+  show table <table> oldest-first         : dump this table's contents in the order in which entries go
   shutdown frontend <frontend>            : stop a specific frontend
   stop <ms>                               : end the program; open connections may go on for so long
   help [<command>]                        : list matching or all commands

@@ -10,7 +10,7 @@ use base_clock::Clock;
 use base_lines::{LineSoFar, Parts, without_cr};
 use byte_ports::{Failed, Sink, Source, write_all};
 use shard_book::Keeper;
-use table_cli::answer;
+use table_cli::{answer, answer_oldest_first};
 use table_socket::ClientServer;
 use table_texts::Message;
 use tcp_stats::{StatsCommand, StatsMessage, read_command};
@@ -97,6 +97,25 @@ impl<'p, K: Keeper, C: Clock, P: Program> StatsService<'p, K, C, P> {
         write_answer(writer, b"", talk)
     }
 
+    /// Shows what a table holds, in the order in which its entries go.
+    fn show_oldest_first<W: Sink>(
+        &mut self,
+        name: &[u8],
+        writer: &mut W,
+        talk: Conversation,
+    ) -> Result<(), Failed> {
+        let Teller {
+            alloc,
+            tables,
+            clock,
+            program: _,
+        } = &mut self.teller;
+        if answer_oldest_first(*alloc, tables.as_slice(), clock, name, writer).is_err() {
+            return Err(Failed);
+        }
+        write_answer(writer, b"", talk)
+    }
+
     /// Answers a command. How the conversation goes on.
     fn serve_command<W: Sink>(
         &mut self,
@@ -121,6 +140,10 @@ impl<'p, K: Keeper, C: Clock, P: Program> StatsService<'p, K, C, P> {
             }
             StatsCommand::Table => {
                 self.ask_table(command, writer, talk)?;
+                return Ok(talk);
+            }
+            StatsCommand::OldestFirst(name) => {
+                self.show_oldest_first(name, writer, talk)?;
                 return Ok(talk);
             }
             StatsCommand::ShutdownFrontend(name) if name.is_empty() => {

@@ -138,7 +138,10 @@ pub fn call_twice(book: &mut Book<PlainTable>, event: Event) -> Answers
 
 /// The record of a book begins again at its live state.
 pub fn roll(book: &mut Book<PlainTable>) -> Result<(), NoMemory> {
-    book.roll()
+    match book.roll() {
+        Ok(_base) => Ok(()),
+        Err(error) => Err(error),
+    }
 }
 
 /// Whether a book has counted so many events.

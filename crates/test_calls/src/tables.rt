@@ -5,7 +5,7 @@ ghost use Rattle.std.specs.Prelude.{◌<◌};
 use crate::caller::Held;
 use crate::draws::spec;
 use crate::purse::{Purse, references_of};
-use crate::records::{OpenTable, Records};
+use crate::records::{OpenTable, Records, TablePlan};
 use base_sequence::NoMemory;
 use shard_locks::{Shards, SharedRef, SharedSeat};
 use shard_record::Naming;
@@ -15,6 +15,14 @@ use stick_table::PlainTable;
 
 /// A plain table and its seats.
 pub type OpenPlain<J> = OpenTable<PlainTable, J>;
+
+/// What `open` opens.
+pub const TWELVE: TablePlan = TablePlan {
+    size: 12,
+    max_refs: 5,
+    life: 1 << 62,
+    shards: 2,
+};
 
 /// A table of 12 entries in two shards, each of which may have 5 references, and two seats; and what is left of the record.
 pub fn open<J: Naming>(

@@ -2,13 +2,14 @@
 //! is accepted, bytes once it is closed, and `conn_cur` is the connections that hold the entry now.
 
 ghost use Rattle.std.specs.Prelude.{◌≡◌};
+ghost use Rattle.test_proxy.specs.Planned.{IsNamed, IsPlanned};
 
 use crate::gates::{Meeting, Open};
 use crate::peers::{answers, asks, is_alone, is_answered, is_closed};
 use crate::sites::{Ended, Site, client, open_site, serve_on};
-use crate::tables::{OpenTable, calls, open, open_record, shows};
+use crate::tables::{OpenTable, Planned, calls, open, open_record, shows};
 use shard_locks::{Shards, SharedSeat};
-use shard_record::{Naming, Opened};
+use shard_record::Naming;
 use std::alloc::Global;
 use std::marker::Brand;
 use std::net::{Net, TcpListener, TcpStream};
@@ -100,9 +101,9 @@ fn two_then_one<R: Net<Listener = TcpListener, Stream = TcpStream> + Threads + W
 fn two_then_one_recorded<
     J: Naming + Send + Sync,
     R: Net<Listener = TcpListener, Stream = TcpStream> + Threads + Wait + Clock + Sync,
->(rt: &R, alloc: Global, opened: Opened) -> Option<(u64, u64, u64, u64)>
-    requires record { (opened.first.table_id ≡ J.record_id) × (opened.books ≡ J.books) }
-    requires sizes { (opened.books ≡ 1) × (opened.seats ≡ 3) }
+>(rt: &R, alloc: Global, opened: Planned) -> Option<(u64, u64, u64, u64)>
+    requires record { IsNamed opened.opened opened.spec J.record_id J.books J.specs }
+    requires planned { IsPlanned opened.opened opened.spec }
 {
     let site = open_site(rt, alloc, Some(1), None)?;
     let OpenTable {
@@ -149,9 +150,9 @@ fn none_behind<R: Net<Listener = TcpListener, Stream = TcpStream> + Threads + Wa
 fn none_behind_recorded<
     J: Naming + Send + Sync,
     R: Net<Listener = TcpListener, Stream = TcpStream> + Threads + Wait + Clock + Sync,
->(rt: &R, alloc: Global, opened: Opened) -> Option<(u64, u64, u64)>
-    requires record { (opened.first.table_id ≡ J.record_id) × (opened.books ≡ J.books) }
-    requires sizes { (opened.books ≡ 1) × (opened.seats ≡ 3) }
+>(rt: &R, alloc: Global, opened: Planned) -> Option<(u64, u64, u64)>
+    requires record { IsNamed opened.opened opened.spec J.record_id J.books J.specs }
+    requires planned { IsPlanned opened.opened opened.spec }
 {
     let site = open_site(rt, alloc, None, None)?;
     let OpenTable {
@@ -186,9 +187,9 @@ fn all_rejected<R: Net<Listener = TcpListener, Stream = TcpStream> + Threads + W
 fn all_rejected_recorded<
     J: Naming + Send + Sync,
     R: Net<Listener = TcpListener, Stream = TcpStream> + Threads + Wait + Clock + Sync,
->(rt: &R, alloc: Global, opened: Opened) -> Option<(u64, u64, u64)>
-    requires record { (opened.first.table_id ≡ J.record_id) × (opened.books ≡ J.books) }
-    requires sizes { (opened.books ≡ 1) × (opened.seats ≡ 3) }
+>(rt: &R, alloc: Global, opened: Planned) -> Option<(u64, u64, u64)>
+    requires record { IsNamed opened.opened opened.spec J.record_id J.books J.specs }
+    requires planned { IsPlanned opened.opened opened.spec }
 {
     let Ok(server) = TcpListener::bind(rt, "127.0.0.1:0") else {
         return None;
@@ -271,9 +272,9 @@ fn carried<R: Net<Listener = TcpListener, Stream = TcpStream> + Threads + Wait +
 fn carried_recorded<
     J: Naming + Send + Sync,
     R: Net<Listener = TcpListener, Stream = TcpStream> + Threads + Wait + Clock + Sync,
->(rt: &R, alloc: Global, opened: Opened) -> Option<(u64, u64, u64)>
-    requires record { (opened.first.table_id ≡ J.record_id) × (opened.books ≡ J.books) }
-    requires sizes { (opened.books ≡ 1) × (opened.seats ≡ 3) }
+>(rt: &R, alloc: Global, opened: Planned) -> Option<(u64, u64, u64)>
+    requires record { IsNamed opened.opened opened.spec J.record_id J.books J.specs }
+    requires planned { IsPlanned opened.opened opened.spec }
 {
     let Ok(server) = TcpListener::bind(rt, "127.0.0.1:0") else {
         return None;

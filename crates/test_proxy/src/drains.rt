@@ -1,11 +1,12 @@
 //! What becomes of connections, as others see it while they are served, and how a drain ends serving.
 
 ghost use Rattle.std.specs.Prelude.{◌≡◌};
+ghost use Rattle.test_proxy.specs.Planned.{IsNamed, IsPlanned};
 
 use crate::gates::Open;
 use crate::sites::{Site, Watched, client, open_site, refuse_clients, serve_watched};
-use crate::tables::{OpenTable, open, open_record};
-use shard_record::{Naming, Opened};
+use crate::tables::{OpenTable, Planned, open, open_record};
+use shard_record::Naming;
 use std::alloc::Global;
 use std::marker::Brand;
 use std::net::{Net, TcpListener, TcpStream};
@@ -66,10 +67,10 @@ fn serves_recorded<
     watched: &'s Watched,
     last: u64,
     until: u64,
-    opened: Opened,
+    opened: Planned,
 ) -> Option<u64>
-    requires record { (opened.first.table_id ≡ J.record_id) × (opened.books ≡ J.books) }
-    requires sizes { (opened.books ≡ 1) × (opened.seats ≡ 3) }
+    requires record { IsNamed opened.opened opened.spec J.record_id J.books J.specs }
+    requires planned { IsPlanned opened.opened opened.spec }
 {
     let rt = site.rt;
     let OpenTable { table, seats, .. } = open::<J>(site.alloc, opened)?;

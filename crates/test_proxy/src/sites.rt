@@ -211,6 +211,7 @@ fn of_one<J: Naming + Send + Sync>(
 }
 
 /// Serves so many connections on two threads over one table.
+#[tactic(auto, using(crate::proofs::PlanLemmas::stored_alone))]
 fn serve_among<
     J: Naming + Send + Sync,
     R: Net<Listener = TcpListener, Stream = TcpStream> + Threads + Wait + Clock + Sync,
@@ -229,6 +230,10 @@ fn serve_among<
 {
     let setup = &site.setup;
     if setup.server.is_none() || setup.tables.as_slice().len() != 1 || setup.shards != 1 {
+        return None;
+    }
+    let declared = setup.tables.as_slice()[0].spec.columns.columns();
+    if tables[0].spec(0).columns.columns() != declared {
         return None;
     }
     match serve(

@@ -1,6 +1,7 @@
 //! A table in one shard, what it shows, and what it is settled with.
 
 ghost use Rattle.std.specs.Prelude.{◌≡◌, ◌≤◌, IfSome};
+ghost use Rattle.test_proxy.specs.Planned.{IsNamed, IsPlanned};
 
 use crate::setups::spec;
 use base_clock::StoppedClock;
@@ -12,7 +13,7 @@ use shard_record::{Dealer, Naming, Opened};
 use shard_settling::{Settled, Unsettled, settle};
 use std::alloc::Global;
 use std::sync::Wait;
-use stick_table::PlainTable;
+use stick_table::{PlainTable, Spec};
 use table_cli::answer;
 
 /// A table, the seats of its two workers, and one to look at it.
@@ -23,21 +24,30 @@ pub struct OpenTable<J: Naming + Send + Sync> {
     pub looking: SharedSeat<J>,
 }
 
-/// The record of the calls of one table.
-pub fn open_record(alloc: Global) -> Option<Opened>
-    ensures sizes { IfSome result (λ opened. (opened.books ≡ 1) × (opened.seats ≡ 3)) }
-{
-    Opened::new(alloc, 1, 3).ok()
+/// The record of the calls of one table, which has no name yet; and what that table is to be made with.
+#[derive(Drop)]
+pub struct Planned {
+    pub opened: Opened,
+    pub spec: Spec,
 }
 
-/// The empty table `t`, whose seats keep receipts.
-pub fn open<J: Naming + Send + Sync>(alloc: Global, opened: Opened) -> Option<OpenTable<J>>
-    requires record { (opened.first.table_id ≡ J.record_id) × (opened.books ≡ J.books) }
-    requires sizes { (opened.books ≡ 1) × (opened.seats ≡ 3) }
+/// The record of the calls of the table `t`.
+pub fn open_record(alloc: Global) -> Option<Planned>
+    ensures planned { IfSome result (λ planned. IsPlanned planned.opened planned.spec) }
 {
     let Ok(spec) = spec(alloc) else {
         return None;
     };
+    let opened = Opened::new(alloc, 1, 3).ok()?;
+    Some(Planned { opened, spec })
+}
+
+/// The empty table `t`, whose seats keep receipts.
+pub fn open<J: Naming + Send + Sync>(alloc: Global, planned: Planned) -> Option<OpenTable<J>>
+    requires record { IsNamed planned.opened planned.spec J.record_id J.books J.specs }
+    requires planned { IsPlanned planned.opened planned.spec }
+{
+    let Planned { opened, spec } = planned;
     let Ok(mut dealer) = Dealer::<J>::new(alloc, opened) else {
         return None;
     };

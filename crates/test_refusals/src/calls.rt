@@ -4,16 +4,19 @@
 //! how many answers were those that are wanted; `main` calls `make_calls`.
 
 ghost use Rattle.std.specs.Prelude.{◌≡◌};
+ghost use Rattle.test_calls.specs.Planned.{IsNamed};
 
 use shard_locks::{Shards, SharedSeat};
-use shard_record::{Naming, Opened};
+use shard_record::Naming;
 use shard_settling::Fault;
 use std::alloc::Global;
 use std::io;
 use std::marker::Brand;
 use std::sync::Wait;
 use stick_table::{PlainTable, Refusal, Ticket};
-use test_calls::{Call, Held, OpenPlain, Outcome, Purse, Records, make, open, open_record, show};
+use test_calls::{
+    Call, Held, OpenPlain, Outcome, Planned, Purse, Records, TWELVE, make, open, open_record, show,
+};
 
 /// What is done before the table is shown.
 const CALLS: [Call; 10] = [
@@ -152,11 +155,11 @@ impl Tally {
 /// The only table of a record, and its seats. Where they are refused that is counted.
 fn open_counted<J: Naming>(
     alloc: Global,
-    opened: Opened,
+    opened: Planned,
     keep: bool,
     tally: &mut Tally,
 ) -> Option<OpenPlain<J>>
-    requires record { (opened.first.table_id ≡ J.record_id) × (opened.books ≡ J.books) }
+    requires record { IsNamed opened J.record_id J.books J.specs }
 {
     let Ok(records) = Records::<J>::new(alloc, opened) else {
         return tally.note_none();
@@ -173,9 +176,9 @@ fn lead_recorded<J: Naming, R: Wait>(
     alloc: Global,
     keep: bool,
     tally: &mut Tally,
-    opened: Opened,
+    opened: Planned,
 ) -> Option<bool>
-    requires record { (opened.first.table_id ≡ J.record_id) × (opened.books ≡ J.books) }
+    requires record { IsNamed opened J.record_id J.books J.specs }
 {
     let mut opened = open_counted::<J>(alloc, opened, keep, tally)?;
     let (mut held, mut purse) = (NONE, Purse::new(alloc));
@@ -192,7 +195,7 @@ fn lead_recorded<J: Naming, R: Wait>(
 
 /// The same of a new record.
 fn lead_once<R: Wait>(rt: &R, alloc: Global, keep: bool, tally: &mut Tally) -> Option<bool> {
-    match open_record(alloc) {
+    match open_record(alloc, &[TWELVE]) {
         Some(opened) => lead_recorded::<Brand, R>(rt, alloc, keep, tally, opened),
         None => tally.note_none(),
     }
@@ -212,9 +215,9 @@ fn rolls_recorded<J: Naming, R: Wait>(
     rt: &R,
     alloc: Global,
     tally: &mut Tally,
-    opened: Opened,
+    opened: Planned,
 ) -> bool
-    requires record { (opened.first.table_id ≡ J.record_id) × (opened.books ≡ J.books) }
+    requires record { IsNamed opened J.record_id J.books J.specs }
 {
     let Some(mut opened) = open_counted::<J>(alloc, opened, false, tally) else {
         return false;
@@ -236,7 +239,7 @@ fn rolls_recorded<J: Naming, R: Wait>(
 
 /// The same of a new record.
 fn rolls_once<R: Wait>(rt: &R, alloc: Global, tally: &mut Tally) -> bool {
-    match open_record(alloc) {
+    match open_record(alloc, &[TWELVE]) {
         Some(opened) => rolls_recorded::<Brand, R>(rt, alloc, tally, opened),
         None => tally.note_none::<bool>().is_some(),
     }

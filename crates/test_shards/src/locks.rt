@@ -2,6 +2,7 @@
 
 mod beside_book;
 mod books;
+mod by_age;
 pub mod calls;
 mod commands;
 mod holding;

@@ -15,16 +15,17 @@ from lib.places import stickd
 from lib.proxy import PATIENCE, Server, greets, is_greeted, read_all
 
 TABLE = 'stick-table type ip size 1k expire 10m store conn_cur,gpc0,conn_rate(10s)'
-NOTES = ('# saved by stickd: the ms that an entry has left, and the command that makes it\n'
-         '# not saved: rates, and which connections hold an entry\n'
-         '# not known: which of two entries goes first that have the same time left, as all of a table without expire\n')
+HEAD = ('# saved by stickd: the ms that an entry has left, and the command that makes it\n'
+        '# not saved: rates, and which connections hold an entry\n')
+NOTES = HEAD + '# not known: which of two entries goes first that have the same time left, as all of a table without expire\n'
+UNKNOWN = 'Unknown command.\n\n'
 LIFE = 30_000
 SIZE = 12
 
 
 @contextlib.contextmanager
 def said_by(answers):
-    """A command socket that answers each line as it is told to."""
+    """A socket that answers each line as it is told to, and every other line as a command socket does what is no command."""
     with tempfile.TemporaryDirectory() as room, socket.socket(socket.AF_UNIX) as listener:
         path = os.path.join(room, 'commands')
         listener.bind(path)
@@ -35,7 +36,7 @@ def said_by(answers):
                 while True:
                     client, _ = listener.accept()
                     with client:
-                        client.sendall(answers[read_all(client).decode().strip()].encode())
+                        client.sendall(answers.get(read_all(client).decode().strip(), UNKNOWN).encode())
 
         threading.Thread(target=serve, daemon=True).start()
         yield path
@@ -70,6 +71,21 @@ def a_listing_becomes_lines():
     assert saved_of(answers) == lost + first + second
     assert saved_of(answers, 'www') == first
     assert saved_of(answers, 'names', 'www') == lost + second + first
+
+
+def entries_stand_as_the_stats_socket_tells():
+    """Where it tells which entry goes first, entries with the same time left stand so, and the file's head doesn't say that this isn't
+    known. Where it tells so of one table alone, the head says it."""
+    rows = ['0x0: key=10.0.0.7 use=0 exp=0 gpc0=1\n', '0x0: key=10.0.0.2 use=0 exp=0 gpc0=2\n', '0x0: key=10.0.0.5 use=0 exp=0 gpc0=3\n']
+    header = '# table: {}, type: ip, size:10, used:3\n'
+    answers = {'show table www oldest-first': header.format('www') + ''.join(rows) + '\n',
+               'show table www': 'asked without need\n\n',
+               'show table other': header.format('other') + ''.join(sorted(rows)) + '\n'}
+    first, second, third = (f'0 cmd set table {{0}} key 10.0.0.{key} data.gpc0 {value}\n' for key, value in ((7, 1), (2, 2), (5, 3)))
+    with said_by(answers) as path:
+        assert asked(path, 'save', 'www') == (0, HEAD + (first + second + third).format('www'), '')
+        both = (first + second + third).format('www') + (second + third + first).format('other')
+        assert asked(path, 'save', 'www', 'other') == (0, NOTES + both, '')
 
 
 def what_can_not_be_saved_is_told():
@@ -209,5 +225,5 @@ def random_tables_are_the_same():
             assert shown[len(names):] == last, (seed, turn, 'what goes first')
 
 
-TRIALS = [a_listing_becomes_lines, what_can_not_be_saved_is_told, a_restart_keeps_entries, a_crash_leaves_the_file_of_before,
-          a_bad_file_lets_nothing_listen, random_tables_are_the_same]
+TRIALS = [a_listing_becomes_lines, entries_stand_as_the_stats_socket_tells, what_can_not_be_saved_is_told, a_restart_keeps_entries,
+          a_crash_leaves_the_file_of_before, a_bad_file_lets_nothing_listen, random_tables_are_the_same]

@@ -1,6 +1,7 @@
 //! The callers whose calls are timed.
 
 ghost use Rattle.std.specs.Prelude.{◌≡◌, ◌≤◌};
+ghost use Rattle.test_calls.specs.Planned.{IsNamed};
 
 use crate::locks::bare::BareCaller;
 use crate::locks::locked::LockedCaller;
@@ -8,12 +9,12 @@ use crate::locks::runner::Runner;
 use base_sequence::NoMemory;
 use shard_book::Seat;
 use shard_locks::{Shards, SharedSeat};
-use shard_record::{Naming, Opened};
+use shard_record::Naming;
 use std::alloc::Global;
 use std::marker::Brand;
 use std::sync::Wait;
 use stick_table::Table;
-use test_calls::{OpenTable, Records, books_of, spec};
+use test_calls::{OpenTable, Planned, Records, books_of, spec};
 
 /// How many entries a table has places for.
 const PLACES: u32 = 8_192;
@@ -21,16 +22,24 @@ const PLACES: u32 = 8_192;
 /// How many references a shard may have.
 const REFERENCES: u32 = 1_024;
 
+/// The record of such a table, which has no name yet.
+pub fn open_record(alloc: Global, shards: u32, seats: u32) -> Result<Planned, NoMemory>
+    requires { 1 ≤ shards }
+{
+    let spec = spec(alloc, PLACES, REFERENCES, 1 << 62)?;
+    Planned::alone(alloc, &spec, shards, seats)
+}
+
 /// A table in so many shards, and so many seats without receipts, whose calls a record keeps.
 pub fn open_table<T: Table, J: Naming>(
     alloc: Global,
     shards: u32,
     seats: u32,
-    opened: Opened,
+    opened: Planned,
 ) -> Result<OpenTable<T, J>, NoMemory>
     requires shards { (1 ≤ shards) × (shards ≤ 64) }
     requires seats { (1 ≤ seats) × (seats ≤ 1024) }
-    requires record { (opened.first.table_id ≡ J.record_id) × (opened.books ≡ J.books) }
+    requires record { IsNamed opened J.record_id J.books J.specs }
 {
     let spec = spec(alloc, PLACES, REFERENCES, 1 << 62)?;
     let records = Records::<J>::new(alloc, opened)?;
@@ -67,10 +76,10 @@ fn bare_recorded<J: Naming, T: Table>(
     alloc: Global,
     shards: u32,
     number: u32,
-    opened: Opened,
+    opened: Planned,
 ) -> Result<Runner<BareCaller<T>>, NoMemory>
     requires shards { (1 ≤ shards) × (shards ≤ 64) }
-    requires record { (opened.first.table_id ≡ J.record_id) × (opened.books ≡ J.books) }
+    requires record { IsNamed opened J.record_id J.books J.specs }
 {
     let (table, _seats) = open_table::<T, J>(alloc, shards, 1, opened)?;
     let books = books_of(alloc, table)?;
@@ -86,7 +95,7 @@ fn bare_caller<T: Table>(
 ) -> Result<Runner<BareCaller<T>>, NoMemory>
     requires { (1 ≤ shards) × (shards ≤ 64) }
 {
-    let opened = Opened::new(alloc, shards, 1)?;
+    let opened = open_record(alloc, shards, 1)?;
     bare_recorded::<Brand, T>(alloc, shards, number, opened)
 }
 

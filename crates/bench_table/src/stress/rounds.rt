@@ -1,6 +1,7 @@
 //! A round: a table is opened, called, rolled or not, and settled.
 
 ghost use Rattle.std.specs.Prelude.{◌≡◌, ◌≤◌};
+ghost use Rattle.test_calls.specs.Planned.{IsNamed};
 
 use crate::stress::calling::call_all;
 use crate::stress::closing::{Shown, close};
@@ -9,7 +10,7 @@ use crate::stress::progress::Progress;
 use crate::stress::rolling::roll_often;
 use base_sequence::NoMemory;
 use shard_locks::{Shards, SharedSeat};
-use shard_record::{Naming, Opened};
+use shard_record::Naming;
 use shard_settling::{Fault, Settled, Unsettled, settle};
 use std::alloc::Global;
 use std::fmt::{Display, Formatter, Write};
@@ -20,7 +21,7 @@ use std::thread::Threads;
 use std::{fmt, thread};
 use stick_pooled::StickTable;
 use stick_table::{PlainTable, Refusal, Table};
-use test_calls::{OpenTable, Records, abandon_all, references_of, spec};
+use test_calls::{OpenTable, Planned, Records, abandon_all, references_of, spec};
 
 /// How many entries each shard has places for.
 const PLACES: u32 = 48;
@@ -161,15 +162,23 @@ fn tally_of<T: Table, J: Naming>(settled: &Settled<T, J>, rolls: Option<u32>) ->
     }
 }
 
+/// The record of such a table, which has no name yet.
+fn open_record(alloc: Global, plan: Plan) -> Result<Planned, NoMemory>
+    requires { (1 ≤ plan.shards) × (plan.shards ≤ 64) }
+{
+    let spec = spec(alloc, PLACES * plan.shards, REFERENCES, 1 << 62)?;
+    Planned::alone(alloc, &spec, plan.shards, plan.threads)
+}
+
 /// The table of a plan, and the seats of its callers.
 fn open_table<T: Table, J: Naming>(
     alloc: Global,
     plan: Plan,
-    opened: Opened,
+    opened: Planned,
 ) -> Result<OpenTable<T, J>, NoMemory>
     requires threads { (1 ≤ plan.threads) × (plan.threads ≤ 1024) }
     requires shards { (1 ≤ plan.shards) × (plan.shards ≤ 64) }
-    requires record { (opened.first.table_id ≡ J.record_id) × (opened.books ≡ J.books) }
+    requires record { IsNamed opened J.record_id J.books J.specs }
 {
     let spec = spec(alloc, PLACES * plan.shards, REFERENCES, 1 << 62)?;
     let keep = plan.rolls.is_none();
@@ -215,11 +224,11 @@ fn round_recorded<J: Naming + Send + Sync, T: Table + Send, R: Threads + Wait + 
     alloc: Global,
     plan: Plan,
     seed: u32,
-    opened: Opened,
+    opened: Planned,
 ) -> Result<Ended, Trouble>
     requires threads { (1 ≤ plan.threads) × (plan.threads ≤ 1024) }
     requires shards { (1 ≤ plan.shards) × (plan.shards ≤ 64) }
-    requires record { (opened.first.table_id ≡ J.record_id) × (opened.books ≡ J.books) }
+    requires record { IsNamed opened J.record_id J.books J.specs }
 {
     let (table, seats) = open_table::<T, J>(alloc, plan, opened)?;
     let (shown, rolled) = call_and_close(rt, alloc, &table, seats, plan, seed)?;
@@ -240,7 +249,7 @@ fn run_round<T: Table + Send, R: Threads + Wait + Clock + Sync>(
     requires threads { (1 ≤ plan.threads) × (plan.threads ≤ 1024) }
     requires shards { (1 ≤ plan.shards) × (plan.shards ≤ 64) }
 {
-    let Ok(opened) = Opened::new(alloc, plan.shards, plan.threads) else {
+    let Ok(opened) = open_record(alloc, plan) else {
         return Err(Trouble::Refused(Refusal::Memory));
     };
     round_recorded::<Brand, T, R>(rt, alloc, plan, seed, opened)

@@ -7,7 +7,7 @@ use tcp_stats::{
     HttpRequest, StatsCommand, StatsMessage, push_response, read_command, read_request,
 };
 
-/// A letter for each command, and the name that a frontend is shut down by.
+/// A letter for each command, and the name of the frontend that is shut down, or of the table that is shown.
 fn shown(line: &[u8]) -> (u8, &[u8]) {
     match read_command(line) {
         StatsCommand::ShowInfo => (b'i', b""),
@@ -19,13 +19,14 @@ fn shown(line: &[u8]) -> (u8, &[u8]) {
         StatsCommand::ShutdownFrontend(name) => (b'f', name),
         StatsCommand::Stop(30_000) => (b'x', b""),
         StatsCommand::Stop(_) => (b'y', b""),
+        StatsCommand::OldestFirst(name) => (b'o', name),
         StatsCommand::Table => (b't', b""),
         StatsCommand::Empty => (b'-', b""),
         StatsCommand::Unknown => (b'?', b""),
     }
 }
 
-static COMMANDS: [(&str, u8, &str); 33] = [
+static COMMANDS: [(&str, u8, &str); 38] = [
     ("show info", b'i', ""),
     (" show \t info \r", b'i', ""),
     ("show info json", b'?', ""),
@@ -52,6 +53,11 @@ static COMMANDS: [(&str, u8, &str); 33] = [
     ("stop 1 2", b'?', ""),
     ("show table", b't', ""),
     ("show table t data.conn_cur gt 2", b't', ""),
+    ("show table t oldest-first", b'o', "t"),
+    ("show table t oldest-first now", b't', ""),
+    ("show table oldest-first", b't', ""),
+    ("show table t youngest-first", b't', ""),
+    ("clear table t oldest-first", b't', ""),
     ("set table t key 10.0.0.1 data.gpc0 1", b't', ""),
     ("clear table t", b't', ""),
     ("show tables", b'?', ""),
@@ -69,7 +75,7 @@ fn commands_of_the_stats_socket(rt: HostRuntime) {
     }
 }
 
-/// What HAProxy answers to `help`, but for the commands that are its own alone, and with `stop`, which it hasn't.
+/// What HAProxy answers to `help`, but for the commands that are its own alone, and with `oldest-first` and `stop`, which it hasn't.
 static HELP: &str = "The following commands are valid at this level:
   clear table <table> [<filter>]*         : remove an entry from a table (filter: data/key)
   set table <table> key <k> [data.* <v>]* : update or create a table entry's data
@@ -77,6 +83,7 @@ static HELP: &str = "The following commands are valid at this level:
   show info                               : report information about the running process
   show stat                               : report counters for each proxy and server
   show table <table> [<filter>]*          : report table usage stats or dump this table's contents (filter: data/key)
+  show table <table> oldest-first         : dump this table's contents in the order in which entries go
   shutdown frontend <frontend>            : stop a specific frontend
   stop <ms>                               : end the program; open connections may go on for so long
   help [<command>]                        : list matching or all commands

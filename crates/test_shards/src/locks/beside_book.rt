@@ -2,6 +2,7 @@
 
 ghost use Rattle.std.specs.Prelude.{◌≡◌, ◌<◌, ◌^◌, IfOk};
 ghost use Rattle.stick_model.specs.Limits.{IsTableEvent};
+ghost use Rattle.test_calls.specs.Planned.{IsNamed};
 
 use crate::locks::books::events_of;
 use crate::locks::calls::counts_of;
@@ -9,14 +10,14 @@ use crate::locks::tables::call;
 use base_sequence::NoMemory;
 use shard_book::Book;
 use shard_locks::{Shards, SharedSeat};
-use shard_record::{Naming, Opened};
+use shard_record::Naming;
 use std::alloc::Global;
 use std::marker::Brand;
 use std::sync::Wait;
 use std::test::Fail;
 use stick_model::same_reply;
 use stick_table::{Event, PlainTable, Refusal, Reply, Ticket};
-use test_calls::{Purse, Random, Records, event, open_record, spec};
+use test_calls::{Planned, Purse, Random, Records, TablePlan, event, open_record, spec};
 
 /// How many events were answered, and refused at the end of the table's life.
 #[derive(Clone, Copy)]
@@ -66,6 +67,14 @@ fn answers(book: &mut Book<PlainTable>, event: Event, answer: &Result<Reply, Ref
     is_same(answer, &other)
 }
 
+/// What the table is planned as.
+const FIVE: TablePlan = TablePlan {
+    size: 5,
+    max_refs: 2,
+    life: 300,
+    shards: 1,
+};
+
 /// The book of a table.
 fn open_book(alloc: Global) -> Result<Book<PlainTable>, NoMemory> {
     Book::open(alloc, spec(alloc, 5, 2, 300)?)
@@ -74,10 +83,10 @@ fn open_book(alloc: Global) -> Result<Book<PlainTable>, NoMemory> {
 /// Such a table in one shard, and its only seat.
 fn open_table<J: Naming>(
     alloc: Global,
-    opened: Opened,
+    opened: Planned,
     keep: bool,
 ) -> Result<(Shards<PlainTable, J>, SharedSeat<J>), NoMemory>
-    requires record { (opened.first.table_id ≡ J.record_id) × (opened.books ≡ J.books) }
+    requires record { IsNamed opened J.record_id J.books J.specs }
 {
     let records = Records::<J>::new(alloc, opened)?;
     let (_left, (table, mut seats)) = records.open(alloc, spec(alloc, 5, 2, 300)?, 1, 1, keep)?;
@@ -89,8 +98,8 @@ fn open_table<J: Naming>(
 
 impl<J: Naming> Trial<J> {
     /// Nothing is asked yet.
-    fn new(alloc: Global, opened: Opened, keep: bool) -> Result<Trial<J>, NoMemory>
-        requires record { (opened.first.table_id ≡ J.record_id) × (opened.books ≡ J.books) }
+    fn new(alloc: Global, opened: Planned, keep: bool) -> Result<Trial<J>, NoMemory>
+        requires record { IsNamed opened J.record_id J.books J.specs }
     {
         let book = open_book(alloc)?;
         let (table, seat) = open_table::<J>(alloc, opened, keep)?;
@@ -197,9 +206,9 @@ fn answers_recorded<J: Naming, R: Wait>(
     rt: &R,
     alloc: Global,
     keep: bool,
-    opened: Opened,
+    opened: Planned,
 ) -> Option<(u32, Counts)>
-    requires { (opened.first.table_id ≡ J.record_id) × (opened.books ≡ J.books) }
+    requires { IsNamed opened J.record_id J.books J.specs }
 {
     match Trial::<J>::new(alloc, opened, keep) {
         Ok(mut trial) => {
@@ -212,7 +221,7 @@ fn answers_recorded<J: Naming, R: Wait>(
 
 /// The same of a new record.
 fn same_answers<R: Wait>(rt: &R, alloc: Global, keep: bool) -> Option<(u32, Counts)> {
-    match open_record(alloc) {
+    match open_record(alloc, &[FIVE]) {
         Some(opened) => answers_recorded::<Brand, R>(rt, alloc, keep, opened),
         None => None,
     }

@@ -1,13 +1,14 @@
 //! Each call of a table in shards, once, and what is refused.
 
 ghost use Rattle.std.specs.Prelude.{◌≡◌, ◌≤◌, ◌<◌, IfOk};
+ghost use Rattle.test_calls.specs.Planned.{IsNamed};
 
 use crate::locks::books::{Sums, holds};
-use crate::locks::tables::{Ask, Desk, Said, Shown, say, shown_of};
+use crate::locks::tables::{Ask, Desk, Said, Shown, plan_of, say, shown_of};
 use base_sequence::NoMemory;
 use shard_book::Seat;
 use shard_locks::Shards;
-use shard_record::{Naming, Opened};
+use shard_record::Naming;
 use std::alloc::Global;
 use std::marker::Brand;
 use std::sync::Wait;
@@ -15,7 +16,7 @@ use std::test::Fail;
 use stick_key::shard_of;
 use stick_table::{PlainTable, Refusal};
 use stored_data::Act;
-use test_calls::{Held, Records, key, open_record};
+use test_calls::{Held, Planned, Records, key, open_record};
 
 /// How many calls of a shard a seat has, and how many events it has seen there.
 pub fn counts_of(seat: &Seat, shard: u32) -> (u64, u64)
@@ -113,8 +114,8 @@ fn are_answered<J: Naming>(rt: &impl Wait, desk: &mut Desk<J>) -> bool {
 }
 
 /// Whether that is so of a new table, its calls in a record.
-fn answered_recorded<J: Naming, R: Wait>(rt: &R, alloc: Global, keep: bool, opened: Opened) -> bool
-    requires { (opened.first.table_id ≡ J.record_id) × (opened.books ≡ J.books) }
+fn answered_recorded<J: Naming, R: Wait>(rt: &R, alloc: Global, keep: bool, opened: Planned) -> bool
+    requires { IsNamed opened J.record_id J.books J.specs }
 {
     match Desk::<J>::open(alloc, opened, 2, keep) {
         Ok(mut desk) => are_answered(rt, &mut desk),
@@ -124,7 +125,7 @@ fn answered_recorded<J: Naming, R: Wait>(rt: &R, alloc: Global, keep: bool, open
 
 /// Whether that is so of a new table.
 fn all_are_answered<R: Wait>(rt: &R, alloc: Global, keep: bool) -> bool {
-    match open_record(alloc) {
+    match open_record(alloc, &[plan_of(2)]) {
         Some(opened) => answered_recorded::<Brand, R>(rt, alloc, keep, opened),
         None => false,
     }
@@ -199,13 +200,13 @@ fn refuses_another<J: Naming>(rt: &impl Wait, mut desk: Desk<J>, mut other: Desk
 /// Two tables of a record, in so many shards.
 pub fn two_desks<J: Naming>(
     alloc: Global,
-    opened: Opened,
+    opened: Planned,
     shards: (u32, u32),
     keep: bool,
 ) -> Result<(Desk<J>, Desk<J>), NoMemory>
     requires first { (1 ≤ shards.0) × (shards.0 ≤ 12) }
     requires second { (1 ≤ shards.1) × (shards.1 ≤ 12) }
-    requires record { (opened.first.table_id ≡ J.record_id) × (opened.books ≡ J.books) }
+    requires record { IsNamed opened J.record_id J.books J.specs }
 {
     let records = Records::<J>::new(alloc, opened)?;
     let (left, first) = Desk::new(alloc, records, shards.0, keep)?;
@@ -214,8 +215,8 @@ pub fn two_desks<J: Naming>(
 }
 
 /// Whether that is so of two tables of a record.
-fn stale_recorded<J: Naming, R: Wait>(rt: &R, alloc: Global, opened: Opened) -> bool
-    requires { (opened.first.table_id ≡ J.record_id) × (opened.books ≡ J.books) }
+fn stale_recorded<J: Naming, R: Wait>(rt: &R, alloc: Global, opened: Planned) -> bool
+    requires { IsNamed opened J.record_id J.books J.specs }
 {
     match two_desks::<J>(alloc, opened, (2, 3), false) {
         Ok((desk, other)) => refuses_another(rt, desk, other),
@@ -225,7 +226,7 @@ fn stale_recorded<J: Naming, R: Wait>(rt: &R, alloc: Global, opened: Opened) -> 
 
 /// Whether that is so of new tables.
 fn is_all_stale<R: Wait>(rt: &R, alloc: Global) -> bool {
-    match open_record(alloc) {
+    match open_record(alloc, &[plan_of(2), plan_of(3)]) {
         Some(opened) => stale_recorded::<Brand, R>(rt, alloc, opened),
         None => false,
     }
@@ -264,8 +265,8 @@ fn refused_by<J: Naming>(rt: &impl Wait, mut desk: Desk<J>, mut other: Desk<J>) 
 }
 
 /// The same of two tables of a record.
-fn behind_recorded<J: Naming, R: Wait>(rt: &R, alloc: Global, keep: bool, opened: Opened) -> Said
-    requires { (opened.first.table_id ≡ J.record_id) × (opened.books ≡ J.books) }
+fn behind_recorded<J: Naming, R: Wait>(rt: &R, alloc: Global, keep: bool, opened: Planned) -> Said
+    requires { IsNamed opened J.record_id J.books J.specs }
 {
     match two_desks::<J>(alloc, opened, (1, 1), keep) {
         Ok((desk, other)) => refused_by(rt, desk, other),
@@ -275,7 +276,7 @@ fn behind_recorded<J: Naming, R: Wait>(rt: &R, alloc: Global, keep: bool, opened
 
 /// The same of new tables.
 fn behind<R: Wait>(rt: &R, alloc: Global, keep: bool) -> Said {
-    match open_record(alloc) {
+    match open_record(alloc, &[plan_of(1), plan_of(1)]) {
         Some(opened) => behind_recorded::<Brand, R>(rt, alloc, keep, opened),
         None => Said::Other,
     }
@@ -292,8 +293,8 @@ fn a_table_that_has_counted_less_is_behind(rt: HostRuntime) -> Result<(), Fail> 
 // ---- what the shards are made with
 
 /// Whether the places of a table are those of its shards, its calls in a record.
-fn shared_out_recorded<J: Naming>(alloc: Global, opened: Opened) -> bool
-    requires { (opened.first.table_id ≡ J.record_id) × (opened.books ≡ J.books) }
+fn shared_out_recorded<J: Naming>(alloc: Global, opened: Planned) -> bool
+    requires { IsNamed opened J.record_id J.books J.specs }
 {
     match Desk::<J>::open(alloc, opened, 5, false) {
         Ok(desk) => holds(desk, &[empty(3), empty(3), empty(2), empty(2), empty(2)]),
@@ -303,7 +304,7 @@ fn shared_out_recorded<J: Naming>(alloc: Global, opened: Opened) -> bool
 
 /// Whether the places of a table are those of its shards.
 fn are_shared_out(alloc: Global) -> bool {
-    match open_record(alloc) {
+    match open_record(alloc, &[plan_of(5)]) {
         Some(opened) => shared_out_recorded::<Brand>(alloc, opened),
         None => false,
     }

@@ -1,27 +1,28 @@
 //! Commands on tables that threads share, asked by one seat, and on tables that one thread has.
 
 ghost use Rattle.std.specs.Prelude.{◌≡◌};
+ghost use Rattle.test_calls.specs.Planned.{IsNamed};
 
 use crate::locks::books::{Sums, holds};
 use crate::locks::calls::two_desks;
-use crate::locks::tables::Desk;
+use crate::locks::tables::{Desk, plan_of};
 use crate::locks::threads::open_two;
 use base_clock::StoppedClock;
 use base_sequence::{NoMemory, Sequence};
 use byte_ports::MemorySink;
 use shard_book::{Books, Keeper, Named};
 use shard_locks::{Seated, Shards, SharedSeat};
-use shard_record::{Naming, Opened};
+use shard_record::Naming;
 use std::alloc::Global;
 use std::marker::Brand;
 use std::sync::Wait;
 use std::test::Fail;
 use stick_table::PlainTable;
 use table_cli::{CliFault, answer};
-use test_calls::{open_record, spec};
+use test_calls::{Planned, TWELVE, open_record, spec};
 
 /// A command line at a moment in ms, and its answer.
-type Answered = (u32, &'static [u8], &'static [u8]);
+pub(crate) type Answered = (u32, &'static [u8], &'static [u8]);
 
 /// Lines on a table of integers in two shards, whose entries live for 500 ms.
 static LINES: [Answered; 9] = [
@@ -86,7 +87,11 @@ fn is_answered<K: Keeper>(
 }
 
 /// Whether the lines are answered so, one after another, on a table.
-fn are_answered<K: Keeper>(alloc: Global, tables: &mut [Named<K>], lines: &[Answered]) -> bool {
+pub(crate) fn are_answered<K: Keeper>(
+    alloc: Global,
+    tables: &mut [Named<K>],
+    lines: &[Answered],
+) -> bool {
     for line in lines {
         if !is_answered(alloc, tables, *line) {
             return false;
@@ -96,7 +101,7 @@ fn are_answered<K: Keeper>(alloc: Global, tables: &mut [Named<K>], lines: &[Answ
 }
 
 /// The tables of a line's service: one, named n.
-fn named<K: Keeper + Drop>(alloc: Global, keeper: K) -> Result<Vec<Named<K>>, NoMemory> {
+pub(crate) fn named<K: Keeper + Drop>(alloc: Global, keeper: K) -> Result<Vec<Named<K>>, NoMemory> {
     let name = Sequence::from_slice(alloc, b"n")?;
     let mut tables = Vec::new(alloc);
     tables.push(Named { name, keeper })?;
@@ -109,7 +114,7 @@ fn open_books(alloc: Global) -> Result<Books<PlainTable>, NoMemory> {
 }
 
 /// The service of such a table.
-fn serve_books(alloc: Global) -> Result<Vec<Named<Books<PlainTable>>>, NoMemory> {
+pub(crate) fn serve_books(alloc: Global) -> Result<Vec<Named<Books<PlainTable>>>, NoMemory> {
     named(alloc, open_books(alloc)?)
 }
 
@@ -166,7 +171,7 @@ fn records_of_one_thread_begin_again(rt: HostRuntime) -> Result<(), Fail> {
 }
 
 /// Whether a seat's lines were answered so, and how many events of each shard the seat made.
-fn made_by<J: Naming, R: Wait>(
+pub(crate) fn made_by<J: Naming, R: Wait>(
     mut tables: Vec<Named<Seated<'_, PlainTable, J, R>>>,
     are_answered: bool,
 ) -> Option<(bool, u64, u64)> {
@@ -208,8 +213,8 @@ fn sums(events: u64) -> Sums {
 }
 
 /// Whether a seat of a new table is answered so. Keys 5, 7 and 9 lie on the first shard, key 6 on the second.
-fn answered_recorded<J: Naming, R: Wait>(rt: &R, alloc: Global, opened: Opened) -> bool
-    requires { (opened.first.table_id ≡ J.record_id) × (opened.books ≡ J.books) }
+fn answered_recorded<J: Naming, R: Wait>(rt: &R, alloc: Global, opened: Planned) -> bool
+    requires { IsNamed opened J.record_id J.books J.specs }
 {
     let Ok((desk, seat)) = open_two::<J>(alloc, opened) else {
         return false;
@@ -221,7 +226,7 @@ fn answered_recorded<J: Naming, R: Wait>(rt: &R, alloc: Global, opened: Opened) 
 
 /// The same of a new record.
 fn is_seat_answered<R: Wait>(rt: &R, alloc: Global) -> bool {
-    match open_record(alloc) {
+    match open_record(alloc, &[TWELVE]) {
         Some(opened) => answered_recorded::<Brand, R>(rt, alloc, opened),
         None => false,
     }
@@ -264,9 +269,9 @@ fn shown_to<J: Naming>(
 fn shown_recorded<J: Naming, R: Wait>(
     rt: &R,
     alloc: Global,
-    opened: Opened,
+    opened: Planned,
 ) -> Option<(bool, u64, u64)>
-    requires { (opened.first.table_id ≡ J.record_id) × (opened.books ≡ J.books) }
+    requires { IsNamed opened J.record_id J.books J.specs }
 {
     match open_two::<J>(alloc, opened) {
         Ok((mut desk, seat)) => shown_to(rt, &mut desk, seat),
@@ -276,7 +281,7 @@ fn shown_recorded<J: Naming, R: Wait>(
 
 /// The same of a new record.
 fn is_shown<R: Wait>(rt: &R, alloc: Global) -> Option<(bool, u64, u64)> {
-    match open_record(alloc) {
+    match open_record(alloc, &[TWELVE]) {
         Some(opened) => shown_recorded::<Brand, R>(rt, alloc, opened),
         None => None,
     }
@@ -307,9 +312,9 @@ fn answered_by<J: Naming>(
 fn behind_recorded<J: Naming, R: Wait>(
     rt: &R,
     alloc: Global,
-    opened: Opened,
+    opened: Planned,
 ) -> Option<(bool, u64, u64)>
-    requires { (opened.first.table_id ≡ J.record_id) × (opened.books ≡ J.books) }
+    requires { IsNamed opened J.record_id J.books J.specs }
 {
     match two_desks::<J>(alloc, opened, (2, 2), false) {
         Ok((desk, other)) => answered_by(rt, desk, &other),
@@ -319,7 +324,7 @@ fn behind_recorded<J: Naming, R: Wait>(
 
 /// The same of a new record.
 fn is_behind<R: Wait>(rt: &R, alloc: Global) -> Option<(bool, u64, u64)> {
-    match open_record(alloc) {
+    match open_record(alloc, &[plan_of(2), plan_of(2)]) {
         Some(opened) => behind_recorded::<Brand, R>(rt, alloc, opened),
         None => None,
     }

@@ -1,10 +1,11 @@
 //! A shard that is held, and calls beside it.
 
 ghost use Rattle.std.specs.Prelude.{◌≡◌};
+ghost use Rattle.test_calls.specs.Planned.{IsNamed};
 
-use crate::locks::tables::{Ask, Desk, Said, place, say};
+use crate::locks::tables::{Ask, Desk, Said, place, plan_of, say};
 use shard_locks::{Shards, SharedSeat};
-use shard_record::{Naming, Opened};
+use shard_record::Naming;
 use std::alloc::{AllocError, Global};
 use std::marker::Brand;
 use std::rt::Clock;
@@ -15,7 +16,7 @@ use std::thread;
 use std::thread::Threads;
 use std::time::Duration;
 use stick_table::PlainTable;
-use test_calls::{Purse, open_record};
+use test_calls::{Planned, Purse, open_record};
 
 /// What one thread tells the other.
 #[derive(Drop)]
@@ -100,9 +101,9 @@ fn beside_recorded<J: Naming + Send + Sync, R: Threads + Wait + Clock + Sync>(
     alloc: Global,
     shard: u32,
     ms: u32,
-    opened: Opened,
+    opened: Planned,
 ) -> Option<(bool, bool, bool)>
-    requires { (opened.first.table_id ≡ J.record_id) × (opened.books ≡ J.books) }
+    requires { IsNamed opened J.record_id J.books J.specs }
 {
     let Ok(desk) = Desk::<J>::open(alloc, opened, 2, false) else {
         return None;
@@ -141,7 +142,7 @@ fn call_beside<R: Threads + Wait + Clock + Sync>(
     shard: u32,
     ms: u32,
 ) -> Option<(bool, bool, bool)> {
-    match open_record(alloc) {
+    match open_record(alloc, &[plan_of(2)]) {
         Some(opened) => beside_recorded::<Brand, R>(rt, alloc, shard, ms, opened),
         None => None,
     }

@@ -1,16 +1,17 @@
 //! Shards whose records begin again, and references that outlast it.
 
 ghost use Rattle.std.specs.Prelude.{◌≡◌};
+ghost use Rattle.test_calls.specs.Planned.{IsNamed};
 
 use crate::locks::books::{Sums, holds, holds_entries};
 use crate::locks::calls::{counts_of, row};
-use crate::locks::tables::{Ask, Desk, Said};
-use shard_record::{Naming, Opened};
+use crate::locks::tables::{Ask, Desk, Said, plan_of};
+use shard_record::Naming;
 use std::alloc::Global;
 use std::marker::Brand;
 use std::sync::Wait;
 use std::test::Fail;
-use test_calls::open_record;
+use test_calls::{Planned, open_record};
 
 /// Whether three rolls of a record of two calls are as they have to: one that wants a call more, one that wants one, and
 /// one at once again.
@@ -34,8 +35,8 @@ fn outlast<J: Naming>(rt: &impl Wait, desk: &mut Desk<J>) -> bool {
 
 /// Whether a new table keeps its entries and references over a roll: its book has counted four events and its base two,
 /// with two entries of which one is tracked.
-fn kept_recorded<J: Naming, R: Wait>(rt: &R, alloc: Global, opened: Opened) -> bool
-    requires { (opened.first.table_id ≡ J.record_id) × (opened.books ≡ J.books) }
+fn kept_recorded<J: Naming, R: Wait>(rt: &R, alloc: Global, opened: Planned) -> bool
+    requires { IsNamed opened J.record_id J.books J.specs }
 {
     let wanted = Sums {
         sizes: (12, 12),
@@ -57,7 +58,7 @@ fn kept_recorded<J: Naming, R: Wait>(rt: &R, alloc: Global, opened: Opened) -> b
 
 /// The same of a new record.
 fn are_kept<R: Wait>(rt: &R, alloc: Global) -> bool {
-    match open_record(alloc) {
+    match open_record(alloc, &[plan_of(1)]) {
         Some(opened) => kept_recorded::<Brand, R>(rt, alloc, opened),
         None => false,
     }
@@ -77,8 +78,8 @@ fn is_not_rolled<J: Naming>(rt: &impl Wait, desk: &mut Desk<J>) -> bool {
 }
 
 /// Whether that is so of a new table with receipts, whose book then has two calls since the empty table.
-fn stays_recorded<J: Naming, R: Wait>(rt: &R, alloc: Global, opened: Opened) -> bool
-    requires { (opened.first.table_id ≡ J.record_id) × (opened.books ≡ J.books) }
+fn stays_recorded<J: Naming, R: Wait>(rt: &R, alloc: Global, opened: Planned) -> bool
+    requires { IsNamed opened J.record_id J.books J.specs }
 {
     let wanted = Sums {
         sizes: (12, 12),
@@ -99,7 +100,7 @@ fn stays_recorded<J: Naming, R: Wait>(rt: &R, alloc: Global, opened: Opened) -> 
 
 /// The same of a new record.
 fn stays<R: Wait>(rt: &R, alloc: Global) -> bool {
-    match open_record(alloc) {
+    match open_record(alloc, &[plan_of(1)]) {
         Some(opened) => stays_recorded::<Brand, R>(rt, alloc, opened),
         None => false,
     }
@@ -140,8 +141,8 @@ fn roll_around_references<J: Naming>(rt: &impl Wait, desk: &mut Desk<J>) -> bool
 }
 
 /// Whether that is so of a new table, whose book then has 104 events in its base, and no reference.
-fn outlast_recorded<J: Naming, R: Wait>(rt: &R, alloc: Global, opened: Opened) -> bool
-    requires { (opened.first.table_id ≡ J.record_id) × (opened.books ≡ J.books) }
+fn outlast_recorded<J: Naming, R: Wait>(rt: &R, alloc: Global, opened: Planned) -> bool
+    requires { IsNamed opened J.record_id J.books J.specs }
 {
     let wanted = Sums {
         sizes: (12, 12),
@@ -162,7 +163,7 @@ fn outlast_recorded<J: Naming, R: Wait>(rt: &R, alloc: Global, opened: Opened) -
 
 /// The same of a new record.
 fn all_outlast<R: Wait>(rt: &R, alloc: Global) -> bool {
-    match open_record(alloc) {
+    match open_record(alloc, &[plan_of(1)]) {
         Some(opened) => outlast_recorded::<Brand, R>(rt, alloc, opened),
         None => false,
     }

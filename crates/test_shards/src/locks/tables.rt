@@ -3,15 +3,16 @@
 
 ghost use Rattle.std.specs.Prelude.{◌≡◌, ◌≤◌, ◌<◌, IfOk};
 ghost use Rattle.stick_model.specs.Limits.{IsTableEvent};
+ghost use Rattle.test_calls.specs.Planned.{IsNamed};
 
 use base_sequence::{NoMemory, Sequence};
 use shard_locks::{Shards, SharedRef, SharedSeat, Tracking};
-use shard_record::{Naming, Opened};
+use shard_record::Naming;
 use std::alloc::Global;
 use std::sync::Wait;
 use stick_table::{Cell, Event, Filter, PlainTable, Refusal, Reply, Row};
 use stored_data::{Datum, Field};
-use test_calls::{Held, Purse, Records, ask, key, spec};
+use test_calls::{Held, Planned, Purse, Records, TablePlan, ask, key, spec};
 
 /// What is asked of a table by the number of a key, and at a moment in ms.
 #[derive(Clone, Copy)]
@@ -176,6 +177,16 @@ pub struct Desk<J: Naming> {
     pub purse: Purse<J>,
 }
 
+/// What a desk's table is planned as, in so many shards.
+pub fn plan_of(shards: u32) -> TablePlan {
+    TablePlan {
+        size: 12,
+        max_refs: 4,
+        life: 1_000,
+        shards,
+    }
+}
+
 impl<J: Naming> Desk<J> {
     /// A table in so many shards, and its only seat; and what is left of the record.
     pub fn new(
@@ -204,10 +215,15 @@ impl<J: Naming> Desk<J> {
     }
 
     /// The only table of a record, in so many shards.
-    pub fn open(alloc: Global, opened: Opened, shards: u32, keep: bool) -> Result<Desk<J>, NoMemory>
+    pub fn open(
+        alloc: Global,
+        opened: Planned,
+        shards: u32,
+        keep: bool,
+    ) -> Result<Desk<J>, NoMemory>
         requires some { 1 ≤ shards }
         requires few { shards ≤ 12 }
-        requires record { (opened.first.table_id ≡ J.record_id) × (opened.books ≡ J.books) }
+        requires record { IsNamed opened J.record_id J.books J.specs }
     {
         let records = Records::<J>::new(alloc, opened)?;
         let (_left, desk) = Desk::new(alloc, records, shards, keep)?;

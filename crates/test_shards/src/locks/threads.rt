@@ -1,6 +1,7 @@
 //! Two threads that share a table, and what the records of its books say of their calls.
 
 ghost use Rattle.std.specs.Prelude.{◌≡◌, ◌<◌};
+ghost use Rattle.test_calls.specs.Planned.{IsNamed};
 
 use crate::locks::books::events_of;
 use crate::locks::replay::{is_told, replies_of};
@@ -8,7 +9,7 @@ use crate::locks::tables::Desk;
 use base_sequence::{NoMemory, Sequence};
 use shard_book::{Book, Receipt};
 use shard_locks::{Shards, SharedSeat};
-use shard_record::{Naming, Opened};
+use shard_record::Naming;
 use std::alloc::Global;
 use std::marker::Brand;
 use std::sync::Wait;
@@ -16,7 +17,7 @@ use std::test::Fail;
 use std::thread;
 use std::thread::Threads;
 use stick_table::{PlainTable, Refusal, Reply};
-use test_calls::{Caller, Drawing, Purse, Records, books_of, open_record, spec};
+use test_calls::{Caller, Drawing, Planned, Purse, Records, TWELVE, books_of, open_record, spec};
 
 /// How many calls each thread makes.
 const CALLS: u32 = 1_000;
@@ -146,9 +147,9 @@ fn all_agree<J: Naming>(
 /// A table of 12 entries in two shards, and two of its seats.
 pub fn open_two<J: Naming>(
     alloc: Global,
-    opened: Opened,
+    opened: Planned,
 ) -> Result<(Desk<J>, SharedSeat<J>), NoMemory>
-    requires { (opened.first.table_id ≡ J.record_id) × (opened.books ≡ J.books) }
+    requires { IsNamed opened J.record_id J.books J.specs }
 {
     let spec = spec(alloc, 12, 5, 1 << 62)?;
     let records = Records::<J>::new(alloc, opened)?;
@@ -172,9 +173,9 @@ pub fn open_two<J: Naming>(
 fn agree_recorded<J: Naming + Send + Sync, R: Threads + Wait + Sync>(
     rt: &R,
     alloc: Global,
-    opened: Opened,
+    opened: Planned,
 ) -> Result<bool, Refusal>
-    requires { (opened.first.table_id ≡ J.record_id) × (opened.books ≡ J.books) }
+    requires { IsNamed opened J.record_id J.books J.specs }
 {
     let (desk, first) = open_two::<J>(alloc, opened)?;
     let Desk {
@@ -190,7 +191,7 @@ fn agree_recorded<J: Naming + Send + Sync, R: Threads + Wait + Sync>(
 
 /// The same of a new record.
 fn two_agree<R: Threads + Wait + Sync>(rt: &R, alloc: Global) -> Result<bool, Refusal> {
-    match open_record(alloc) {
+    match open_record(alloc, &[TWELVE]) {
         Some(opened) => agree_recorded::<Brand, R>(rt, alloc, opened),
         None => Ok(false),
     }

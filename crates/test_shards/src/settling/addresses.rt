@@ -2,17 +2,18 @@
 
 ghost use Rattle.std.specs.Prelude.{◌≡◌, IfOk};
 ghost use Rattle.stick_model.specs.Limits.{IsTableSpec};
+ghost use Rattle.test_calls.specs.Planned.{IsNamed};
 
 use base_sequence::NoMemory;
 use shard_locks::{Shards, SharedSeat};
-use shard_record::{Naming, Opened};
+use shard_record::Naming;
 use std::alloc::Global;
 use std::sync::Wait;
 use stick_key::{KeyType, Sample, StickKey, convert};
 use stick_model::Spec;
 use stick_table::{Event, PlainTable, Reply, Row};
 use stored_data::{Column, Datum, StoredSet};
-use test_calls::{Purse, Records, ask, has, place};
+use test_calls::{Planned, Purse, Records, ask, has, open_record_of, place};
 
 /// The address that connections come from.
 pub const HOST: [u8; 4] = [10, 0, 0, 1];
@@ -53,6 +54,11 @@ pub fn spec(alloc: Global) -> Result<Spec, NoMemory>
     })
 }
 
+/// The record of the calls of so many such tables, which has no name yet.
+pub fn open_record(alloc: Global, tables: u32) -> Option<Planned> {
+    open_record_of(alloc, &spec(alloc).ok()?, 2, tables)
+}
+
 /// A table in two shards, the seat by which connections ask it, and that of one who looks at it.
 #[derive(Drop)]
 pub struct Place<J: Naming> {
@@ -83,8 +89,8 @@ pub fn open_more<J: Naming>(
 }
 
 /// The only table of a record, which is empty.
-pub fn open<J: Naming>(alloc: Global, opened: Opened) -> Result<Place<J>, NoMemory>
-    requires { (opened.first.table_id ≡ J.record_id) × (opened.books ≡ J.books) }
+pub fn open<J: Naming>(alloc: Global, opened: Planned) -> Result<Place<J>, NoMemory>
+    requires { IsNamed opened J.record_id J.books J.specs }
     ensures { IfOk result (λ made. made.table.shards ≡ 2) }
 {
     let records = Records::<J>::new(alloc, opened)?;

@@ -1,18 +1,19 @@
 //! The books that settling hands out, and what a table answers that has no room, or doesn't store a datum.
 
 ghost use Rattle.std.specs.Prelude.{◌≡◌, ◌≤◌, ◌^◌};
+ghost use Rattle.test_calls.specs.Planned.{IsNamed};
 
 use shard_book::Book;
 use shard_locks::{Listing, Shards, SharedSeat};
-use shard_record::{Naming, Opened};
+use shard_record::Naming;
 use std::alloc::Global;
 use std::marker::Brand;
 use std::sync::Wait;
 use stick_table::{Event, Filter, Op, PlainTable, Reply, Row, Rows, Table, Ticket};
 use stored_data::{Datum, Field};
 use test_calls::{
-    Call, Held, OpenPlain, Outcome, Purse, Records, has, list, make, open, open_record, show, spec,
-    track,
+    Call, Held, OpenPlain, Outcome, Planned, Purse, Records, TWELVE, TablePlan, has, list, make,
+    open, open_record, show, spec, track,
 };
 
 /// No reference.
@@ -77,8 +78,8 @@ fn are_called(books: &[Book<PlainTable>]) -> bool {
 }
 
 /// The only table of a record: of 12 entries in two shards, and two seats.
-pub fn open_alone<J: Naming>(alloc: Global, opened: Opened, keep: bool) -> Option<OpenPlain<J>>
-    requires { (opened.first.table_id ≡ J.record_id) × (opened.books ≡ J.books) }
+pub fn open_alone<J: Naming>(alloc: Global, opened: Planned, keep: bool) -> Option<OpenPlain<J>>
+    requires { IsNamed opened J.record_id J.books J.specs }
 {
     let records = Records::<J>::new(alloc, opened).ok()?;
     let (_left, opened) = open(alloc, records, keep).ok()?;
@@ -108,8 +109,8 @@ fn make_each<J: Naming>(
 
 /// Whether a table in which an entry was put, whose record was rolled, and that was listed then, is settled with its
 /// own books.
-fn rolled_recorded<J: Naming, R: Wait>(rt: &R, alloc: Global, opened: Opened) -> bool
-    requires { (opened.first.table_id ≡ J.record_id) × (opened.books ≡ J.books) }
+fn rolled_recorded<J: Naming, R: Wait>(rt: &R, alloc: Global, opened: Planned) -> bool
+    requires { IsNamed opened J.record_id J.books J.specs }
 {
     let Some(mut opened) = open_alone::<J>(alloc, opened, false) else {
         return false;
@@ -127,7 +128,7 @@ fn rolled_recorded<J: Naming, R: Wait>(rt: &R, alloc: Global, opened: Opened) ->
 
 /// The same of a new record.
 fn rolled_settles<R: Wait>(rt: &R, alloc: Global) -> bool {
-    match open_record(alloc) {
+    match open_record(alloc, &[TWELVE]) {
         Some(opened) => rolled_recorded::<Brand, R>(rt, alloc, opened),
         None => false,
     }
@@ -187,6 +188,16 @@ fn try_track<J: Naming>(
     }
 }
 
+/// What `open_narrow` opens.
+pub fn narrow(size: u32, max_refs: u32) -> TablePlan {
+    TablePlan {
+        size,
+        max_refs,
+        life: 1_000,
+        shards: 2,
+    }
+}
+
 /// A table of two shards with so many places, each shard of which may have so many references, and its only seat.
 pub fn open_narrow<J: Naming>(
     alloc: Global,
@@ -209,11 +220,11 @@ fn tracks_recorded<J: Naming, R: Wait>(
     rt: &R,
     alloc: Global,
     sizes: (u32, u32),
-    opened: Opened,
+    opened: Planned,
 ) -> Option<[Tracked; 3]>
     requires size { (2 ≤ sizes.0) × (sizes.0 ≤ 2 ^ 30) }
     requires max_refs { (1 ≤ sizes.1) × (sizes.1 ≤ 2 ^ 20) }
-    requires record { (opened.first.table_id ≡ J.record_id) × (opened.books ≡ J.books) }
+    requires record { IsNamed opened J.record_id J.books J.specs }
 {
     let records = Records::<J>::new(alloc, opened).ok()?;
     let (_left, mut opened) = open_narrow(alloc, records, sizes.0, sizes.1, true)?;
@@ -229,7 +240,7 @@ fn three_tracks<R: Wait>(rt: &R, alloc: Global, sizes: (u32, u32)) -> Option<[Tr
     requires size { (2 ≤ sizes.0) × (sizes.0 ≤ 2 ^ 30) }
     requires max_refs { (1 ≤ sizes.1) × (sizes.1 ≤ 2 ^ 20) }
 {
-    let opened = open_record(alloc)?;
+    let opened = open_record(alloc, &[narrow(sizes.0, sizes.1)])?;
     tracks_recorded::<Brand, R>(rt, alloc, sizes, opened)
 }
 
@@ -282,9 +293,9 @@ fn stored_recorded<J: Naming, R: Wait>(
     rt: &R,
     alloc: Global,
     field: Field,
-    opened: Opened,
+    opened: Planned,
 ) -> Option<Field>
-    requires { (opened.first.table_id ≡ J.record_id) × (opened.books ≡ J.books) }
+    requires { IsNamed opened J.record_id J.books J.specs }
 {
     let mut opened = open_alone::<J>(alloc, opened, true)?;
     let filter = Filter::Compare(field, Op::Ge, 1);
@@ -293,7 +304,7 @@ fn stored_recorded<J: Naming, R: Wait>(
 
 /// The same of a new record.
 fn not_stored<R: Wait>(rt: &R, alloc: Global, field: Field) -> Option<Field> {
-    let opened = open_record(alloc)?;
+    let opened = open_record(alloc, &[TWELVE])?;
     stored_recorded::<Brand, R>(rt, alloc, field, opened)
 }
 

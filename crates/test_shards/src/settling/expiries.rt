@@ -1,6 +1,7 @@
 //! Entries that expire in a round of housekeeping: at the moment that its clock shows, and not before.
 
 ghost use Rattle.std.specs.Prelude.{◌≡◌, ◌<◌, ◌^◌, length};
+ghost use Rattle.test_calls.specs.Planned.{IsNamed};
 
 use crate::settling::books::listed;
 use crate::settling::rounds::{Rounds, alone};
@@ -8,20 +9,28 @@ use base_clock::StoppedClock;
 use shard_book::Book;
 use shard_housekeeping::{Kept, housekeep};
 use shard_locks::{Shards, SharedSeat};
-use shard_record::{Naming, Opened};
+use shard_record::Naming;
 use std::alloc::Global;
 use std::marker::Brand;
 use std::slice;
 use std::sync::Wait;
 use stick_table::PlainTable;
-use test_calls::{Outcome, Purse, Records, open_record, put, show, spec};
+use test_calls::{Outcome, Planned, Purse, Records, TablePlan, open_record, put, show, spec};
+
+/// What is opened here.
+const SHORT: TablePlan = TablePlan {
+    size: 10,
+    max_refs: 4,
+    life: 1_000,
+    shards: 2,
+};
 
 /// An empty table of 10 entries in two shards, which live for 500 ms, and its only seat.
 fn open_short<J: Naming>(
     alloc: Global,
-    opened: Opened,
+    opened: Planned,
 ) -> Option<(Shards<PlainTable, J>, SharedSeat<J>)>
-    requires { (opened.first.table_id ≡ J.record_id) × (opened.books ≡ J.books) }
+    requires { IsNamed opened J.record_id J.books J.specs }
 {
     let records = Records::<J>::new(alloc, opened).ok()?;
     let spec = spec(alloc, 10, 4, 1_000).ok()?;
@@ -75,10 +84,10 @@ fn left_recorded<J: Naming, R: Wait>(
     rt: &R,
     alloc: Global,
     moment: u64,
-    opened: Opened,
+    opened: Planned,
 ) -> Option<u64>
     requires moment { moment < 2 ^ 62 }
-    requires record { (opened.first.table_id ≡ J.record_id) × (opened.books ≡ J.books) }
+    requires record { IsNamed opened J.record_id J.books J.specs }
 {
     let (table, mut seat) = open_short::<J>(alloc, opened)?;
     let mut purse = Purse::new(alloc);
@@ -96,7 +105,7 @@ fn left_recorded<J: Naming, R: Wait>(
 fn left_at<R: Wait>(rt: &R, alloc: Global, moment: u64) -> Option<u64>
     requires { moment < 2 ^ 62 }
 {
-    let opened = open_record(alloc)?;
+    let opened = open_record(alloc, &[SHORT])?;
     left_recorded::<Brand, R>(rt, alloc, moment, opened)
 }
 

@@ -1,17 +1,19 @@
 //! Each fault of settling, what comes back of it, and that it settles then.
 
 ghost use Rattle.std.specs.Prelude.{◌≡◌, ◌≤◌, ◌^◌};
+ghost use Rattle.test_calls.specs.Planned.{IsNamed};
 
-use crate::settling::books::{open_alone, open_narrow};
+use crate::settling::books::{narrow, open_alone, open_narrow};
 use shard_locks::{Shards, SharedSeat, Unlocked};
-use shard_record::{Naming, Opened};
+use shard_record::Naming;
 use shard_settling::{Fault, Settled, check};
 use std::alloc::Global;
 use std::marker::Brand;
 use std::sync::Wait;
 use stick_table::{PlainTable, Refusal, Reply};
 use test_calls::{
-    Held, OpenPlain, Outcome, Purse, Records, get, open, open_record, show, ticket_of, track,
+    Held, OpenPlain, Outcome, Planned, Purse, Records, TWELVE, get, open, open_record, show,
+    ticket_of, track,
 };
 
 /// The reference of which an answer of the first shard tells.
@@ -238,10 +240,10 @@ fn without_each<J: Naming>(
 fn called_alone<J: Naming>(
     rt: &impl Wait,
     alloc: Global,
-    opened: Opened,
+    opened: Planned,
     keep: bool,
 ) -> Option<CalledTable<J>>
-    requires { (opened.first.table_id ≡ J.record_id) × (opened.books ≡ J.books) }
+    requires { IsNamed opened J.record_id J.books J.specs }
 {
     let records = Records::<J>::new(alloc, opened).ok()?;
     let (_left, called) = called(rt, alloc, records, keep, (1, 2))?;
@@ -262,8 +264,8 @@ fn misses_calls<J: Naming>(alloc: Global, called: CalledTable<J>) -> bool {
 }
 
 /// Whether that is so of the table of a record.
-fn missed_recorded<J: Naming, R: Wait>(rt: &R, alloc: Global, keep: bool, opened: Opened) -> bool
-    requires { (opened.first.table_id ≡ J.record_id) × (opened.books ≡ J.books) }
+fn missed_recorded<J: Naming, R: Wait>(rt: &R, alloc: Global, keep: bool, opened: Planned) -> bool
+    requires { IsNamed opened J.record_id J.books J.specs }
 {
     match called_alone::<J>(rt, alloc, opened, keep) {
         Some(called) => misses_calls(alloc, called),
@@ -273,7 +275,7 @@ fn missed_recorded<J: Naming, R: Wait>(rt: &R, alloc: Global, keep: bool, opened
 
 /// The same of a new record.
 fn calls_are_missed<R: Wait>(rt: &R, alloc: Global, keep: bool) -> bool {
-    match open_record(alloc) {
+    match open_record(alloc, &[TWELVE]) {
         Some(opened) => missed_recorded::<Brand, R>(rt, alloc, keep, opened),
         None => false,
     }
@@ -298,8 +300,8 @@ fn misses_all_seats<J: Naming>(alloc: Global, opened: OpenPlain<J>) -> bool {
 }
 
 /// Whether the seats of a table that was called by one of them are missed.
-fn seats_recorded<J: Naming, R: Wait>(rt: &R, alloc: Global, opened: Opened) -> bool
-    requires { (opened.first.table_id ≡ J.record_id) × (opened.books ≡ J.books) }
+fn seats_recorded<J: Naming, R: Wait>(rt: &R, alloc: Global, opened: Planned) -> bool
+    requires { IsNamed opened J.record_id J.books J.specs }
 {
     match open_alone::<J>(alloc, opened, false) {
         Some(mut opened) => get_six(rt, alloc, &mut opened, 1) && misses_all_seats(alloc, opened),
@@ -309,7 +311,7 @@ fn seats_recorded<J: Naming, R: Wait>(rt: &R, alloc: Global, opened: Opened) -> 
 
 /// The same of a new record.
 fn no_seats_are_missed<R: Wait>(rt: &R, alloc: Global) -> bool {
-    match open_record(alloc) {
+    match open_record(alloc, &[TWELVE]) {
         Some(opened) => seats_recorded::<Brand, R>(rt, alloc, opened),
         None => false,
     }
@@ -391,11 +393,11 @@ fn misses_others<J: Naming>(
 fn two_recorded<J: Naming>(
     rt: &impl Wait,
     alloc: Global,
-    opened: Opened,
+    opened: Planned,
     keep: bool,
     moments: [(u32, u32); 2],
 ) -> Option<(CalledTable<J>, CalledTable<J>)>
-    requires { (opened.first.table_id ≡ J.record_id) × (opened.books ≡ J.books) }
+    requires { IsNamed opened J.record_id J.books J.specs }
 {
     let records = Records::<J>::new(alloc, opened).ok()?;
     let (_left, own, other) = two_called(rt, alloc, records, keep, moments)?;
@@ -403,8 +405,8 @@ fn two_recorded<J: Naming>(
 }
 
 /// Whether that is so of the tables of a record.
-fn others_recorded<J: Naming, R: Wait>(rt: &R, alloc: Global, keep: bool, opened: Opened) -> bool
-    requires { (opened.first.table_id ≡ J.record_id) × (opened.books ≡ J.books) }
+fn others_recorded<J: Naming, R: Wait>(rt: &R, alloc: Global, keep: bool, opened: Planned) -> bool
+    requires { IsNamed opened J.record_id J.books J.specs }
 {
     match two_recorded::<J>(rt, alloc, opened, keep, [(1, 2), (1, 2)]) {
         Some((called, other)) => misses_others(rt, alloc, called, other),
@@ -414,7 +416,7 @@ fn others_recorded<J: Naming, R: Wait>(rt: &R, alloc: Global, keep: bool, opened
 
 /// The same of a new record.
 fn references_are_missed<R: Wait>(rt: &R, alloc: Global, keep: bool) -> bool {
-    match open_record(alloc) {
+    match open_record(alloc, &[TWELVE, TWELVE]) {
         Some(opened) => others_recorded::<Brand, R>(rt, alloc, keep, opened),
         None => false,
     }
@@ -463,9 +465,9 @@ fn differs_recorded<J: Naming, R: Wait>(
     alloc: Global,
     moments: (u32, u32),
     shard: u32,
-    opened: Opened,
+    opened: Planned,
 ) -> bool
-    requires { (opened.first.table_id ≡ J.record_id) × (opened.books ≡ J.books) }
+    requires { IsNamed opened J.record_id J.books J.specs }
 {
     match two_recorded::<J>(rt, alloc, opened, true, [(1, 2), moments]) {
         Some((called, other)) => differs(alloc, called, other, shard),
@@ -475,7 +477,7 @@ fn differs_recorded<J: Naming, R: Wait>(
 
 /// The same of a new record.
 fn receipts_differ<R: Wait>(rt: &R, alloc: Global, moments: (u32, u32), shard: u32) -> bool {
-    match open_record(alloc) {
+    match open_record(alloc, &[TWELVE, TWELVE]) {
         Some(opened) => differs_recorded::<Brand, R>(rt, alloc, moments, shard, opened),
         None => false,
     }
@@ -565,11 +567,11 @@ fn sizes_recorded<J: Naming>(
     alloc: Global,
     found: u32,
     wanted: u32,
-    opened: Opened,
+    opened: Planned,
 ) -> Option<Fault>
     requires found { (2 ≤ found) × (found ≤ 2 ^ 30) }
     requires wanted { (2 ≤ wanted) × (wanted ≤ 2 ^ 30) }
-    requires record { (opened.first.table_id ≡ J.record_id) × (opened.books ≡ J.books) }
+    requires record { IsNamed opened J.record_id J.books J.specs }
 {
     let Ok(records) = Records::<J>::new(alloc, opened) else {
         return Some(Fault::Memory);
@@ -585,7 +587,7 @@ fn fault_of_sizes(alloc: Global, found: u32, wanted: u32) -> Option<Fault>
     requires found { (2 ≤ found) × (found ≤ 2 ^ 30) }
     requires wanted { (2 ≤ wanted) × (wanted ≤ 2 ^ 30) }
 {
-    match open_record(alloc) {
+    match open_record(alloc, &[narrow(found, 5), narrow(wanted, 5)]) {
         Some(opened) => sizes_recorded::<Brand>(alloc, found, wanted, opened),
         None => Some(Fault::Memory),
     }

@@ -1,21 +1,23 @@
 //! Three rounds of housekeeping over an empty table in which one row was put. Its entries don't expire.
 
 ghost use Rattle.std.specs.Prelude.{◌≡◌, length, IfSome};
+ghost use Rattle.stick_model.specs.Limits.{IsTableSpec};
+ghost use Rattle.test_calls.specs.Planned.{IsNamed};
 
 use crate::settling::books::{is_put, listed};
 use base_clock::StoppedClock;
 use shard_book::Book;
 use shard_housekeeping::{Kept, Pace, housekeep};
 use shard_locks::{Shards, SharedSeat};
-use shard_record::{Naming, Opened};
+use shard_record::Naming;
 use shard_settling::Settled;
 use std::alloc::Global;
 use std::marker::Brand;
 use std::slice;
 use std::sync::Wait;
 use std::sync::atomic::{AtomicU64, Ordering};
-use stick_table::{PlainTable, Reply, Row};
-use test_calls::{Outcome, Purse, Records, get, open_record, put, show, spec};
+use stick_table::{PlainTable, Reply, Row, Spec};
+use test_calls::{Outcome, Planned, Purse, Records, get, open_record_of, put, show, spec};
 
 /// A pace of so many rounds.
 #[derive(Drop)]
@@ -49,17 +51,26 @@ struct Counted {
     calls: u64,
 }
 
+/// What a table of 10 entries is made with, which never expire.
+fn lasting(alloc: Global) -> Option<Spec>
+    ensures limits { IfSome result IsTableSpec }
+    ensures size { IfSome result (λ spec. spec.size ≡ 10) }
+{
+    let mut spec = spec(alloc, 10, 4, 1_000).ok()?;
+    spec.expire = None;
+    Some(spec)
+}
+
 /// An empty table of 10 entries in two shards, and its only seat.
 fn open_one<J: Naming>(
     alloc: Global,
-    opened: Opened,
+    opened: Planned,
     keep: bool,
 ) -> Option<(Shards<PlainTable, J>, SharedSeat<J>)>
-    requires { (opened.first.table_id ≡ J.record_id) × (opened.books ≡ J.books) }
+    requires { IsNamed opened J.record_id J.books J.specs }
 {
     let records = Records::<J>::new(alloc, opened).ok()?;
-    let mut spec = spec(alloc, 10, 4, 1_000).ok()?;
-    spec.expire = None;
+    let spec = lasting(alloc)?;
     let (_left, (table, mut seats)) = records.open(alloc, spec, 2, 1, keep).ok()?;
     let seat = seats.pop()?;
     Some((table, seat))
@@ -233,9 +244,9 @@ fn keeps_recorded<J: Naming, R: Wait>(
     keep: bool,
     rounds: u64,
     roll_at: u64,
-    opened: Opened,
+    opened: Planned,
 ) -> Option<Counted>
-    requires { (opened.first.table_id ≡ J.record_id) × (opened.books ≡ J.books) }
+    requires { IsNamed opened J.record_id J.books J.specs }
 {
     let (table, seat) = open_one::<J>(alloc, opened, keep)?;
     let (counted, seat) = keeps_row(rt, alloc, &table, seat, rounds, roll_at)?;
@@ -245,10 +256,8 @@ fn keeps_recorded<J: Naming, R: Wait>(
 
 /// The same of a new record.
 fn keeps<R: Wait>(rt: &R, alloc: Global, keep: bool, rounds: u64, roll_at: u64) -> Option<Counted> {
-    match open_record(alloc) {
-        Some(opened) => keeps_recorded::<Brand, R>(rt, alloc, keep, rounds, roll_at, opened),
-        None => None,
-    }
+    let opened = open_record_of(alloc, &lasting(alloc)?, 2, 1)?;
+    keeps_recorded::<Brand, R>(rt, alloc, keep, rounds, roll_at, opened)
 }
 
 /// Three rounds, of which these records began again.

@@ -1,13 +1,14 @@
 //! Two threads that share a table, and what it is settled with once they have ended.
 
 ghost use Rattle.std.specs.Prelude.{◌≡◌};
+ghost use Rattle.test_calls.specs.Planned.{IsNamed};
 
 use crate::settling::books::open_alone;
 use crate::settling::faults::{unsettled, with_seat};
 use crate::settling::records::{is_counted, is_noted};
 use shard_book::{Receipt, Seat};
 use shard_locks::{Shards, SharedSeat};
-use shard_record::{Naming, Opened};
+use shard_record::Naming;
 use shard_settling::{Fault, Settled};
 use std::alloc::Global;
 use std::marker::Brand;
@@ -16,7 +17,9 @@ use std::thread;
 use std::thread::Threads;
 use stick_key::StickKey;
 use stick_table::{Event, PlainTable, Table};
-use test_calls::{Caller, Drawing, Held, OpenPlain, Outcome, Purse, key, open_record, show};
+use test_calls::{
+    Caller, Drawing, Held, OpenPlain, Outcome, Planned, Purse, TWELVE, key, open_record, show,
+};
 
 /// How many calls each thread makes.
 const CALLS: usize = 1_000;
@@ -340,9 +343,9 @@ fn settle_recorded<J: Naming + Send + Sync, R: Threads + Wait + Sync>(
     rt: &R,
     alloc: Global,
     keep: bool,
-    opened: Opened,
+    opened: Planned,
 ) -> bool
-    requires { (opened.first.table_id ≡ J.record_id) × (opened.books ≡ J.books) }
+    requires { IsNamed opened J.record_id J.books J.specs }
 {
     let Some((table, seats)) = open_alone::<J>(alloc, opened, keep) else {
         return false;
@@ -355,7 +358,7 @@ fn settle_recorded<J: Naming + Send + Sync, R: Threads + Wait + Sync>(
 
 /// The same of a new record.
 fn two_settle<R: Threads + Wait + Sync>(rt: &R, alloc: Global, keep: bool) -> bool {
-    match open_record(alloc) {
+    match open_record(alloc, &[TWELVE]) {
         Some(opened) => settle_recorded::<Brand, R>(rt, alloc, keep, opened),
         None => false,
     }

@@ -1,21 +1,32 @@
 //! Two faults of settling at once: that which comes first is told.
 
 ghost use Rattle.std.specs.Prelude.{◌≡◌, ◌≤◌};
+ghost use Rattle.test_calls.specs.Planned.{IsNamed};
 
 use crate::locks::calls::held_of_last;
-use crate::locks::tables::Desk;
+use crate::locks::tables::{Desk, plan_of};
 use crate::settling::faults::{
     CalledTable, called, left_out, settles_called, two_called, unsettled, unsettled_without,
     with_seat,
 };
 use shard_locks::SharedSeat;
-use shard_record::{Naming, Opened};
+use shard_record::Naming;
 use shard_settling::Fault;
 use std::alloc::Global;
 use std::marker::Brand;
 use std::sync::Wait;
 use stick_table::Event;
-use test_calls::{Held, OpenPlain, Purse, Records, ask, open_record, place, spec};
+use test_calls::{
+    Held, OpenPlain, Planned, Purse, Records, TWELVE, TablePlan, ask, open_record, place, spec,
+};
+
+/// A table of three shards, of which the last one's calls are strange to others.
+const STRANGE: TablePlan = TablePlan {
+    size: 12,
+    max_refs: 5,
+    life: 100,
+    shards: 3,
+};
 
 /// A reference of the third shard of another table, which the purse has then.
 fn strange<J: Naming>(
@@ -66,8 +77,8 @@ fn in_turn<J: Naming>(
 }
 
 /// Whether that is so of a table of a record.
-fn turn_recorded<J: Naming, R: Wait>(rt: &R, alloc: Global, keep: bool, opened: Opened) -> bool
-    requires { (opened.first.table_id ≡ J.record_id) × (opened.books ≡ J.books) }
+fn turn_recorded<J: Naming, R: Wait>(rt: &R, alloc: Global, keep: bool, opened: Planned) -> bool
+    requires { IsNamed opened J.record_id J.books J.specs }
 {
     let Ok(records) = Records::<J>::new(alloc, opened) else {
         return false;
@@ -80,7 +91,7 @@ fn turn_recorded<J: Naming, R: Wait>(rt: &R, alloc: Global, keep: bool, opened: 
 
 /// The same of a new record.
 fn are_missed_in_turn<R: Wait>(rt: &R, alloc: Global, keep: bool) -> bool {
-    match open_record(alloc) {
+    match open_record(alloc, &[TWELVE, plan_of(3)]) {
         Some(opened) => turn_recorded::<Brand, R>(rt, alloc, keep, opened),
         None => false,
     }
@@ -132,8 +143,8 @@ fn before_records<J: Naming>(
 }
 
 /// Whether that is so of two tables of a record.
-fn before_recorded<J: Naming, R: Wait>(rt: &R, alloc: Global, opened: Opened) -> bool
-    requires { (opened.first.table_id ≡ J.record_id) × (opened.books ≡ J.books) }
+fn before_recorded<J: Naming, R: Wait>(rt: &R, alloc: Global, opened: Planned) -> bool
+    requires { IsNamed opened J.record_id J.books J.specs }
 {
     let Ok(records) = Records::<J>::new(alloc, opened) else {
         return false;
@@ -146,7 +157,7 @@ fn before_recorded<J: Naming, R: Wait>(rt: &R, alloc: Global, opened: Opened) ->
 
 /// The same of a new record.
 fn are_missed_before_records<R: Wait>(rt: &R, alloc: Global) -> bool {
-    match open_record(alloc) {
+    match open_record(alloc, &[TWELVE, TWELVE, plan_of(3)]) {
         Some(opened) => before_recorded::<Brand, R>(rt, alloc, opened),
         None => false,
     }
@@ -228,8 +239,8 @@ fn with_stranger<J: Naming>(
 }
 
 /// Whether that is so of a table of a record.
-fn strange_recorded<J: Naming, R: Wait>(rt: &R, alloc: Global, opened: Opened) -> bool
-    requires { (opened.first.table_id ≡ J.record_id) × (opened.books ≡ J.books) }
+fn strange_recorded<J: Naming, R: Wait>(rt: &R, alloc: Global, opened: Planned) -> bool
+    requires { IsNamed opened J.record_id J.books J.specs }
 {
     let Ok(records) = Records::<J>::new(alloc, opened) else {
         return false;
@@ -242,7 +253,7 @@ fn strange_recorded<J: Naming, R: Wait>(rt: &R, alloc: Global, opened: Opened) -
 
 /// The same of a new record.
 fn are_strange_calls_missed<R: Wait>(rt: &R, alloc: Global) -> bool {
-    match open_record(alloc) {
+    match open_record(alloc, &[TWELVE, STRANGE, plan_of(3)]) {
         Some(opened) => strange_recorded::<Brand, R>(rt, alloc, opened),
         None => false,
     }

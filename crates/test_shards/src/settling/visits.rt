@@ -6,8 +6,11 @@ ghost use Rattle.std.specs.Prelude.{◌≡◌, true, length, IfSome};
 ghost use Rattle.admit_core.specs.Conn.{needed};
 ghost use Rattle.admit_core.specs.declared.need.Need.TheVariants.{Rest};
 ghost use Rattle.test_shards.specs.Visits.{IsVisitor};
+ghost use Rattle.test_calls.specs.Planned.{IsNamed};
 
-use crate::settling::addresses::{HOST, Place, Wanted, calls, is_asked, open, open_more, shows};
+use crate::settling::addresses::{
+    HOST, Place, Wanted, calls, is_asked, open, open_more, open_record, shows,
+};
 use crate::settling::counting_clock::CountingClock;
 use crate::settling::setups::{accepting, limiting};
 use admit_core::{Conn, Phase};
@@ -16,13 +19,13 @@ use rule_addresses::Address;
 use rule_eval::Samples;
 use rule_model::{Setup, Slot};
 use shard_locks::{Seated, Shards, SharedRef, SharedSeat};
-use shard_record::{Naming, Opened};
+use shard_record::Naming;
 use std::alloc::Global;
 use std::marker::Brand;
 use std::slice;
 use std::sync::Wait;
 use stick_table::PlainTable;
-use test_calls::{Records, open_record};
+use test_calls::{Planned, Records};
 
 /// A connection from the address comes.
 fn come<J: Naming>(setup: &Setup) -> Conn<'_, SharedRef<J>>
@@ -157,8 +160,8 @@ fn serves<J: Naming>(
 }
 
 /// Whether a connection of a proxy that accepts every one is served.
-fn served_recorded<J: Naming, R: Wait>(rt: &R, alloc: Global, opened: Opened) -> bool
-    requires { (opened.first.table_id ≡ J.record_id) × (opened.books ≡ J.books) }
+fn served_recorded<J: Naming, R: Wait>(rt: &R, alloc: Global, opened: Planned) -> bool
+    requires { IsNamed opened J.record_id J.books J.specs }
 {
     let (Ok(setup), Ok(made)) = (accepting(alloc), open::<J>(alloc, opened)) else {
         return false;
@@ -173,7 +176,7 @@ fn served_recorded<J: Naming, R: Wait>(rt: &R, alloc: Global, opened: Opened) ->
 
 /// The same of a new record.
 fn is_served<R: Wait>(rt: &R, alloc: Global) -> bool {
-    match open_record(alloc) {
+    match open_record(alloc, 1) {
         Some(opened) => served_recorded::<Brand, R>(rt, alloc, opened),
         None => false,
     }
@@ -278,8 +281,8 @@ fn limits<J: Naming, R: Wait>(
 }
 
 /// Whether that is so of a proxy with a limit of one.
-fn limited_recorded<J: Naming, R: Wait>(rt: &R, alloc: Global, opened: Opened) -> bool
-    requires { (opened.first.table_id ≡ J.record_id) × (opened.books ≡ J.books) }
+fn limited_recorded<J: Naming, R: Wait>(rt: &R, alloc: Global, opened: Planned) -> bool
+    requires { IsNamed opened J.record_id J.books J.specs }
 {
     let (Ok(setup), Ok(made)) = (limiting(alloc, 1), open::<J>(alloc, opened)) else {
         return false;
@@ -294,7 +297,7 @@ fn limited_recorded<J: Naming, R: Wait>(rt: &R, alloc: Global, opened: Opened) -
 
 /// The same of a new record.
 fn is_limited<R: Wait>(rt: &R, alloc: Global) -> bool {
-    match open_record(alloc) {
+    match open_record(alloc, 1) {
         Some(opened) => limited_recorded::<Brand, R>(rt, alloc, opened),
         None => false,
     }
@@ -366,8 +369,8 @@ fn keeps_until_released<J: Naming>(
 }
 
 /// Two tables of a record.
-fn two_places<J: Naming>(alloc: Global, opened: Opened) -> Option<(Place<J>, Place<J>)>
-    requires { (opened.first.table_id ≡ J.record_id) × (opened.books ≡ J.books) }
+fn two_places<J: Naming>(alloc: Global, opened: Planned) -> Option<(Place<J>, Place<J>)>
+    requires { IsNamed opened J.record_id J.books J.specs }
     ensures { IfSome result (λ made. made.0.table.shards ≡ 2) }
 {
     let records = Records::<J>::new(alloc, opened).ok()?;
@@ -377,8 +380,8 @@ fn two_places<J: Naming>(alloc: Global, opened: Opened) -> Option<(Place<J>, Pla
 }
 
 /// Whether that is so of two tables of a record, and of a proxy that rejects every connection.
-fn kept_recorded<J: Naming, R: Wait>(rt: &R, alloc: Global, opened: Opened) -> bool
-    requires { (opened.first.table_id ≡ J.record_id) × (opened.books ≡ J.books) }
+fn kept_recorded<J: Naming, R: Wait>(rt: &R, alloc: Global, opened: Planned) -> bool
+    requires { IsNamed opened J.record_id J.books J.specs }
 {
     let Ok(setup) = limiting(alloc, 0) else {
         return false;
@@ -391,7 +394,7 @@ fn kept_recorded<J: Naming, R: Wait>(rt: &R, alloc: Global, opened: Opened) -> b
 
 /// The same of a new record.
 fn is_kept<R: Wait>(rt: &R, alloc: Global) -> bool {
-    match open_record(alloc) {
+    match open_record(alloc, 2) {
         Some(opened) => kept_recorded::<Brand, R>(rt, alloc, opened),
         None => false,
     }

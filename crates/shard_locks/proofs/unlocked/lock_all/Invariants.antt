@@ -4,7 +4,7 @@ use Rattle.shard_locks.proofs.unlocked.lock_all.Given as goal
 
 abbrev pub invariant-loop-book : goal.invariant-loop-book
 invariant-loop-book g l = record {
-  kept : AreKept l.books.items l.keepers.items;
+  kept : AreKept g.J.Naming.specs l.books.items l.keepers.items;
   room : vec_len l.books + vec_len l.room ≤ vec_capacity l.room;
   same : length l.books.items + length l.room.items ≡ length l.fn.books.items;
 }

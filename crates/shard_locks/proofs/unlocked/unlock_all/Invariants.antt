@@ -7,7 +7,7 @@ invariant-loop-lock g l = record {
   room : vec_len l.books + vec_len l.locks ≤ vec_capacity l.books;
   keepers : vec_len l.keepers + vec_len l.locks ≤ vec_capacity l.keepers;
   same : length l.books.items + length l.locks.items ≡ length l.fn.locks.items;
-  kept : AreKept l.books.items l.keepers.items;
+  kept : AreKept g.J.Naming.specs l.books.items l.keepers.items;
   capacity : vec_capacity l.locks ≡ vec_capacity l.fn.locks;
 }
 

@@ -1,6 +1,12 @@
-use Rattle.std.proofs.Common.{◌≡◌, ◌+◌, vec_len, arith}
+use Rattle.std.proofs.Common.{◌≡◌, ◌+◌, subst, sym, vec_len, arith}
+use Rattle.stick_model.specs.declared.specification.Spec.{Spec}
+use Rattle.shard_locks.specs.Shared.{AreParts}
 use Rattle.tcp_proxy.proofs.OpenLemmas.{seats_counted}
 use Rattle.tcp_proxy.proofs.opening.open_table.Goals as goal
+
+pub new-requires-clause-parts : goal.new-requires-clause-parts
+new-requires-clause-parts g c =
+    subst (λ (spec : Spec). AreParts g.J.Naming.specs c.args.dealer.now.kept (record spec { seed = c.args.seed }) c.args.shards) (sym c.in_ok-spec.ensures) c.requires.parts
 
 pub take_last-keeper-requires : goal.take_last-keeper-requires
 take_last-keeper-requires g c =

@@ -1,11 +1,14 @@
 use Rattle.std.proofs.Common.{◌≡◌, ◌+◌, sym, subst, rules, length, vec_len}
 use Rattle.std.proofs.lemmas.List.Elements.{All-pop}
 use Rattle.tcp_relay.specs.Seating.{Has, HaveEach}
-use Rattle.tcp_relay.proofs.SeatingLemmas.{row_in}
+use Rattle.tcp_relay.proofs.SeatingLemmas.{row_in, row_stores}
 use Rattle.tcp_relay.proofs.gathering.seat_workers.Goals as goal
 
 pub new-requires-clause-shards : goal.new-requires-clause-shards
 new-requires-clause-shards g c = row_in g.W.Width.shards c.args.tables.now c.take_row-row.result.items c.take_row-row.ensures.row c.requires.shards
+
+pub new-requires-clause-current : goal.new-requires-clause-current
+new-requires-clause-current g c = row_stores g.W.Width.current c.args.tables.now c.take_row-row.result.items c.take_row-row.ensures.row c.requires.current
 
 pub loop-places-preserved : goal.loop-places-preserved
 loop-places-preserved g c =

@@ -1,10 +1,13 @@
 use Rattle.std.proofs.Common.{◌∙◌, rules, sym, length}
-use Rattle.tcp_relay.proofs.ServingLemmas.{all_served, told_err, told_ok}
+use Rattle.tcp_relay.proofs.ServingLemmas.{all_served, tables_current, told_err, told_ok}
 use Rattle.tcp_relay.specs.Accepting.{most_of}
 use Rattle.tcp_relay.proofs.serving.serve_wide.Goals as goal
 
 pub seat_workers-requires-clause-shards : goal.seat_workers-requires-clause-shards
 seat_workers-requires-clause-shards g c = λ i table at. c.requires.tables.shards i table at ∙ sym c.requires.shards
+
+pub seat_workers-requires-clause-current : goal.seat_workers-requires-clause-current
+seat_workers-requires-clause-current g c = tables_current c.args.setup.now c.args.tables.now g.W.Width.current c.requires.tables c.requires.current
 
 pub returns-clause-ok : goal.returns-clause-ok
 returns-clause-ok g c =

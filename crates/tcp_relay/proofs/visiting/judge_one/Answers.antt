@@ -1,6 +1,6 @@
-use Rattle.tcp_relay.proofs.ConnectionLemmas.{each_still, fresh, passed_still, ports_of, ready, still_passed, visitor_still}
+use Rattle.tcp_relay.proofs.ConnectionLemmas.{each_still, fresh, lent_store, passed_still, ports_of, ready, still_passed, stored_still, visitor_still}
 use Rattle.tcp_relay.proofs.PassedGoes.{judged_passed}
-use Rattle.tcp_relay.proofs.PassedStays.{judged_keep}
+use Rattle.tcp_relay.proofs.PassedStays.{judged_keep, judged_stores}
 use Rattle.tcp_relay.proofs.visiting.judge_one.Goals as goal
 
 pub judge-is_admitted-requires-clause-ready : goal.judge-is_admitted-requires-clause-ready
@@ -15,6 +15,15 @@ returns-clause-shards g c =
     let judged = c.judge-is_admitted in
     each_still g.W.Width.tables g.W.Width.shards c.args.seated.now lent.result.now lent.ensures.value lent.ensures.len c.requires.count c.requires.shards judged.new.ports judged.ensures.parts
 
+pub returns-clause-current : goal.returns-clause-current
+returns-clause-current g c =
+    let lent = c.as_mut_slice-ports in
+    let judged = c.judge-is_admitted in
+    let new_one = fresh g.W.Width.tables g.W.Width.shards c.args.shared.now.setup.now c.args.samples c.new-conn.result c.args.shared.now.tables c.args.shared.now.shards c.new-conn.ensures.stands c.new-conn.ensures.given in
+    stored_still g.W.Width.tables g.W.Width.shards c.args.seated.now lent.result.now lent.ensures.value lent.ensures.len c.requires.count c.requires.shards judged.new.ports judged.ensures.parts g.W.Width.current
+    (judged_stores _ (ports_of lent.result.now) (ports_of judged.new.ports) c.new-conn.result judged.new.conn _ _ g.W.Width.current new_one.living judged.ensures.gone
+    (lent_store g.W.Width.tables g.W.Width.shards c.args.seated.now lent.result.now lent.ensures.value lent.ensures.len c.requires.count c.requires.shards g.W.Width.current c.requires.current))
+
 pub returns-clause-connection : goal.returns-clause-connection
 returns-clause-connection g c =
     let lent = c.as_mut_slice-ports in
@@ -26,7 +35,8 @@ returns-clause-passed g c admitted =
     let lent = c.as_mut_slice-ports in
     let judged = c.judge-is_admitted in
     passed_still g.W.Width.tables g.W.Width.shards c.args.seated.now lent.result.now lent.ensures.value lent.ensures.len c.requires.count c.requires.shards judged.new.ports judged.ensures.parts c.args.shared.now.setup.now c.args.samples judged.new.conn
-    (judged_passed _ c.args.shared.now.setup.now c.args.samples (ports_of lent.result.now) (ports_of judged.new.ports) c.new-conn.result judged.new.conn _ _ c.new-conn.ensures.stands judged.ensures.gone judged.ensures.judged (judged.ensures.rests admitted))
+    (judged_passed _ c.args.shared.now.setup.now c.args.samples (ports_of lent.result.now) (ports_of judged.new.ports) c.new-conn.result judged.new.conn _ _ g.W.Width.current c.args.shared.now.current
+    (lent_store g.W.Width.tables g.W.Width.shards c.args.seated.now lent.result.now lent.ensures.value lent.ensures.len c.requires.count c.requires.shards g.W.Width.current c.requires.current) c.new-conn.ensures.stands judged.ensures.gone judged.ensures.judged (judged.ensures.rests admitted))
 
 pub returns-clause-still : goal.returns-clause-still
 returns-clause-still g c =

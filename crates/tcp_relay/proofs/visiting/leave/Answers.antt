@@ -3,8 +3,8 @@ use Rattle.std.specs.Prelude.{IfSome}
 use Rattle.shard_book.specs.SeatState.{RefState}
 use Rattle.admit_core.specs.declared.conn.Conn.{Conn}
 use Rattle.tcp_relay.specs.Connections.{IsVisitor}
-use Rattle.tcp_relay.proofs.ConnectionLemmas.{each_still, ports_of, ready, still_passed, visitor_still}
-use Rattle.tcp_relay.proofs.PassedStays.{rests_keep}
+use Rattle.tcp_relay.proofs.ConnectionLemmas.{each_still, lent_store, ports_of, ready, still_passed, stored_still, visitor_still}
+use Rattle.tcp_relay.proofs.PassedStays.{rests_keep, rests_store}
 use Rattle.tcp_relay.proofs.visiting.leave.Goals as goal
 
 kept_is : (tables shards : ℕ) (conn : Conn RefState) (left : Option (Conn RefState)) → IsVisitor tables shards conn → IfSome left (λ kept. kept ≡ conn) → IfSome left (IsVisitor tables shards)
@@ -21,6 +21,14 @@ returns-clause-shards g c =
     let lent = c.as_mut_slice-ports in
     let rested = c.finish-rested in
     each_still g.W.Width.tables g.W.Width.shards c.args.seated.now lent.result.now lent.ensures.value lent.ensures.len c.requires.count c.requires.shards rested.new.ports rested.ensures.parts
+
+pub returns-clause-current : goal.returns-clause-current
+returns-clause-current g c =
+    let lent = c.as_mut_slice-ports in
+    let rested = c.finish-rested in
+    stored_still g.W.Width.tables g.W.Width.shards c.args.seated.now lent.result.now lent.ensures.value lent.ensures.len c.requires.count c.requires.shards rested.new.ports rested.ensures.parts g.W.Width.current
+    (rests_store _ (ports_of lent.result.now) (ports_of rested.new.ports) c.args.conn rested.new.conn _ _ rested.result g.W.Width.current c.requires.connection.living rested.ensures.rested
+    (lent_store g.W.Width.tables g.W.Width.shards c.args.seated.now lent.result.now lent.ensures.value lent.ensures.len c.requires.count c.requires.shards g.W.Width.current c.requires.current))
 
 pub returns-clause-connection : goal.returns-clause-connection
 returns-clause-connection g c =

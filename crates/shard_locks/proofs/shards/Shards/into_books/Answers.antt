@@ -1,5 +1,5 @@
 use Rattle.std.proofs.Common.{◌≡◌, ◌∙◌, length, sym, ap, subst}
-use Rattle.shard_locks.specs.Shared.{AreNumbered}
+use Rattle.shard_locks.specs.Shared.{AreNumbered, AreParts}
 use Rattle.shard_locks.specs.ShardsState.{AreShards, ShardsState, parts_of}
 use Rattle.shard_locks.proofs.shards.Shards.into_books.Goals as goal
 
@@ -11,6 +11,7 @@ invariant_of-result g c =
       record { empty = c.unlock_all-room.result.ok.0 ∙ c.unlock_all-room.ensures.locks; places = c.unlock_all-room.ensures.room },
       subst (λ n. AreNumbered inside.first n g.J.Naming.books) (sym same) c.self.invariant.1,
       c.unlock_all-room.ensures.kept,
+      subst (AreParts g.J.Naming.specs inside.first inside.spec) (sym same) c.self.invariant.2,
     )
 
 pub returns-clause-ok : goal.returns-clause-ok

@@ -2,7 +2,8 @@ use Rattle.std.proofs.Common.{◌≡◌, ◌++◌, ◌∷◌, [], OnOk, sym, sub
 use Rattle.stick_model.specs.declared.events.Event.TheVariants.{Release}
 use Rattle.stick_model.specs.declared.replies.Reply.TheVariants.{Released}
 use Rattle.shard_record.specs.Calls.{call}
-use Rattle.shard_record.specs.Telling.{number_of}
+use Rattle.shard_record.specs.Telling.{log_of, number_of}
+use Rattle.shard_book.specs.Kept.{IsMadeWith}
 use Rattle.shard_locks.specs.Shared.{SharedSeatState}
 use Rattle.shard_locks.proofs.SharedLemmas.{sees_given}
 use Rattle.shard_locks.proofs.shared_seat.SharedSeat.give_back.Goals as goal
@@ -18,4 +19,13 @@ returns-clause-grown g c =
     elim c.match-release.branch [
       | in-Ok w ↦ subst (λ r. OnOk r (Noted c.args.self.now)) (sym w.result-is) (subst Noted c.self.view_is w.in-Ok.ensures.recorded)
       | in-Err w ↦ subst (λ r. OnOk r (Noted c.args.self.now)) (sym w.result-is) tt
+    ]
+
+pub returns-clause-of_spec : goal.returns-clause-of_spec
+returns-clause-of_spec g c =
+    let spec = g.J.Naming.specs c.args.kept.now.number in
+    let Made = IsMadeWith spec (log_of c.args.kept.now.number c.release.new.token) in
+    elim c.match-release.branch [
+      | in-Ok w ↦ subst (λ r. OnOk r Made) (sym w.result-is) (subst (IsMadeWith spec) (sym w.in-Ok.ensures.seen) w.in-Ok.ensures.of_spec)
+      | in-Err w ↦ subst (λ r. OnOk r Made) (sym w.result-is) tt
     ]
