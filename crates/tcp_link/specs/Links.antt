@@ -1,5 +1,5 @@
 -- What contracts see of a connection between two sockets.
-use Rattle.std.specs.Prelude.{◌≡◌, ◌≢◌, ℕ, Bool, true, false, ◌&&◌, ◌||◌, not, max, nat_lt, Option, Some, None, is_some, if◌then◌else◌}
+use Rattle.std.specs.Prelude.{◌≡◌, ◌≢◌, ℕ, Bool, true, false, ◌&&◌, ◌||◌, not, nat_lt, Option, Some, None, is_some, if◌then◌else◌}
 use Rattle.tcp_flow.specs.declared.steps.Step.{Step}
 use Rattle.tcp_flow.specs.declared.steps.Step.TheVariants.{Ended, Failed, WaitsToRead, WaitsToWrite, Yields}
 use Rattle.tcp_link.specs.declared.end.Side.{Side}
@@ -108,15 +108,15 @@ has_ended link = is_end link.there.step || is_end link.back.step
 abbrev pub is_held_up : Step → Step → Bool
 is_held_up from to = waits_for_room from && not (waits_for_room to)
 
--- whether a peer has been silent for as long as it may, or longer, at a moment in ms: the server until it accepts, and then each of both that isn't held up by the other. Silence counts from when something passed last, or from a later moment. No peer is late while the connection waits
-abbrev pub is_late : LinkState → ℕ → ℕ → Timeouts → Bool
-is_late link moment since timeouts =
+-- whether a peer has been silent for as long as it may, or longer, at a moment in ms: the server until it accepts, and then each of both that isn't held up by the other. Silence counts from when something passed last. No peer is late while the connection waits
+abbrev pub is_late : LinkState → ℕ → Timeouts → Bool
+is_late link moment timeouts =
     if waits link
     then false
     else if link.accepted
-    then not (is_held_up link.there.step link.back.step) && is_silent (max link.client since) moment (limit_at_end (has_ended link) timeouts.fin timeouts.client)
-    || not (is_held_up link.back.step link.there.step) && is_silent (max link.server since) moment (limit_at_end (has_ended link) timeouts.fin timeouts.server)
-    else is_silent (max link.server since) moment (Some timeouts.connect)
+    then not (is_held_up link.there.step link.back.step) && is_silent link.client moment (limit_at_end (has_ended link) timeouts.fin timeouts.client)
+    || not (is_held_up link.back.step link.there.step) && is_silent link.server moment (limit_at_end (has_ended link) timeouts.fin timeouts.server)
+    else is_silent link.server moment (Some timeouts.connect)
 
 -- the direction from an end, and the one to it
 abbrev pub way_from : Side → LinkState → Way

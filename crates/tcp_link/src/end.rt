@@ -165,12 +165,12 @@ impl End {
         self.is_told = true;
     }
 
-    /// Whether nothing has passed here for so long, at a moment in ms. Silence doesn't count before another moment.
-    pub(crate) fn is_silent_for(&self, moment: u64, since: u64, limit: Option<u64>) -> bool
-        ensures { result ≡ is_silent (max self.now.heard since) moment limit }
+    /// Whether nothing has passed here for so long, at a moment in ms.
+    pub(crate) fn is_silent_for(&self, moment: u64, limit: Option<u64>) -> bool
+        ensures { result ≡ is_silent self.now.heard moment limit }
     {
         match limit {
-            Some(limit) => moment.saturating_sub(self.heard.max(since)) >= limit,
+            Some(limit) => moment.saturating_sub(self.heard) >= limit,
             None => false,
         }
     }

@@ -329,10 +329,10 @@ impl Link {
     }
 
     /// Whether, at a moment in ms, a peer has been silent for as long as it may, or longer: the server until it has accepted the
-    /// connection, and then each of both that isn't held up by the other. Silence counts from when something passed last, or from a later moment `since`. Where
-    /// nothing has passed at the server, the system is asked whether it has accepted. None is late while the connection waits.
-    pub fn is_late(&mut self, moment: u64, since: u64, timeouts: &Timeouts) -> bool
-        ensures late { result ≡ is_late self.new moment since timeouts.now }
+    /// connection, and then each of both that isn't held up by the other. Silence counts from when something passed last. Where nothing
+    /// has passed at the server, the system is asked whether it has accepted. None is late while the connection waits.
+    pub fn is_late(&mut self, moment: u64, timeouts: &Timeouts) -> bool
+        ensures late { result ≡ is_late self.new moment timeouts.now }
         ensures same { self.new ≡ record self.old { accepted = self.new.accepted } }
         ensures known { waits self.old ≡ false → must_be_accepted self.old ≡ true → self.new.accepted ≡ true }
         ensures waiting { waits self.old ≡ true → self.new ≡ self.old }
@@ -341,15 +341,13 @@ impl Link {
             return false;
         }
         if !self.is_accepted() {
-            return self
-                .server
-                .is_silent_for(moment, since, Some(timeouts.connect));
+            return self.server.is_silent_for(moment, Some(timeouts.connect));
         }
         let client = timeouts.limit(self.has_ended(), timeouts.client);
         let server = timeouts.limit(self.has_ended(), timeouts.server);
         let (there, back) = (self.there.step, self.back.step);
-        !is_held_up(there, back) && self.client.is_silent_for(moment, since, client)
-            || !is_held_up(back, there) && self.server.is_silent_for(moment, since, server)
+        !is_held_up(there, back) && self.client.is_silent_for(moment, client)
+            || !is_held_up(back, there) && self.server.is_silent_for(moment, server)
     }
 
     /// How many bytes came in and went out: those that were read of the client, and those that were written to it. None where

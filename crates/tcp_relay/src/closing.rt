@@ -59,7 +59,7 @@ pub(crate) fn close<'a, T: Table, J: Naming, R: ServeRuntime, G, W: Width>(
     link.close(shared.rt);
 }
 
-/// Closes the connections of which a peer had been silent for too long at a moment in ms. What the system was short of is tried
+/// Closes the connections of which a peer had been silent for too long at a moment in ms, by the clock of silence. What the system was short of is tried
 /// again too.
 pub(crate) fn close_silent<'a, T: Table, J: Naming, R: ServeRuntime, G, W: Width>(
     shared: &Shared<'a, R, G, W>,
@@ -67,12 +67,8 @@ pub(crate) fn close_silent<'a, T: Table, J: Naming, R: ServeRuntime, G, W: Width
     event_loop: &mut EventLoop<'_, R>,
     as_of: u64,
 ) {
-    let since = event_loop.sweep.since();
     for place in 0..worker.places.count() {
-        if let Some(late) = worker
-            .places
-            .lateness(place, as_of, since, &shared.timeouts)
-        {
+        if let Some(late) = worker.places.lateness(place, as_of, &shared.timeouts) {
             let cause = Some(Ending::Late(late));
             close(shared, worker, &mut event_loop.clock, place, cause);
         }
@@ -99,7 +95,7 @@ pub(crate) fn retry_due<'a, T: Table, J: Naming, R: ServeRuntime, G, W: Width>(
     event_loop: &mut EventLoop<'_, R>,
     buffer: &mut Buffer,
 ) {
-    let moment = event_loop.clock.now();
+    let moment = event_loop.sweep.shows(event_loop.clock.now());
     for place in 0..worker.places.count() {
         if worker.places.is_due(place, moment) {
             retry(shared, worker, event_loop, buffer, place, moment);

@@ -96,16 +96,10 @@ impl<'a, J: Naming, W: Width> Connection<'a, J, W> {
         }
     }
 
-    /// Which timeout is over, where it is open and a peer of it has been silent for longer than it may, at a moment in ms. Silence
-    /// counts from `since` on at the earliest.
-    pub(crate) fn lateness(
-        &mut self,
-        moment: u64,
-        since: u64,
-        timeouts: &Timeouts,
-    ) -> Option<Lateness> {
+    /// Which timeout is over, where it is open and a peer of it has been silent for longer than it may, at a moment in ms.
+    pub(crate) fn lateness(&mut self, moment: u64, timeouts: &Timeouts) -> Option<Lateness> {
         match &mut self.link {
-            Some(link) => link.lateness(moment, since, timeouts),
+            Some(link) => link.lateness(moment, timeouts),
             None => None,
         }
     }

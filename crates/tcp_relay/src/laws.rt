@@ -4,7 +4,7 @@
 ghost use Rattle.tcp_relay.specs.Accepting.{SharesLaw};
 ghost use Rattle.tcp_relay.specs.Draining.{DrainLaw};
 ghost use Rattle.tcp_relay.specs.Passed.{PassedStaysLaw};
-ghost use Rattle.tcp_relay.specs.Sweeps.{LookLaw};
+ghost use Rattle.tcp_relay.specs.Sweeps.{LookLaw, SilenceLaw};
 
 /// The workers' shares come to all connections.
 pub fn shares()
@@ -14,6 +14,11 @@ pub fn shares()
 /// Silent peers are looked for as of a moment only once all that was ready then has been told.
 pub fn looks()
     ensures { LookLaw }
+{}
+
+/// However often a worker is held up, silence goes on counting.
+pub fn silence_goes_on()
+    ensures { SilenceLaw }
 {}
 
 /// Once a drain has begun no client is accepted any more, and at its moment open connections are closed, whatever calls began it.

@@ -150,15 +150,14 @@ impl<'a, J: Naming, W: Width> Places<'a, J, W> {
     }
 
     /// Which timeout is over, where the connection in a place is open and a peer of it has been silent for longer than it may, at
-    /// a moment in ms. Silence counts from `since` on at the earliest.
+    /// a moment in ms.
     pub(crate) fn lateness(
         &mut self,
         place: usize,
         moment: u64,
-        since: u64,
         timeouts: &Timeouts,
     ) -> Option<Lateness> {
-        lateness_at(self.held.as_mut_slice(), place, moment, since, timeouts)
+        lateness_at(self.held.as_mut_slice(), place, moment, timeouts)
     }
 
     /// Whether the server of the connection in a place refused it, and is to be tried again at a moment in ms.
@@ -257,11 +256,10 @@ fn lateness_at<J: Naming, W: Width>(
     held: &mut [Option<Connection<'_, J, W>>],
     place: usize,
     moment: u64,
-    since: u64,
     timeouts: &Timeouts,
 ) -> Option<Lateness> {
     match held.get_mut(place) {
-        Some(Some(connection)) => connection.lateness(moment, since, timeouts),
+        Some(Some(connection)) => connection.lateness(moment, timeouts),
         _ => None,
     }
 }

@@ -71,7 +71,7 @@ fn take_in<'a, T: Table, J: Naming, R: ServeRuntime, G: Gate, W: Width>(
         return;
     }
     shared.control.gauge.enter();
-    let moment = event_loop.clock.now();
+    let moment = event_loop.sweep.shows(event_loop.clock.now());
     match begin(shared, event_loop, buffer, place, accepted, moment) {
         Ok(link) => worker.places.put_open(place, conn, link),
         Err(ended) => {
@@ -338,7 +338,8 @@ pub(crate) fn turn_all<'a, T: Table, J: Naming, R: ServeRuntime, G: Gate, W: Wid
     let polls = polls_for(worker.places.count(), events.capacity());
     let as_of = event_loop.sweep.after_poll(moment, is_full(events), polls);
     let (open, tally) = (worker.places.open(), worker.tally);
-    let only_accepts = turn_each(shared, worker, event_loop, events, buffer, moment);
+    let heard = event_loop.sweep.counted();
+    let only_accepts = turn_each(shared, worker, event_loop, events, buffer, heard);
     if let Some(as_of) = as_of {
         close_silent(shared, worker, event_loop, as_of);
         if shared.retries > 0 {

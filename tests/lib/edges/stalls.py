@@ -77,6 +77,19 @@ def a_silent_client_is_closed_in_its_time():
             assert speakers.count_closed() == 0, 'one that spoke is closed'
 
 
+def a_silent_client_is_closed_however_often_it_stalls():
+    """A client that says nothing for 1 s is closed though the proxy stands still again and again, each time for longer than half a
+    second, and runs for a fifth of one in between. One that speaks is not."""
+    with EchoServer() as server, Proxy(server.port, [TABLE, TRACK], '--timeout-client', '1s', threads=1) as proxy:
+        with Speakers(proxy, 5, 0.1) as speakers:
+            silent = proxy.connect()
+            for _ in range(20):
+                proxy.stall(0.6)
+                time.sleep(0.2)
+            assert is_closed(silent), 'the silent one is there behind 20 stalls'
+            assert speakers.count_closed() == 0, 'one that spoke is closed'
+
+
 def a_worker_that_is_held_up_closes_nobody_who_speaks():
     """A worker that stands still at new clients, all in all for longer than the time for clients, as one does behind a lock that a
     listing holds, closes none who speaks meanwhile. 48 come at once, each of which holds it up for 60 ms: so there are more of them
@@ -174,5 +187,5 @@ def one_that_waits_is_never_forgotten(rounds=None):
     assert not faults, faults
 
 
-TRIALS = [a_stall_closes_nobody_who_speaks, a_silent_client_is_closed_in_its_time, a_worker_that_is_held_up_closes_nobody_who_speaks,
-          many_come_at_once, one_that_waits_is_never_forgotten]
+TRIALS = [a_stall_closes_nobody_who_speaks, a_silent_client_is_closed_in_its_time, a_silent_client_is_closed_however_often_it_stalls,
+          a_worker_that_is_held_up_closes_nobody_who_speaks, many_come_at_once, one_that_waits_is_never_forgotten]

@@ -11,21 +11,21 @@ use std::net::SocketAddr;
 
 impl Link {
     /// Which timeout is over, if a peer is late, as `is_late` says.
-    pub fn lateness(&mut self, moment: u64, since: u64, timeouts: &Timeouts) -> Option<Lateness>
-        ensures late { result ≡ lateness self.new moment since timeouts.now }
+    pub fn lateness(&mut self, moment: u64, timeouts: &Timeouts) -> Option<Lateness>
+        ensures late { result ≡ lateness self.new moment timeouts.now }
         ensures same { self.new ≡ record self.old { accepted = self.new.accepted } }
         ensures known { waits self.old ≡ false → must_be_accepted self.old ≡ true → self.new.accepted ≡ true }
         ensures waiting { waits self.old ≡ true → self.new ≡ self.old }
     {
-        if !self.is_late(moment, since, timeouts) {
+        if !self.is_late(moment, timeouts) {
             return None;
         }
-        Some(self.timeout(moment, since, timeouts))
+        Some(self.timeout(moment, timeouts))
     }
 
     /// The timeout of one that is late.
-    fn timeout(&self, moment: u64, since: u64, timeouts: &Timeouts) -> Lateness
-        ensures { result ≡ timeout_of self.now moment since timeouts.now }
+    fn timeout(&self, moment: u64, timeouts: &Timeouts) -> Lateness
+        ensures { result ≡ timeout_of self.now moment timeouts.now }
     {
         if !self.is_accepted {
             return Lateness::Connect;
@@ -36,7 +36,7 @@ impl Link {
         }
         let limit = timeouts.limit(has_ended, timeouts.client);
         let is_free = !is_held_up(self.there.step, self.back.step);
-        if is_free && self.client.is_silent_for(moment, since, limit) {
+        if is_free && self.client.is_silent_for(moment, limit) {
             return Lateness::Client;
         }
         Lateness::Server

@@ -17,7 +17,7 @@ fn is_late_as_said(lead: &mut Lead, (moment, client, server, is_late): Silence) 
         server,
         fin: None,
     };
-    lead.is_late(moment, 0, &timeouts) == is_late
+    lead.is_late(moment, &timeouts) == is_late
 }
 
 /// Whether a link is late as each of these say.
@@ -145,51 +145,6 @@ fn a_link_that_is_not_accepted_is_late(rt: HostRuntime) {
     assert!(rt; is_late_at_a_full_server(&rt, rt.alloc()));
 }
 
-/// A link at a moment in ms, of which silence counts from another, and whether it is late.
-type Since = (u64, u64, bool);
-
-/// Whether a link is late as each of these say, where each of both may be silent for 200 ms, and the server may take 300.
-fn is_late_since(lead: &mut Lead, moments: &[Since]) -> bool {
-    let timeouts = Timeouts {
-        connect: 300,
-        client: Some(200),
-        server: Some(200),
-        fin: None,
-    };
-    for (moment, since, is_late) in moments {
-        if lead.is_late(*moment, *since, &timeouts) != *is_late {
-            return false;
-        }
-    }
-    true
-}
-
-/// What becomes of a link that has been silent since 500, where silence counts from then at the earliest.
-static SINCE: [Since; 6] = [
-    (699, 400, false),
-    (700, 400, true),
-    (700, 500, true),
-    (700, 501, false),
-    (1199, 1000, false),
-    (1200, 1000, true),
-];
-
-/// Whether a link that opens at 500 is late so, where its server has accepted it.
-fn is_late_from_a_moment_on<R: Net<Listener = TcpListener, Stream = TcpStream>>(
-    rt: &R,
-    alloc: Global,
-) -> bool {
-    match lead_between(rt, alloc, 500) {
-        Some((mut lead, _outer, _inner)) => is_late_since(&mut lead, &SINCE),
-        None => false,
-    }
-}
-
-#[test]
-fn silence_counts_from_a_moment_on(rt: HostRuntime) {
-    assert!(rt; is_late_from_a_moment_on(&rt, rt.alloc()));
-}
-
 /// How long each of both may be silent, the server and the client, and where one of them has ended, and whether a link is late
 /// that has been silent for 200 ms.
 type Ended = (Option<u64>, Option<u64>, Option<u64>, bool);
@@ -203,7 +158,7 @@ fn is_late_at_an_end(lead: &mut Lead, limits: &[Ended]) -> bool {
             server: *server,
             fin: *fin,
         };
-        if lead.is_late(700, 0, &timeouts) != *is_late {
+        if lead.is_late(700, &timeouts) != *is_late {
             return false;
         }
     }

@@ -200,9 +200,8 @@ impl Lead {
     }
 
     /// Whether a peer has been silent for as long as it may, or longer, at a moment in ms.
-    /// Silence counts from a moment at the earliest.
-    pub fn is_late(&mut self, moment: u64, since: u64, timeouts: &Timeouts) -> bool {
-        self.link.is_late(moment, since, timeouts)
+    pub fn is_late(&mut self, moment: u64, timeouts: &Timeouts) -> bool {
+        self.link.is_late(moment, timeouts)
     }
 
     /// Whether its server is to be tried again at a moment in ms.
