@@ -1,9 +1,9 @@
 -- What a look rests on.
-use Rattle.std.proofs.Common.{◌≡◌, refl, ap, arith, ℕ, ◌-◌, ◌≤◌, Bool, true, false, not, ◌||◌, nat_le, Option, Some, None, List, [], ◌∷◌, ◌⊎◌, inl, inr}
+use Rattle.std.proofs.Common.{◌≡◌, refl, ap, arith, ℕ, ◌-◌, ◌≤◌, Bool, true, false, not, ◌||◌, nat_le, nat_lt, Option, Some, None, List, [], ◌∷◌, ◌⊎◌, inl, inr}
 use Rattle.std.proofs.lemmas.Bool.{cases_Bool}
 use Rattle.tcp_relay.specs.declared.sweep.Due.{Due}
 use Rattle.tcp_relay.specs.declared.sweep.Sweep.{Sweep}
-use Rattle.tcp_relay.specs.Sweeps.{GoesOn, LookLaw, Poll, SilenceLaw, WasPolled, behind_all, counted_behind, counts, due_next, is_told, left_of, swept_at, told_of}
+use Rattle.tcp_relay.specs.Sweeps.{GoesOn, LookLaw, Poll, SilenceLaw, WasPolled, behind_all, counted_behind, due_next, is_told, left_of, swept_at, told_of}
 
 one_more : (start : ℕ) (polls : List Poll) (poll : Poll) (as_of missing : ℕ) → 2 ≤ missing → WasPolled start polls as_of missing → WasPolled start (poll ∷ polls) as_of (missing - 1)
 one_more start polls poll as_of missing some was = record {
