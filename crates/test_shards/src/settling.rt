@@ -3,6 +3,7 @@
 
 mod addresses;
 mod books;
+mod called_tables;
 mod clocks;
 mod counting_clock;
 mod expiries;
@@ -10,6 +11,7 @@ mod faults;
 mod records;
 mod rounds;
 mod setups;
+mod sizes;
 mod threads;
 mod two_faults;
 mod visits;

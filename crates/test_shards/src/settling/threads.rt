@@ -4,7 +4,7 @@ ghost use Rattle.std.specs.Prelude.{◌≡◌};
 ghost use Rattle.test_calls.specs.Planned.{IsNamed};
 
 use crate::settling::books::open_alone;
-use crate::settling::faults::{unsettled, with_seat};
+use crate::settling::called_tables::{unsettled, with_seat};
 use crate::settling::records::{is_counted, is_noted};
 use shard_book::{Receipt, Seat};
 use shard_locks::{Shards, SharedSeat};

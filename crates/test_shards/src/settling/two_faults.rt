@@ -5,7 +5,7 @@ ghost use Rattle.test_calls.specs.Planned.{IsNamed};
 
 use crate::locks::calls::held_of_last;
 use crate::locks::tables::{Desk, plan_of};
-use crate::settling::faults::{
+use crate::settling::called_tables::{
     CalledTable, called, left_out, settles_called, two_called, unsettled, unsettled_without,
     with_seat,
 };
