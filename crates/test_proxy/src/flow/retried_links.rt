@@ -229,7 +229,7 @@ fn is_late_since_its_retry<R: Net<Listener = TcpListener, Stream = TcpStream>>(
     ) else {
         return false;
     };
-    !lead.is_late(u64::MAX, 0, &NOTHING)
+    !lead.is_late(u64::MAX, &NOTHING)
         && lead.retries(rt, address, 500)
         && is_late_as_all_say(&mut lead, &CONNECTING)
 }
@@ -263,7 +263,7 @@ fn is_over_once_accepted<R: Net<Listener = TcpListener, Stream = TcpStream>>(
     if is_written && (&outer).write_all(b"abc").is_err() || !lead.starts(0) {
         return false;
     }
-    (is_written || lead.is_late(0, 0, &NOTHING)) && ends_by_a_reset(rt, &mut lead, inner)
+    (is_written || lead.is_late(0, &NOTHING)) && ends_by_a_reset(rt, &mut lead, inner)
 }
 
 #[test]
