@@ -13,3 +13,5 @@ mod PassedSeats
 mod PassedHeard
 mod PassedGoes
 mod PassedStays
+mod PassedPlaces
+mod PassedOf

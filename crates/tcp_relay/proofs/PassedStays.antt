@@ -1,18 +1,16 @@
 -- What has passed has passed for ever, as seats are told of more.
-use Rattle.std.proofs.Common.{◌≡◌, ℕ, zero, suc, refl, sym, ap, subst, Bool, true, false, ◌&&◌, List, [], slice_get, Option, Some, None}
+use Rattle.std.proofs.Common.{◌≡◌, ℕ, zero, suc, sym, subst, Bool, true, List, slice_get, Some}
 use Rattle.std.specs.List.{list_any}
-use Rattle.std.specs.Option.{option_map_or}
 use Rattle.std.proofs.Math.Bool.{Bool-set}
-use Rattle.std.proofs.Math.Logic.{∥∥₁_elim}
-use Rattle.std.proofs.lemmas.Bool.{false≢true}
+use Rattle.std.proofs.Math.Logic.{∥∥₁_elim, ∥∥₁_map, ∥∥₁_map₂}
 use mathlib.Core.List.{IsPrefix}
 use Rattle.stored_data.specs.Stored.{is_column}
 use Rattle.stored_data.specs.declared.datum.Datum.TheVariants.{ConnCur}
-use Rattle.stick_model.specs.Key.{Key, same_key}
+use Rattle.stick_model.specs.Key.{Key}
 use Rattle.stick_model.specs.declared.specification.Spec.{Spec}
 use Rattle.stick_model.specs.declared.replies.Reply.{Reply}
 use Rattle.shard_record.specs.declared.view.Call.{Call as Noted}
-use Rattle.shard_record.specs.Calls.{Held, IsHistory, passed_in}
+use Rattle.shard_record.specs.Calls.{IsHistory}
 use Rattle.shard_record.proofs.Records.{passed_later}
 use Rattle.shard_book.specs.SeatState.{RefState}
 use Rattle.shard_locks.specs.Ported.{seated_meaning}
@@ -29,7 +27,7 @@ use Rattle.admit_port.specs.declared.moved.Moved.{Moved}
 use Rattle.admit_port.specs.declared.moved.Moved.TheVariants.{Answered, Turned, Refused, Kept}
 use Rattle.admit_port.specs.declared.moved.Rested.{Rested}
 use Rattle.admit_port.specs.declared.moved.Rested.TheVariants.{Still, Kept as RestsKept}
-use Rattle.tcp_relay.specs.Passed.{HasPassed, HasPassedBy, HavePassedStill, PassedStaysLaw, known_at, known_of, shows_few}
+use Rattle.tcp_relay.specs.Passed.{HasPassed, HasPassedBy, HasPassedLimits, HavePassedStill, PassedStaysLaw, known_of, shows_few}
 use Rattle.tcp_relay.specs.Seating.{StoreAs}
 use Rattle.tcp_relay.proofs.PassedCalls.{any_later, was_out_later}
 use Rattle.tcp_relay.proofs.PassedSeats.{seats_grow, tables_stay}
@@ -67,22 +65,11 @@ stays_law setup samples limit now old new connection after Kept entry moves pass
 
 -- ---- as a connection goes on
 
-none_passed : (key : Key) (limit : ℕ) (held : Held) → passed_in key limit [] held ≡ true → ⊥
-none_passed key limit held is = by (same_key key held.1) is
-  where
-    by : (b : Bool) → (b && false) ≡ true → ⊥
-    by true both = false≢true both
-    by false both = false≢true both
-
-told_still : (old new : List SeatedState) (asked : Call) (reply : Reply) → AnswersAt seated_meaning old asked reply new → HavePassedStill old new
-told_still old new asked reply by table part limit key held was = of_seat (slice_get old table) refl was
-  where
-    of_seat : (o : Option SeatedState) → slice_get old table ≡ o → passed_in key limit (option_map_or (λ (seat : SeatedState). known_of seat part) o []) held ≡ true → passed_in key limit (known_at new table part) held ≡ true
-    of_seat None at passed = absurd (none_passed key limit held passed)
-    of_seat (Some seat) at passed =
-        let grown = seats_grow old new asked reply by table part seat at in
-        let later : known_at new table part ≡ known_of grown.later part = ap (λ o. option_map_or (λ (s : SeatedState). known_of s part) o []) grown.at in
-        subst (λ log. passed_in key limit log held ≡ true) (sym later) (passed_later key limit (known_of seat part) (known_of grown.later part) held grown.more passed)
+-- what it holds by sc0 has passed, as a seat is told of a call
+limits_told : (setup : Setup) (samples : Samples) (conn : Conn RefState) (old new : List SeatedState) (asked : Call) (reply : Reply) → AnswersAt seated_meaning old asked reply new → HasPassedLimits setup samples old conn → HasPassedLimits setup samples new conn
+limits_told setup samples conn old new asked reply by had name table limit entry first held =
+    let was = had name table limit entry first held in
+    (was.0, told_passed setup samples limit old new asked reply entry by was.1)
 
 -- what stays as seats are told of a call stays as a connection goes on by them
 module _ (P : List SeatedState → Type 0) (told : (old new : List SeatedState) (asked : Call) (reply : Reply) → AnswersAt seated_meaning old asked reply new → P old → P new) where
@@ -110,35 +97,33 @@ module _ (P : List SeatedState → Type 0) (told : (old new : List SeatedState) 
     rests_keeps old new RestsKept rests had =
         moves_keep rests.still.0 rests.last.ports new.ports rests.last.connection new.connection Kept rests.still.3 (goes_keep rests.count old rests.last rests.goes had)
 
--- a reference has passed by what a seat knows; and a table stores conn_cur or doesn't
-abbrev HasPassedAt : ℕ → ℕ → Key → ℕ → Held → List SeatedState → Type 0
-HasPassedAt table part key limit held seats = passed_in key limit (known_at seats table part) held ≡ true
-
+-- a table stores conn_cur or doesn't
 abbrev spec_in : SeatedState → Spec
 spec_in one = one.table.spec
 
 abbrev StoresAt : (ℕ → Bool) → ℕ → List SeatedState → Type 0
 StoresAt current i seats = (seat : SeatedState) → slice_get seats i ≡ Some seat → is_column seat.table.spec.columns ConnCur ≡ current i
 
-passed_told : (table part : ℕ) (key : Key) (limit : ℕ) (held : Held) (old new : List SeatedState) (asked : Call) (reply : Reply) → AnswersAt seated_meaning old asked reply new → HasPassedAt table part key limit held old → HasPassedAt table part key limit held new
-passed_told table part key limit held old new asked reply by was = told_still old new asked reply by table part limit key held was
-
 stores_told : (current : ℕ → Bool) (i : ℕ) (old new : List SeatedState) (asked : Call) (reply : Reply) → AnswersAt seated_meaning old asked reply new → StoresAt current i old → StoresAt current i new
 stores_told current i old new asked reply by had = tables_stay old new asked reply by i (λ (t : ShardsState). is_column t.spec.columns ConnCur ≡ current i) had
+
+-- where the limits that it has passed stay so by some connection, it has passed still
+kept_by : (old new : List SeatedState) → ∥ ((setup : Setup) (samples : Samples) (conn : Conn RefState) → HasPassedLimits setup samples old conn → HasPassedLimits setup samples new conn) ∥₁ → HavePassedStill old new
+kept_by old new stay setup conn had = ∥∥₁_map₂ stay had (λ stays it. (it.0, it.1, stays setup it.0 conn it.2))
 
 module _ {C : Type 0} (shows : C → ℕ → C → Type 0) where
   -- one that was judged, and one that came to rest, whatever connection each was
   pub judged_keep : (old new : List SeatedState) (conn later : Conn RefState) (clock shown : C) → IsConnection conn → HasGoneJudged seated_meaning shows old conn clock new later shown → HavePassedStill old new
-  judged_keep old new conn later clock shown living gone table part limit key held was =
-      ∥∥₁_elim living (Bool-set _ _) (λ found.
+  judged_keep old new conn later clock shown living gone =
+      kept_by old new (∥∥₁_map living (λ found setup samples held had.
       let visit = gone found.0 found.1 in
-      judged_keeps (HasPassedAt table part key limit held) (passed_told table part key limit held) shows visit.2.0 (record { ports = old; connection = found.0; clock = clock }) (record { ports = new; connection = visit.0; clock = shown }) visit.2.1 was)
+      judged_keeps (λ seats. HasPassedLimits setup samples seats held) (limits_told setup samples held) shows visit.2.0 (record { ports = old; connection = found.0; clock = clock }) (record { ports = new; connection = visit.0; clock = shown }) visit.2.1 had))
 
   pub rests_keep : (old new : List SeatedState) (conn later : Conn RefState) (clock shown : C) (rested : Rested) → IsConnection conn → HasRested seated_meaning shows old conn clock new later shown rested → HavePassedStill old new
-  rests_keep old new conn later clock shown rested living gone table part limit key held was =
-      ∥∥₁_elim living (Bool-set _ _) (λ found.
+  rests_keep old new conn later clock shown rested living gone =
+      kept_by old new (∥∥₁_map living (λ found setup samples held had.
       let visit = gone found.0 found.1 in
-      rests_keeps (HasPassedAt table part key limit held) (passed_told table part key limit held) shows (record { ports = old; connection = found.0; clock = clock }) (record { ports = new; connection = visit.0; clock = shown }) rested visit.2 was)
+      rests_keeps (λ seats. HasPassedLimits setup samples seats held) (limits_told setup samples held) shows (record { ports = old; connection = found.0; clock = clock }) (record { ports = new; connection = visit.0; clock = shown }) rested visit.2 had))
 
   pub judged_stores : (old new : List SeatedState) (conn later : Conn RefState) (clock shown : C) (current : ℕ → Bool) → IsConnection conn → HasGoneJudged seated_meaning shows old conn clock new later shown → StoreAs spec_in current old → StoreAs spec_in current new
   judged_stores old new conn later clock shown current living gone had i seat at =

@@ -1,7 +1,6 @@
--- What the reference of an admitted connection has had, by the record of its shard's book.
-use Rattle.std.specs.Prelude.{◌≡◌, ℕ, nat_le, Bool, true, false, ◌&&◌, Some, List, [], slice_get}
+-- What the reference of an admitted connection has had, by the record of its shard's book; and of all that a worker holds.
+use Rattle.std.specs.Prelude.{◌≡◌, ℕ, nat_le, Bool, true, false, ◌&&◌, Option, Some, List, slice_get}
 use Rattle.std.specs.List.{list_any}
-use Rattle.std.specs.Option.{option_map_or}
 use mathlib.Core.List.{IsPrefix}
 use Rattle.stored_data.specs.declared.datum.Datum.TheVariants.{ConnCur}
 use Rattle.stick_key.specs.Shard.{shard}
@@ -13,7 +12,7 @@ use Rattle.stick_model.specs.declared.events.Event.TheVariants.{Look}
 use Rattle.stick_model.specs.declared.replies.Reply.{Reply}
 use Rattle.stick_model.specs.declared.replies.Reply.TheVariants.{Row as ARow}
 use Rattle.shard_record.specs.declared.view.Call.{Call}
-use Rattle.shard_record.specs.Calls.{Held, IsHistory, out, passed_in}
+use Rattle.shard_record.specs.Calls.{IsHistory, out, passed_in}
 use Rattle.shard_record.specs.Telling.{log_of}
 use Rattle.shard_book.specs.SeatState.{RefState}
 use Rattle.shard_locks.specs.Ported.{seated_meaning}
@@ -25,7 +24,7 @@ use Rattle.rule_eval.specs.Limit.{LimitsFirst}
 use Rattle.rule_eval.specs.Readings.{value_in}
 use Rattle.rule_eval.specs.Tables.{key_of as source_key}
 use Rattle.rule_eval.specs.declared.wants.Samples.{Samples}
-use Rattle.admit_core.specs.Conn.{progress_of}
+use Rattle.admit_core.specs.Conn.{progress_of, Stands}
 use Rattle.admit_core.specs.Connection.{Connection}
 use Rattle.admit_core.specs.Held.{held_at}
 use Rattle.admit_core.specs.declared.conn.Conn.{Conn}
@@ -62,14 +61,6 @@ pub record HasPassed (shards limit : ℕ) (key : Key) (log : List Call) (referen
 abbrev pub known_of : SeatedState → ℕ → List Call
 known_of seat part = log_of (book_of seat.table part) seat.known
 
--- the same of the seat of a table, where there is one
-abbrev pub known_at : List SeatedState → ℕ → ℕ → List Call
-known_at seats table part = option_map_or (λ (seat : SeatedState). known_of seat part) (slice_get seats table) []
-
--- which references have passed by what the seats knew, those have by what they know then
-abbrev pub HavePassedStill : List SeatedState → List SeatedState → Type 0
-HavePassedStill old new = (table part limit : ℕ) (key : Key) (held : Held) → passed_in key limit (known_at old table part) held ≡ true → passed_in key limit (known_at new table part) held ≡ true
-
 -- the reference is of the key of the connection's source, and has passed by what the seat of its table knows
 pub record HasPassedBy (setup : Setup) (samples : Samples) (limit : ℕ) (seats : List SeatedState) (entry : ℕ × RefState) : Type 0 where
   pub key : Key
@@ -83,6 +74,36 @@ pub record HasPassedBy (setup : Setup) (samples : Samples) (limit : ℕ) (seats 
 abbrev pub HasPassedLimits : Setup → Samples → List SeatedState → Conn RefState → Type 0
 HasPassedLimits setup samples seats conn =
     (name : List ℕ) (table limit : ℕ) (entry : ℕ × RefState) → LimitsFirst setup name table limit → held_at (progress_of conn).held Sc0 ≡ Some entry → (entry.0 ≡ table) × HasPassedBy setup samples limit seats entry
+
+-- ---- of the connections that a worker holds
+
+-- this setup judges it, and it stands as one does that came with these samples
+abbrev pub IsOf : Setup → Samples → Conn RefState → Type 0
+IsOf setup samples conn = ∥ ((connection : Connection RefState) × Stands conn connection × (connection.setup ≡ setup) × (connection.samples ≡ samples)) ∥₁
+
+-- it has passed, by samples with which it may have come
+abbrev pub HasPassedIn : Setup → List SeatedState → Conn RefState → Type 0
+HasPassedIn setup seats conn = ∥ ((samples : Samples) × IsOf setup samples conn × HasPassedLimits setup samples seats conn) ∥₁
+
+-- each connection that has passed by what the seats knew has passed by what they know then
+abbrev pub HavePassedStill : List SeatedState → List SeatedState → Type 0
+HavePassedStill old new = (setup : Setup) (conn : Conn RefState) → HasPassedIn setup old conn → HasPassedIn setup new conn
+
+-- one that is open in this place has passed
+abbrev pub Passes : {X : Type 0} → (X → Bool) → (X → Conn RefState) → Setup → List SeatedState → Option X → Type 0
+Passes {X = X} is_open conn_of setup seats place = (one : X) → place ≡ Some one → is_open one ≡ true → HasPassedIn setup seats (conn_of one)
+
+-- each connection that is open in a place has passed
+abbrev pub HaveAllPassed : {X : Type 0} → (X → Bool) → (X → Conn RefState) → Setup → List SeatedState → List (Option X) → Type 0
+HaveAllPassed {X = X} is_open conn_of setup seats places = (place : ℕ) (one : X) → slice_get places place ≡ Some (Some one) → is_open one ≡ true → HasPassedIn setup seats (conn_of one)
+
+-- none came in a place: where the one that was open there had passed, the one that is has
+abbrev pub StaysThere : {X : Type 0} → (X → Bool) → (X → Conn RefState) → Option X → Option X → Type 0
+StaysThere is_open conn_of old new = (setup : Setup) (seats : List SeatedState) → Passes is_open conn_of setup seats old → Passes is_open conn_of setup seats new
+
+-- none came in any place: where all that were open had passed, all that are open have
+abbrev pub NoneCame : {X : Type 0} → (X → Bool) → (X → Conn RefState) → List (Option X) → List (Option X) → Type 0
+NoneCame is_open conn_of old new = (setup : Setup) (seats : List SeatedState) → HaveAllPassed is_open conn_of setup seats old → HaveAllPassed is_open conn_of setup seats new
 
 -- ---- laws
 

@@ -36,6 +36,10 @@ StoreAs {X = X} made current tables = (i : ℕ) (table : X) → slice_get tables
 abbrev pub stores_current : Setup → ℕ → Bool
 stores_current setup table = option_map_or (λ (named : NamedSpec). is_column named.spec.columns ConnCur) (slice_get setup.tables table) false
 
+-- a setup without a table, a rule or an address
+abbrev pub no_setup : Setup
+no_setup = record { tables = []; rules = []; bind = None; server = None; shards = 0; prefixes = record { ipv4 = 0; ipv6 = 0 } }
+
 -- what each list holds
 abbrev pub held_in : {X Z : Type 0} → List (Vec X Z) → List (List X)
 held_in lists = map (λ list. list.items) lists

@@ -1,6 +1,6 @@
 //! A connection that a worker holds, open or kept for its references; `Places` holds them, and `leaving` takes what is left.
 
-ghost use Rattle.std.specs.Prelude.{◌≡◌, true, is_some, IfOk};
+ghost use Rattle.std.specs.Prelude.{◌≡◌, true, false, is_some, IfErr, IfOk};
 ghost use Rattle.admit_core.specs.Conn.{needed};
 ghost use Rattle.admit_core.specs.declared.need.Need.TheVariants.{Rest};
 ghost use Rattle.tcp_relay.specs.Connections.{IsVisitor};
@@ -28,6 +28,7 @@ impl<'a, J: Naming, W: Width> Connection<'a, J, W> {
     pub(crate) fn open(conn: Conn<'a, SharedRef<J>>, link: Link) -> Connection<'a, J, W>
         requires connection { IsVisitor W.tables W.shards conn }
         requires rests { needed conn ≡ Rest }
+        ensures conn { result.conn ≡ conn.entry }
     {
         Connection {
             conn,
@@ -39,6 +40,7 @@ impl<'a, J: Naming, W: Width> Connection<'a, J, W> {
     /// A connection that still holds references once it is closed.
     pub(crate) fn kept(conn: Conn<'a, SharedRef<J>>) -> Connection<'a, J, W>
         requires connection { IsVisitor W.tables W.shards conn }
+        ensures closed { is_some result.link ≡ false }
     {
         Connection {
             conn,
@@ -51,6 +53,7 @@ impl<'a, J: Naming, W: Width> Connection<'a, J, W> {
     pub(crate) fn parts(self) -> Result<(Conn<'a, SharedRef<J>>, Link), Connection<'a, J, W>>
         ensures connection { IfOk result (λ parts. IsVisitor W.tables W.shards parts.0) }
         ensures rests { IfOk result (λ parts. needed parts.0 ≡ Rest) }
+        ensures closed { IfErr result (λ kept. is_some kept.link ≡ false) }
     {
         let Connection { conn, link, of: _ } = self;
         match link {
@@ -66,7 +69,10 @@ impl<'a, J: Naming, W: Width> Connection<'a, J, W> {
         ready: Ready,
         moment: u64,
         buffer: &mut Buffer,
-    ) -> bool {
+    ) -> bool
+        ensures conn { self.new.conn ≡ self.old.conn }
+        ensures open { is_some self.new.link ≡ is_some self.old.link }
+    {
         match &mut self.link {
             Some(link) => !link.turn(registry, ready, moment, buffer),
             None => false,
@@ -89,7 +95,10 @@ impl<'a, J: Naming, W: Width> Connection<'a, J, W> {
         number: usize,
         moment: u64,
         buffer: &mut Buffer,
-    ) -> bool {
+    ) -> bool
+        ensures conn { self.new.conn ≡ self.old.conn }
+        ensures open { is_some self.new.link ≡ is_some self.old.link }
+    {
         match &mut self.link {
             Some(link) => !link.retry(server, registry, number, moment, buffer),
             None => false,
@@ -97,7 +106,10 @@ impl<'a, J: Naming, W: Width> Connection<'a, J, W> {
     }
 
     /// Which timeout is over, where it is open and a peer of it has been silent for longer than it may, at a moment in ms.
-    pub(crate) fn lateness(&mut self, moment: u64, timeouts: &Timeouts) -> Option<Lateness> {
+    pub(crate) fn lateness(&mut self, moment: u64, timeouts: &Timeouts) -> Option<Lateness>
+        ensures conn { self.new.conn ≡ self.old.conn }
+        ensures open { is_some self.new.link ≡ is_some self.old.link }
+    {
         match &mut self.link {
             Some(link) => link.lateness(moment, timeouts),
             None => None,

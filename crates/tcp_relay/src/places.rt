@@ -1,9 +1,12 @@
 //! The connections that a worker holds, by their places' numbers; `worker` keeps them, and `turning` gives them turns.
 
-ghost use Rattle.std.specs.Prelude.{◌≡◌, ◌≤◌, ◌==◌, ◌||◌, not, nat_lt, length, IfSome, None, Some, slice_get, vec_capacity, vec_len};
+ghost use Rattle.std.specs.Prelude.{◌≡◌, ◌≤◌, ◌==◌, ◌||◌, not, nat_lt, is_some, length, IfSome, List, None, Some, slice_get, slice_set, vec_capacity, vec_len};
+ghost use Rattle.rule_model.specs.declared.sections.Setup.{Setup};
+ghost use Rattle.shard_locks.specs.ShardsState.{SeatedState};
 ghost use Rattle.admit_core.specs.Conn.{needed};
 ghost use Rattle.admit_core.specs.declared.need.Need.TheVariants.{Rest};
 ghost use Rattle.tcp_relay.specs.Connections.{IsVisitor};
+ghost use Rattle.tcp_relay.specs.Passed.{HasPassedIn, HaveAllPassed, NoneCame, StaysThere};
 
 use crate::connection::Connection;
 use crate::width::Width;
@@ -40,6 +43,7 @@ impl<'a, J: Naming, W: Width> Places<'a, J, W> {
         requires empty { vec_len held ≡ 0 }
         requires room { W.most ≤ vec_capacity held }
         ensures most { result.most ≡ most }
+        ensures none { vec_len result.held ≡ 0 }
     {
         Places {
             held,
@@ -74,6 +78,7 @@ impl<'a, J: Naming, W: Width> Places<'a, J, W> {
     /// A place for one more connection. None where all are taken.
     pub(crate) fn claim(&mut self) -> Option<usize>
         ensures free { IfSome result (λ place. slice_get self.new.held.items place ≡ Some None) }
+        ensures none { NoneCame (λ one. is_some one.link) (λ one. one.conn) self.old.held.items self.new.held.items }
     {
         match self.free.pop() {
             Some(place) => self.if_free(place),
@@ -94,6 +99,7 @@ impl<'a, J: Naming, W: Width> Places<'a, J, W> {
     /// A place that was never in use.
     fn claim_new(&mut self) -> Option<usize>
         ensures free { IfSome result (λ place. slice_get self.new.held.items place ≡ Some None) }
+        ensures none { NoneCame (λ one. is_some one.link) (λ one. one.conn) self.old.held.items self.new.held.items }
     {
         let place = self.held.as_slice().len();
         if place >= self.most {
@@ -104,7 +110,9 @@ impl<'a, J: Naming, W: Width> Places<'a, J, W> {
     }
 
     /// Frees a place that was claimed and isn't in use.
-    pub(crate) fn free(&mut self, place: usize) {
+    pub(crate) fn free(&mut self, place: usize)
+        ensures held { self.new.held ≡ self.old.held }
+    {
         // There is room for all places. One that couldn't be noted would be lost.
         let _ = self.free.push(place);
     }
@@ -112,6 +120,7 @@ impl<'a, J: Naming, W: Width> Places<'a, J, W> {
     /// Puts a connection in its place.
     fn put(&mut self, place: usize, connection: Connection<'a, J, W>)
         requires free { slice_get self.old.held.items place ≡ Some None }
+        ensures held { self.new.held.items ≡ slice_set self.old.held.items place (Some connection.entry) }
     {
         let slot = &mut self.held[place];
         match mem::replace(slot, Some(connection)) {
@@ -125,6 +134,7 @@ impl<'a, J: Naming, W: Width> Places<'a, J, W> {
         requires free { slice_get self.old.held.items place ≡ Some None }
         requires connection { IsVisitor W.tables W.shards conn }
         requires rests { needed conn ≡ Rest }
+        ensures passed { (setup : Setup) (seats : List SeatedState) → HasPassedIn setup seats conn.entry → HaveAllPassed (λ one. is_some one.link) (λ one. one.conn) setup seats self.old.held.items → HaveAllPassed (λ one. is_some one.link) (λ one. one.conn) setup seats self.new.held.items }
     {
         self.open = self.open.saturating_add(1);
         self.put(place, Connection::open(conn, link));
@@ -134,6 +144,7 @@ impl<'a, J: Naming, W: Width> Places<'a, J, W> {
     pub(crate) fn put_kept(&mut self, place: usize, conn: Conn<'a, SharedRef<J>>)
         requires free { slice_get self.old.held.items place ≡ Some None }
         requires connection { IsVisitor W.tables W.shards conn }
+        ensures none { NoneCame (λ one. is_some one.link) (λ one. one.conn) self.old.held.items self.new.held.items }
     {
         self.put(place, Connection::kept(conn));
     }
@@ -145,8 +156,13 @@ impl<'a, J: Naming, W: Width> Places<'a, J, W> {
         ready: Ready,
         moment: u64,
         buffer: &mut Buffer,
-    ) -> bool {
-        turn_at(self.held.as_mut_slice(), registry, ready, moment, buffer)
+    ) -> bool
+        ensures none { NoneCame (λ one. is_some one.link) (λ one. one.conn) self.old.held.items self.new.held.items }
+    {
+        let Some(slot) = self.held.get_mut(ready.number) else {
+            return false;
+        };
+        turn_in(slot, registry, ready, moment, buffer)
     }
 
     /// Which timeout is over, where the connection in a place is open and a peer of it has been silent for longer than it may, at
@@ -156,8 +172,11 @@ impl<'a, J: Naming, W: Width> Places<'a, J, W> {
         place: usize,
         moment: u64,
         timeouts: &Timeouts,
-    ) -> Option<Lateness> {
-        lateness_at(self.held.as_mut_slice(), place, moment, timeouts)
+    ) -> Option<Lateness>
+        ensures none { NoneCame (λ one. is_some one.link) (λ one. one.conn) self.old.held.items self.new.held.items }
+    {
+        let slot = self.held.get_mut(place)?;
+        lateness_in(slot, moment, timeouts)
     }
 
     /// Whether the server of the connection in a place refused it, and is to be tried again at a moment in ms.
@@ -176,15 +195,13 @@ impl<'a, J: Naming, W: Width> Places<'a, J, W> {
         registry: &Registry,
         moment: u64,
         buffer: &mut Buffer,
-    ) -> bool {
-        retry_at(
-            self.held.as_mut_slice(),
-            place,
-            server,
-            registry,
-            moment,
-            buffer,
-        )
+    ) -> bool
+        ensures none { NoneCame (λ one. is_some one.link) (λ one. one.conn) self.old.held.items self.new.held.items }
+    {
+        let Some(slot) = self.held.get_mut(place) else {
+            return false;
+        };
+        retry_in(slot, server, registry, place, moment, buffer)
     }
 
     /// Takes the connection in a place, if it is open. The place stays claimed.
@@ -192,6 +209,7 @@ impl<'a, J: Naming, W: Width> Places<'a, J, W> {
         ensures free { IfSome result (λ _. slice_get self.new.held.items place ≡ Some None) }
         ensures connection { IfSome result (λ taken. IsVisitor W.tables W.shards taken.0) }
         ensures rests { IfSome result (λ taken. needed taken.0 ≡ Rest) }
+        ensures none { NoneCame (λ one. is_some one.link) (λ one. one.conn) self.old.held.items self.new.held.items }
     {
         let slot = self.held.get_mut(place)?;
         let connection = slot.take()?;
@@ -223,43 +241,48 @@ impl<'a, J: Naming, W: Width> Places<'a, J, W> {
 }
 
 /// Gives the connection in a place its turn. Whether it is over now.
-fn turn_at<J: Naming, W: Width>(
-    held: &mut [Option<Connection<'_, J, W>>],
+fn turn_in<J: Naming, W: Width>(
+    slot: &mut Option<Connection<'_, J, W>>,
     registry: &Registry,
     ready: Ready,
     moment: u64,
     buffer: &mut Buffer,
-) -> bool {
-    match held.get_mut(ready.number) {
-        Some(Some(connection)) => connection.turn(registry, ready, moment, buffer),
-        _ => false,
+) -> bool
+    ensures stays { StaysThere (λ one. is_some one.link) (λ one. one.conn) slot.old slot.new }
+{
+    match slot {
+        Some(connection) => connection.turn(registry, ready, moment, buffer),
+        None => false,
     }
 }
 
 /// Tries the server of the connection in a place again. Whether it is over now.
-fn retry_at<J: Naming, W: Width>(
-    held: &mut [Option<Connection<'_, J, W>>],
-    place: usize,
+fn retry_in<J: Naming, W: Width>(
+    slot: &mut Option<Connection<'_, J, W>>,
     server: ServerSocket,
     registry: &Registry,
+    place: usize,
     moment: u64,
     buffer: &mut Buffer,
-) -> bool {
-    match held.get_mut(place) {
-        Some(Some(connection)) => connection.retry(server, registry, place, moment, buffer),
-        _ => false,
+) -> bool
+    ensures stays { StaysThere (λ one. is_some one.link) (λ one. one.conn) slot.old slot.new }
+{
+    match slot {
+        Some(connection) => connection.retry(server, registry, place, moment, buffer),
+        None => false,
     }
 }
 
 /// Which timeout of the connection in a place is over, if one is.
-fn lateness_at<J: Naming, W: Width>(
-    held: &mut [Option<Connection<'_, J, W>>],
-    place: usize,
+fn lateness_in<J: Naming, W: Width>(
+    slot: &mut Option<Connection<'_, J, W>>,
     moment: u64,
     timeouts: &Timeouts,
-) -> Option<Lateness> {
-    match held.get_mut(place) {
-        Some(Some(connection)) => connection.lateness(moment, timeouts),
-        _ => None,
+) -> Option<Lateness>
+    ensures stays { StaysThere (λ one. is_some one.link) (λ one. one.conn) slot.old slot.new }
+{
+    match slot {
+        Some(connection) => connection.lateness(moment, timeouts),
+        None => None,
     }
 }

@@ -210,6 +210,7 @@ fn serve_wide<
 ) -> Result<Served<J>, ServeFault<J>>
     requires width { W.tables ≡ length tables.now }
     requires shards { W.shards ≡ setup.now.shards }
+    requires judges { setup.now ≡ W.setup }
     requires current { W.current ≡ stores_current setup.now }
     requires most { W.most ≡ most_of limits.connections threads }
     requires server { is_some setup.now.server ≡ true }

@@ -35,5 +35,6 @@ pub(crate) struct Shared<'a, R, G, W: Width> {
     pub(crate) of: PhantomData<W>,
     ghost tables: { length setup.now.tables ≡ W.tables },
     ghost shards: { setup.now.shards ≡ W.shards },
+    ghost judges: { setup.now ≡ W.setup },
     ghost current: { StoreAs (λ named. named.spec) W.current setup.now.tables },
 }

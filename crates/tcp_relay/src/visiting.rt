@@ -5,7 +5,7 @@ ghost use Rattle.admit_core.specs.Conn.{needed, progress_of};
 ghost use Rattle.admit_core.specs.Connection.{closed_of};
 ghost use Rattle.admit_core.specs.declared.need.Need.TheVariants.{Rest};
 ghost use Rattle.tcp_relay.specs.Connections.{IsVisitor};
-ghost use Rattle.tcp_relay.specs.Passed.{HasPassedLimits, HavePassedStill};
+ghost use Rattle.tcp_relay.specs.Passed.{HasPassedLimits, HavePassedStill, IsOf};
 ghost use Rattle.tcp_relay.specs.Seating.{AreIn, StoreAs};
 
 use crate::fates::Ended;
@@ -39,6 +39,7 @@ pub(crate) fn judge_one<'a, T: Table, J: Naming, R: ServeRuntime, G: Gate, W: Wi
     ensures current { StoreAs (λ one. one.table.spec) W.current seated.new.items }
     ensures connection { IsVisitor W.tables W.shards result.0 }
     ensures rests { result.1 ≡ true → needed result.0 ≡ Rest }
+    ensures of { IsOf shared.now.setup.now samples result.0 }
     ensures passed { result.1 ≡ true → HasPassedLimits shared.now.setup.now samples seated.new.items result.0 }
     ensures still { HavePassedStill seated.old.items seated.new.items }
 {

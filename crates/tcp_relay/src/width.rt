@@ -1,11 +1,13 @@
 //! What is known of all workers, as the trait `Width`; the types of workers, connections and lists are made by it.
 
 ghost use Rattle.std.specs.Prelude.{ℕ, Bool, false};
+ghost use Rattle.rule_model.specs.declared.sections.Setup.{Setup};
+ghost use Rattle.tcp_relay.specs.Seating.{no_setup};
 
 use std::marker::Brand;
 
-/// How many tables there are, in how many shards each is, which of them store conn_cur, and how many connections a worker holds at
-/// most. A type names them, so that they are known also of what comes back from a thread.
+/// How many tables there are, in how many shards each is, which of them store conn_cur, how many connections a worker holds at
+/// most, and by what setup they are judged. A type names them, so that they are known also of what comes back from a thread.
 pub trait Width {
     ghost tables: { ℕ };
 
@@ -14,6 +16,8 @@ pub trait Width {
     ghost current: { ℕ → Bool };
 
     ghost most: { ℕ };
+
+    ghost setup: { Setup };
 }
 
 impl Width for Brand {
@@ -24,4 +28,6 @@ impl Width for Brand {
     ghost current = { λ table. false };
 
     ghost most = { 0 };
+
+    ghost setup = { no_setup };
 }

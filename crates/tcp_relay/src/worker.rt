@@ -1,9 +1,10 @@
 //! What a worker has done, and what it holds; `gathering` makes it and takes it apart, and `turning` and `visiting` use it.
 
-ghost use Rattle.std.specs.Prelude.{◌≡◌, ◌+◌, ◌*◌, ◌==◌, ◌&&◌, ◌||◌, ℕ, not, if◌then◌else◌, length, map, option_map, vec_capacity, vec_len};
+ghost use Rattle.std.specs.Prelude.{◌≡◌, ◌+◌, ◌*◌, ◌==◌, ◌&&◌, ◌||◌, ℕ, not, if◌then◌else◌, is_some, length, map, option_map, vec_capacity, vec_len};
 ghost use Rattle.tcp_relay.specs.Counts.{more, sum};
 ghost use Rattle.tcp_relay.specs.Seating.{AreIn, HaveEach, HaveFew, HaveRoom, StoreAs, held_in};
 ghost use Rattle.tcp_relay.specs.Connections.{left_by_all};
+ghost use Rattle.tcp_relay.specs.Passed.{HaveAllPassed};
 
 use crate::buffers::Buffers;
 use crate::counted::Counted;
@@ -84,8 +85,9 @@ impl Tally {
     }
 }
 
-/// A worker: the tables, each asked by its seat, what it has counted, and the connections that it holds. It is lent to a thread,
-/// and shows afterwards what that has done.
+/// A worker: the tables, each asked by its seat, what it has counted, and the connections that it holds. Each that is open has
+/// passed the limit that its rules begin with, by what the seats know. A worker is lent to a thread, and shows afterwards what that
+/// has done.
 pub(crate) struct Worker<'a, T: Table, J: Naming, R, W: Width> {
     pub(crate) tally: Tally,
     pub(crate) counted: Counted,
@@ -102,6 +104,7 @@ pub(crate) struct Worker<'a, T: Table, J: Naming, R, W: Width> {
     ghost count: { vec_len seated ≡ W.tables },
     ghost shards: { AreIn (λ one. one.table.shards) W.shards seated.items },
     ghost current: { StoreAs (λ one. one.table.spec) W.current seated.items },
+    ghost passed: { HaveAllPassed (λ one. is_some one.link) (λ one. one.conn) W.setup seated.items places.held.items },
 }
 
 impl<'a, T: Table, J: Naming, R, W: Width> Worker<'a, T, J, R, W> {
@@ -114,6 +117,7 @@ impl<'a, T: Table, J: Naming, R, W: Width> Worker<'a, T, J, R, W> {
         requires count { vec_len seated ≡ W.tables }
         requires shards { AreIn (λ one. one.table.shards) W.shards seated.items }
         requires current { StoreAs (λ one. one.table.spec) W.current seated.items }
+        requires passed { HaveAllPassed (λ one. is_some one.link) (λ one. one.conn) W.setup seated.items places.held.items }
     {
         Worker {
             tally: Tally::new(),

@@ -1,6 +1,7 @@
-use Rattle.std.proofs.Common.{◌≡◌, ◌+◌, sym, subst, rules, length, vec_len}
+use Rattle.std.proofs.Common.{◌≡◌, ◌+◌, arith, sym, subst, rules, length, vec_len}
 use Rattle.std.proofs.lemmas.List.Elements.{All-pop}
 use Rattle.tcp_relay.specs.Seating.{Has, HaveEach}
+use Rattle.tcp_relay.proofs.PassedPlaces.{none_passed}
 use Rattle.tcp_relay.proofs.SeatingLemmas.{row_in, row_stores}
 use Rattle.tcp_relay.proofs.gathering.seat_workers.Goals as goal
 
@@ -9,6 +10,10 @@ new-requires-clause-shards g c = row_in g.W.Width.shards c.args.tables.now c.tak
 
 pub new-requires-clause-current : goal.new-requires-clause-current
 new-requires-clause-current g c = row_stores g.W.Width.current c.args.tables.now c.take_row-row.result.items c.take_row-row.ensures.row c.requires.current
+
+pub new-requires-clause-passed : goal.new-requires-clause-passed
+new-requires-clause-passed g c =
+    none_passed _ _ g.W.Width.setup c.take_row-row.result.items c.new-places.result.held.items (omega (arith, c.new-places.ensures.none, c.new-places.result.held.ok))
 
 pub loop-places-preserved : goal.loop-places-preserved
 loop-places-preserved g c =

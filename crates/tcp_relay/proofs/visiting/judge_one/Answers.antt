@@ -1,5 +1,6 @@
 use Rattle.tcp_relay.proofs.ConnectionLemmas.{each_still, fresh, lent_store, passed_still, ports_of, ready, still_passed, stored_still, visitor_still}
 use Rattle.tcp_relay.proofs.PassedGoes.{judged_passed}
+use Rattle.tcp_relay.proofs.PassedOf.{judged_of}
 use Rattle.tcp_relay.proofs.PassedStays.{judged_keep, judged_stores}
 use Rattle.tcp_relay.proofs.visiting.judge_one.Goals as goal
 
@@ -29,6 +30,12 @@ returns-clause-connection g c =
     let lent = c.as_mut_slice-ports in
     let judged = c.judge-is_admitted in
     visitor_still g.W.Width.tables g.W.Width.shards c.args.seated.now lent.result.now lent.ensures.value lent.ensures.len c.requires.count c.requires.shards judged.new.ports judged.ensures.parts judged.new.conn judged.ensures.living judged.ensures.ready
+
+pub returns-clause-of : goal.returns-clause-of
+returns-clause-of g c =
+    let lent = c.as_mut_slice-ports in
+    let judged = c.judge-is_admitted in
+    judged_of _ c.args.shared.now.setup.now c.args.samples (ports_of lent.result.now) (ports_of judged.new.ports) c.new-conn.result judged.new.conn _ _ c.new-conn.ensures.stands judged.ensures.gone
 
 pub returns-clause-passed : goal.returns-clause-passed
 returns-clause-passed g c admitted =
