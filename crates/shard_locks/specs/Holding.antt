@@ -1,5 +1,5 @@
 -- What callers of a table hold who call no more, as one token.
-use Rattle.std.specs.Prelude.{◌≡◌, ℕ, ◌<◌, ◌≤◌, true}
+use Rattle.std.specs.Prelude.{◌≡◌, ℕ, ◌<◌, true}
 use Rattle.std.specs.List.{AllByRecursion}
 use Rattle.stick_model.specs.Key.{Key}
 use Rattle.shard_record.specs.declared.view.Part.{Part}

@@ -1,4 +1,4 @@
-use Rattle.std.proofs.Common.{◌≡◌, ◌<◌, ◌+◌, length, ap, arith, subst, sym}
+use Rattle.std.proofs.Common.{length}
 use Rattle.shard_locks.specs.ShardsState.{ShardsState}
 use Rattle.shard_locks.proofs.HoldingLemmas.{books_inside, seat_holds}
 use Rattle.shard_locks.proofs.shards.Shards.held_none.Goals as goal

@@ -1,4 +1,4 @@
-use Rattle.std.proofs.Common.{◌≡◌, ℕ, List, [], ◌∷◌, ◌++◌, sym, subst}
+use Rattle.std.proofs.Common.{◌≡◌, List, [], ◌++◌, sym, subst}
 use Rattle.stick_model.specs.Laws.{tickets_told}
 use Rattle.stick_model.specs.declared.events.Event.TheVariants.{Track}
 use Rattle.shard_record.specs.declared.view.Call.{Call}
