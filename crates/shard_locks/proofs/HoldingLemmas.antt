@@ -1,5 +1,5 @@
 -- What callers of a table hold who call no more.
-use Rattle.std.proofs.Common.{◌≡◌, ◌≢◌, ℕ, ◌+◌, ◌≤◌, ◌<◌, refl, sym, ap, subst, ◌∙◌, arith, Bool, true, false, cond, nat_eq, inl, inr, List, [], ◌∷◌, ◌++◌, map, count_by}
+use Rattle.std.proofs.Common.{◌≡◌, ◌≢◌, ℕ, zero, suc, ◌+◌, ◌≤◌, ◌<◌, refl, sym, ap, subst, ◌∙◌, arith, Bool, true, false, cond, nat_eq, inl, inr, List, [], ◌∷◌, ◌++◌, length, length-append, map, count_by}
 use Rattle.std.specs.List.{AllByRecursion}
 use Rattle.std.proofs.lemmas.Bool.{cases_Bool}
 use Rattle.std.proofs.lemmas.Bool.Decides.{nat_tests}
@@ -18,7 +18,7 @@ use Rattle.shard_record.specs.Telling.{IsReference, key_at, log_of, ticket_at}
 use Rattle.shard_record.proofs.OneKey.{one_key-law}
 use Rattle.shard_record.proofs.Records.{passed_later}
 use Rattle.shard_record.proofs.Views.{at_map, at_paired, at_put, at_put_else}
-use Rattle.shard_locks.specs.Holding.{HavePassed, HoldsPassed, held_on}
+use Rattle.shard_locks.specs.Holding.{HavePassed, HoldsPassed, count_held, held_on, sum_to}
 use Rattle.shard_locks.specs.Shared.{AreNumbered, KnowsKey, WasOut}
 use Rattle.shard_locks.specs.ShardsState.{ShardsState, book_of}
 use Rattle.shard_locks.proofs.KeyLemmas.{was_later}
@@ -141,3 +141,63 @@ books_inside inside now books same are shard below =
     let first : inside.first ≡ now.first = ap (λ (table : ShardsState). table.first) same in
     let shards : inside.shards ≡ now.shards = ap (λ (table : ShardsState). table.shards) same in
     omega (arith, first, shards, below, are.within)
+
+-- ---- how many are held
+
+sum_none : (n : ℕ) (f : ℕ → ℕ) → ((i : ℕ) → i < n → f i ≡ 0) → sum_to n f ≡ 0
+sum_none zero f none = refl
+sum_none (suc n) f none = omega (arith, sum_none n f (λ i less. none i (omega (arith, less))), none n (omega arith))
+
+sum_one : (n k : ℕ) (f : ℕ → ℕ) → k < n → f k ≡ 1 → ((i : ℕ) → i < n → i ≢ k → f i ≡ 0) → sum_to n f ≡ 1
+sum_one zero k f less one none = absurd (omega (arith, less))
+sum_one (suc n) k f less one none =
+    elim (cases_Bool (nat_eq n k)) [
+      | inl this ↦ last (same_number n k this)
+      | inr not_this ↦ before (λ earlier. sum_one n k f earlier one (λ i below. none i (omega (arith, below)))) (other_number n k not_this)
+    ]
+  where
+    apart : (i : ℕ) → i < n → n ≡ k → i ≢ k
+    apart i below same is = absurd (omega (arith, below, same, is))
+
+    last : n ≡ k → sum_to n f + f n ≡ 1
+    last same = let here : f n ≡ 1 = ap f same ∙ one in omega (arith, here, sum_none n f (λ i below. none i (omega (arith, below)) (apart i below same)))
+
+    not_last : n ≢ k → k < n
+    not_last differ = elim (cases_Bool (nat_eq k n)) [
+      | inl so ↦ absurd (differ (sym (same_number k n so)))
+      | inr not_so ↦ grind (arith, nat_tests, less, not_so)
+    ]
+
+    before : (k < n → sum_to n f ≡ 1) → n ≢ k → sum_to n f + f n ≡ 1
+    before rest differ = omega (arith, none n (omega arith) differ, rest (not_last differ))
+
+sum_both : (n : ℕ) (f g h : ℕ → ℕ) → ((i : ℕ) → i < n → f i ≡ g i + h i) → sum_to n f ≡ sum_to n g + sum_to n h
+sum_both zero f g h both = refl
+sum_both (suc n) f g h both = omega (arith, sum_both n f g h (λ i less. both i (omega (arith, less))), both n (omega arith))
+
+pub none_count : (table : ShardsState) (books : ℕ) (token : View) → ((shard : ℕ) → shard < table.shards → book_of table shard < books) → SeesAll books token → count_held table token ≡ 0
+none_count table books token inside sees =
+    sum_none table.shards (λ shard. length (at (book_of table shard) token).held) (λ shard below. ap (λ (p : Part). length p.held) (sees (book_of table shard) (inside shard below)))
+
+pub both_count : (table : ShardsState) (one other new : View) → new ≡ map compared (paired joined one other) → count_held table new ≡ count_held table one + count_held table other
+both_count table one other new both =
+    sum_both table.shards (λ shard. length (at (book_of table shard) new).held) (λ shard. length (at (book_of table shard) one).held) (λ shard. length (at (book_of table shard) other).held)
+    (λ shard below. ap (λ (p : Part). length p.held) (joined_at (book_of table shard) one other new both) ∙ length-append (at (book_of table shard) one).held (at (book_of table shard) other).held)
+
+pub reference_count : (table : ShardsState) (books of place : ℕ) (seat token new : View) → ((shard : ℕ) → shard < table.shards → book_of table shard < books) → SeesAll books seat
+    → IsReference of token → of ≡ book_of table place → place < table.shards → new ≡ map compared (paired joined seat token) → count_held table new ≡ 1
+reference_count table books of place seat token new inside sees is numbered there both =
+    let its : count_held table token ≡ 1 = sum_one table.shards place (λ shard. length (at (book_of table shard) token).held) there here else in
+    omega (arith, both_count table seat token new both, none_count table books seat inside sees, its)
+  where
+    part : Part
+    part = holder (log_of of token) ((ticket_at of token, key_at of token) ∷ [])
+
+    here : length (at (book_of table place) token).held ≡ 1
+    here = ap (λ n. length (at n token).held) (sym numbered) ∙ (ap (λ (v : View). length (at of v).held) is ∙ ap (λ (p : Part). length p.held) (at_put of part []))
+
+    differs : (shard : ℕ) → shard ≢ place → book_of table shard ≢ of
+    differs shard apart same = apart (omega (arith, same, numbered))
+
+    else : (shard : ℕ) → shard < table.shards → shard ≢ place → length (at (book_of table shard) token).held ≡ 0
+    else shard below apart = ap (λ (v : View). length (at (book_of table shard) v).held) is ∙ ap (λ (p : Part). length p.held) (at_put_else of (book_of table shard) part [] (differs shard apart))

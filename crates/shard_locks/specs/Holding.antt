@@ -1,5 +1,5 @@
 -- What callers of a table hold who call no more, as one token.
-use Rattle.std.specs.Prelude.{◌≡◌, ℕ, ◌<◌, true}
+use Rattle.std.specs.Prelude.{◌≡◌, ℕ, zero, suc, ◌+◌, ◌<◌, true, length}
 use Rattle.std.specs.List.{AllByRecursion}
 use Rattle.stick_model.specs.Key.{Key}
 use Rattle.shard_record.specs.declared.view.Part.{Part}
@@ -22,3 +22,11 @@ HoldsPassed table limit token = (shard : ℕ) → shard < table.shards → HaveP
 -- how many references of a key a token has on a shard
 abbrev pub held_on : ShardsState → ℕ → Key → View → ℕ
 held_on table shard key token = of_key key (at (book_of table shard) token)
+
+-- how many references a token has of all shards of a table
+abbrev pub sum_to : ℕ → (ℕ → ℕ) → ℕ
+sum_to zero f = 0
+sum_to (suc n) f = sum_to n f + f n
+
+abbrev pub count_held : ShardsState → View → ℕ
+count_held table token = sum_to table.shards (λ shard. length (at (book_of table shard) token).held)

@@ -1,11 +1,11 @@
 //! What callers of a table hold who call no more, as one token: the law of records counts what one token has. What admits a
 //! crowd calls it.
 
-ghost use Rattle.std.specs.Prelude.{◌≡◌, ◌<◌, ℕ, true};
+ghost use Rattle.std.specs.Prelude.{◌≡◌, ◌+◌, ◌<◌, ℕ, true};
 ghost use Rattle.stick_model.specs.Key.{Key};
 ghost use Rattle.shard_record.specs.Calls.{passed_in};
 ghost use Rattle.shard_record.specs.Telling.{log_of};
-ghost use Rattle.shard_locks.specs.Holding.{HoldsPassed};
+ghost use Rattle.shard_locks.specs.Holding.{HoldsPassed, count_held};
 ghost use Rattle.shard_locks.specs.Shared.{WasOut};
 ghost use Rattle.shard_locks.specs.ShardsState.{book_of};
 
@@ -18,6 +18,7 @@ use stick_table::Table;
 impl<T: Table, J: Naming> Shards<T, J> {
     /// What a caller holds who has no reference.
     pub fn held_none(&self, seat: SharedSeat<J>) -> Token<J>
+        ensures none { count_held self.now result ≡ 0 }
         ensures passed { (limit : ℕ) → HoldsPassed self.now limit result }
     {
         let _ = &self.spec;
@@ -28,6 +29,7 @@ impl<T: Table, J: Naming> Shards<T, J> {
     /// all that it holds.
     pub fn held_one(&self, rt: &impl Wait, seat: SharedSeat<J>, reference: SharedRef<J>) -> Token<J>
         requires shard { reference.shard < self.now.shards }
+        ensures one { count_held self.now result ≡ 1 }
         ensures passed { (key : Key) (limit : ℕ) → WasOut (log_of (book_of self.now reference.shard) seat.known) reference.ticket key
             → passed_in key limit (log_of (book_of self.now reference.shard) seat.known) (reference.ticket, key) ≡ true → HoldsPassed self.now limit result }
     {
@@ -41,6 +43,7 @@ impl<T: Table, J: Naming> Shards<T, J> {
 
     /// What two callers hold. Where all that each holds has passed a limit, all that both hold has.
     pub fn held_both(&self, mut first: Token<J>, second: Token<J>) -> Token<J>
+        ensures both { count_held self.now result ≡ count_held self.now first + count_held self.now second }
         ensures passed { (limit : ℕ) → HoldsPassed self.now limit first → HoldsPassed self.now limit second → HoldsPassed self.now limit result }
     {
         self.records.join(&mut first, second);

@@ -1,5 +1,5 @@
 -- A client that comes to a table in shards: what its calls tell of its reference.
-use Rattle.std.proofs.Common.{◌≡◌, ℕ, ◌≤◌, ◌<◌, refl, sym, ap, subst, ◌∙◌, arith, Bool, true, false, cond, nat_le, ◌&&◌, ◌||◌, inl, inr, List, [], ◌∷◌, ◌++◌, Option, Some, None, is_some, Result, Ok, Err}
+use Rattle.std.proofs.Common.{◌≡◌, ℕ, ◌+◌, ◌-◌, ◌^◌, ◌≤◌, ◌<◌, min, refl, sym, ap, subst, ◌∙◌, arith, Bool, true, false, cond, nat_le, ◌&&◌, ◌||◌, inl, inr, List, [], ◌∷◌, ◌++◌, Option, Some, None, is_some, Result, Ok, Err}
 use Rattle.std.specs.List.{list_any}
 use Rattle.std.proofs.lemmas.Bool.{cases_Bool, false≢true}
 use Rattle.std.proofs.lemmas.Bool.Decides.{nat_tests}
@@ -29,10 +29,11 @@ use Rattle.shard_record.proofs.Prefixes.{prefix_trans}
 use Rattle.shard_record.proofs.Records.{history_legal, history_out, looks_append}
 use Rattle.shard_record.proofs.Tickets.{same_self}
 use Rattle.shard_book.specs.SeatState.{RefState}
+use Rattle.shard_locks.specs.Holding.{count_held}
 use Rattle.shard_locks.specs.Shared.{WasOut}
 use Rattle.shard_locks.specs.ShardsState.{ShardsState, book_of}
 use Rattle.shard_locks.proofs.KeyLemmas.{track_out, was_later}
-use Rattle.test_calls.specs.Crowds.{HasPassed, IsTracked}
+use Rattle.test_calls.specs.Crowds.{HasPassed, IsCounted, IsTracked}
 
 -- ---- a reference is made
 
@@ -135,3 +136,13 @@ is_there shards shard row result is strange =
       | inl so ↦ absurd (no_row row (sym is ∙ strange (not_below shards shard so)))
       | inr not_so ↦ below shards shard not_so
     ]
+
+-- ---- two counts
+
+pub both_counted : (table : ShardsState) (one other new : View) (first second all : ℕ) → IsCounted table one first → IsCounted table other second → count_held table new ≡ count_held table one + count_held table other
+    → all ≡ min (first + second) (2 ^ 32 - 1) → IsCounted table new all
+both_counted table one other new first second all counted counts both sum =
+    sum_of (count_held table one) (count_held table other) (count_held table new) first second all counted counts both sum
+  where
+    sum_of : (a b c first second all : ℕ) → first ≡ min a (2 ^ 32 - 1) → second ≡ min b (2 ^ 32 - 1) → c ≡ a + b → all ≡ min (first + second) (2 ^ 32 - 1) → all ≡ min c (2 ^ 32 - 1)
+    sum_of a b c first second all counted counts both sum = omega (arith, counted, counts, both, sum)

@@ -1,10 +1,10 @@
 //! Clients that come to a table in shards at once, each on a thread of its own, and are admitted where a look at their entry
 //! shows few references. What is proved of them is the limit, of all threads together.
 
-ghost use Rattle.std.specs.Prelude.{◌≡◌, ◌<◌, ◌≤◌, ◌^◌, ℕ, true, IfSome};
+ghost use Rattle.std.specs.Prelude.{◌≡◌, ◌+◌, ◌<◌, ◌≤◌, ◌^◌, ℕ, true, IfSome};
 ghost use Rattle.stick_model.specs.Key.{Key as AKey};
-ghost use Rattle.shard_locks.specs.Holding.{HoldsPassed, held_on};
-ghost use Rattle.test_calls.specs.Crowds.{HasPassed, IsJudged, IsTracked};
+ghost use Rattle.shard_locks.specs.Holding.{HoldsPassed, count_held, held_on};
+ghost use Rattle.test_calls.specs.Crowds.{HasPassed, IsCounted, IsJudged, IsTracked};
 
 use shard_locks::{Shards, SharedRef, SharedSeat, Tracking};
 use shard_record::{Naming, Token};
@@ -83,6 +83,8 @@ fn let_go<T: Table, J: Naming>(
 
 /// A client that isn't admitted: it holds nothing.
 fn turned_away<T: Table, J: Naming>(table: &Shards<T, J>, seat: SharedSeat<J>) -> Crowd<J>
+    ensures none { count_held table.now result.held ≡ 0 }
+    ensures counted { IsCounted table.now result.held result.admitted }
     ensures passed { (limit : ℕ) → HoldsPassed table.now limit result.held }
 {
     Crowd {
@@ -101,6 +103,8 @@ fn let_in<T: Table, J: Naming>(
 ) -> Crowd<J>
     requires there { reference.shard < table.now.shards }
     requires passed { HasPassed table.now limit reference seat.known }
+    ensures one { count_held table.now result.held ≡ 1 }
+    ensures counted { IsCounted table.now result.held result.admitted }
     ensures passed { HoldsPassed table.now limit result.held }
 {
     Crowd {
@@ -119,6 +123,7 @@ fn admit_one<T: Table, J: Naming>(
     limit: u32,
 ) -> Crowd<J>
     requires moment { now < 2 ^ 62 }
+    ensures counted { IsCounted table.now result.held result.admitted }
     ensures passed { HoldsPassed table.now limit result.held }
 {
     let Client { mut seat, key } = client;
@@ -139,8 +144,10 @@ fn both<T: Table, J: Naming>(
     second: Crowd<J>,
     limit: u32,
 ) -> Crowd<J>
-    requires first { HoldsPassed table.now limit first.held }
-    requires second { HoldsPassed table.now limit second.held }
+    requires first { IsCounted table.now first.held first.admitted × HoldsPassed table.now limit first.held }
+    requires second { IsCounted table.now second.held second.admitted × HoldsPassed table.now limit second.held }
+    ensures both { count_held table.now result.held ≡ count_held table.now first.held + count_held table.now second.held }
+    ensures counted { IsCounted table.now result.held result.admitted }
     ensures passed { HoldsPassed table.now limit result.held }
 {
     let admitted = first.admitted.saturating_add(second.admitted);
@@ -166,6 +173,7 @@ pub fn admit_all<T: Table + Send, J: Naming + Send + Sync, R: Threads + Wait + S
     limit: u32,
 ) -> Crowd<J>
     requires moment { now < 2 ^ 62 }
+    ensures counted { IsCounted table.now result.held result.admitted }
     ensures passed { HoldsPassed table.now limit result.held }
     ensures limit { (shard : ℕ) → shard < table.now.shards → (key : AKey) → held_on table.now shard key result.held ≤ limit }
 {
@@ -176,11 +184,11 @@ pub fn admit_all<T: Table + Send, J: Naming + Send + Sync, R: Threads + Wait + S
         rt,
         move || -> Crowd<J>
             requires { now < 2 ^ 62 }
-            ensures { HoldsPassed table.entry.now limit result.held }
+            ensures { IsCounted table.entry.now result.held result.admitted × HoldsPassed table.entry.now limit result.held }
         { admit_one(rt, table, first, now, limit) },
         move || -> Crowd<J>
             requires { now < 2 ^ 62 }
-            ensures { HoldsPassed table.entry.now limit result.held }
+            ensures { IsCounted table.entry.now result.held result.admitted × HoldsPassed table.entry.now limit result.held }
         { admit_all(rt, table, next, others, now, limit) },
     );
     both(table, one, more, limit)
