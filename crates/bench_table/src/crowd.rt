@@ -1,21 +1,21 @@
 //! A crowd at a limit. Many threads track one key at once and look at its entry, and who sees more references than the limit
-//! gives its own back. However their calls fall between one another, no more stay than the limit says.
+//! gives its own back. However their calls fall between one another, no more stay than the limit says: `admit_all` ensures it,
+//! and here it runs.
 
 ghost use Rattle.std.specs.Prelude.{◌≡◌};
 ghost use Rattle.test_calls.specs.Planned.{IsNamed};
 
-use crate::locks::{give_back, track_key};
-use shard_locks::{Shards, SharedRef, SharedSeat};
+use shard_locks::{Shards, SharedSeat};
 use shard_record::Naming;
 use std::alloc::Global;
 use std::fmt::{Display, Formatter, Write};
 use std::marker::Brand;
 use std::sync::Wait;
 use std::thread::Threads;
-use std::{fmt, io, thread};
+use std::{fmt, io};
 use stick_pooled::StickTable;
 use stick_table::{Refusal, Table};
-use test_calls::{Planned, Records, key, spec};
+use test_calls::{Client, Planned, Records, admit_all, key, spec};
 
 /// How many clients come at once, each on a thread of its own, and how many of them may stay.
 const CLIENTS: u32 = 16;
@@ -53,53 +53,32 @@ impl Display for Stayed {
     }
 }
 
-/// Whether a look at the entry of a reference shows no more references than may stay.
-fn is_within<T: Table, J: Naming>(
-    rt: &impl Wait,
-    table: &Shards<T, J>,
-    seat: &mut SharedSeat<J>,
-    reference: &SharedRef<J>,
-) -> bool {
-    match table.look(rt, seat, reference, 0) {
-        Ok(row) => row.refs <= LIMIT,
-        Err(_) => false,
-    }
-}
-
-/// A client comes: whether it stays. The reference of one that stays is out until the round ends.
-fn come<T: Table, J: Naming>(
-    rt: &impl Wait,
+/// The clients of a crowd, all of one key, each of whom has a seat.
+fn clients_of<J: Naming>(
     alloc: Global,
-    table: &Shards<T, J>,
-    mut seat: SharedSeat<J>,
-) -> bool {
-    let Ok(key) = key(alloc, 1) else {
-        return false;
-    };
-    let Some(reference) = track_key(rt, table, &mut seat, key) else {
-        return false;
-    };
-    if is_within(rt, table, &mut seat, &reference) {
-        reference.abandon();
-        return true;
+    seats: Vec<SharedSeat<J>>,
+) -> Result<Vec<Client<J>>, Refusal> {
+    let mut clients = Vec::new(alloc);
+    for seat in seats {
+        let key = key(alloc, 1)?;
+        clients.push(Client { seat, key })?;
     }
-    give_back(rt, table, &mut seat, reference);
-    false
+    Ok(clients)
 }
 
-/// How many clients of a crowd stay, each of whom has a seat.
+/// How many clients of a crowd stay, each of whom has a seat. The references of those are out until the round ends.
 fn stay<T: Table + Send, J: Naming + Send + Sync, R: Threads + Wait + Sync>(
     rt: &R,
     alloc: Global,
     table: &Shards<T, J>,
     seats: Vec<SharedSeat<J>>,
 ) -> Result<u32, Refusal> {
-    let came = thread::map_vec(rt, seats, &|seat| come(rt, alloc, table, seat))?;
-    let mut clients = 0u32;
-    for stays in came {
-        clients = clients.saturating_add(u32::from(stays));
-    }
-    Ok(clients)
+    let mut clients = clients_of(alloc, seats)?;
+    let Some(first) = clients.pop() else {
+        return Ok(0);
+    };
+    let crowd = admit_all(rt, table, first, clients, 0, LIMIT);
+    Ok(crowd.admitted)
 }
 
 /// How many references to a table's entries are out.

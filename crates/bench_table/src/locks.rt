@@ -10,7 +10,6 @@ ghost use Rattle.std.specs.Prelude.{◌≡◌, ◌≤◌};
 ghost use Rattle.test_calls.specs.Planned.{IsNamed};
 
 use base_sequence::NoMemory;
-pub use locked::{give_back, track_key};
 use opening::{bare_callers, locked_callers, open_record, open_table};
 use runner::{Timed, Work, measure};
 use shard_locks::{Shards, SharedSeat};

@@ -4,3 +4,5 @@ pub mod ListingLemmas
 pub mod PortLemmas
 pub mod SharedLemmas
 pub mod KeptLemmas
+pub mod KeyLemmas
+pub mod HoldingLemmas

@@ -12,6 +12,7 @@ use Rattle.stick_model.specs.declared.replies.Reply.{Reply}
 use Rattle.stick_model.specs.declared.replies.Reply.TheVariants as replies
 use Rattle.shard_record.specs.declared.view.Call.{Call}
 use Rattle.shard_record.specs.declared.view.Part.{Part}
+use Rattle.shard_record.specs.Calls.{IsHistory, call}
 use Rattle.shard_record.specs.Dealing.{DealerState, SeesAll}
 use Rattle.shard_record.specs.Parts.{holder}
 use Rattle.shard_record.specs.Views.{View, at, only}
@@ -24,6 +25,7 @@ use Rattle.shard_book.specs.Kept.{IsMadeWith}
 use Rattle.shard_book.specs.SeatState.{SeatState, fresh}
 use Rattle.shard_locks.specs.Shared.{AreParts, HasMade, IsGiven, SharedSeatState, seats_of}
 use Rattle.shard_locks.specs.ShardsState.{fresh_seats}
+use Rattle.shard_locks.proofs.KeyLemmas.{knows_is, track_out}
 use Rattle.shard_locks.proofs.ShardsLemmas.{fresh_seats_more}
 
 -- who may be asked without a ticket is asked no release
@@ -52,15 +54,19 @@ reference_is book log ticket key token is =
     (is ∙ ap (λ (p : Part). only book (holder p.log ((ticket_in p.held, key_in p.held) ∷ []))) (sym there), ap (λ (p : Part). ticket_in p.held) (sym there))
 
 -- what comes with the reply to a track
-pub track_given : (book : ℕ) (log : List Call) (now : ℕ) (key : Key) (reply : Reply) (token : View) → token ≡ only book (holder log (tickets_told (Track now key) reply [])) → IsGiven book reply token
-track_given book log now key (replies.Tracked ticket row) token is = reference_is book log ticket row.key token is
-track_given book log now key replies.Absent token is = tt
-track_given book log now key (replies.Row row) token is = tt
-track_given book log now key replies.Full token is = tt
-track_given book log now key replies.NoRefs token is = tt
-track_given book log now key (replies.Value value) token is = tt
-track_given book log now key replies.Released token is = tt
-track_given book log now key _ token is = tt
+pub track_given : (book : ℕ) (log : List Call) (seat now : ℕ) (key : Key) (reply : Reply) (token : View) → IsHistory (log ++ call seat (Track now key) reply ∷ [])
+    → token ≡ only book (holder (log ++ call seat (Track now key) reply ∷ []) (tickets_told (Track now key) reply [])) → IsGiven book reply token
+track_given book log seat now key (replies.Tracked ticket row) token history is =
+    let whole : List Call = log ++ call seat (Track now key) (replies.Tracked ticket row) ∷ [] in
+    let reference = reference_is book whole ticket row.key token is in
+    (reference.0, reference.1, knows_is book whole ticket row.key token is (track_out log seat now key ticket row history))
+track_given book log seat now key replies.Absent token history is = tt
+track_given book log seat now key (replies.Row row) token history is = tt
+track_given book log seat now key replies.Full token history is = tt
+track_given book log seat now key replies.NoRefs token history is = tt
+track_given book log seat now key (replies.Value value) token history is = tt
+track_given book log seat now key replies.Released token history is = tt
+track_given book log seat now key _ token history is = tt
 
 -- ---- what a table begins with
 

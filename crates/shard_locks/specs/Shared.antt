@@ -1,12 +1,17 @@
 -- What a seat of a table that threads share knows, and how a table's books and their records go together.
-use Rattle.std.specs.Prelude.{◌≡◌, ℕ, ◌+◌, ◌<◌, ◌≤◌, ◌^◌, List, [], ◌∷◌, ◌++◌, map}
+use Rattle.std.specs.Prelude.{◌≡◌, ℕ, ◌+◌, ◌<◌, ◌≤◌, ◌^◌, Some, List, [], ◌∷◌, ◌++◌, map}
+use mathlib.Core.List.{IsPrefix}
+use Rattle.stick_model.specs.Key.{Key}
+use Rattle.stick_model.specs.State.{key_of}
+use Rattle.stick_model.specs.declared.rows.Ticket.{Ticket}
 use Rattle.stick_model.specs.declared.specification.Spec.{Spec}
 use Rattle.stick_model.specs.declared.events.Event.{Event}
 use Rattle.stick_model.specs.declared.replies.Reply.{Reply}
 use Rattle.stick_model.specs.declared.replies.Reply.TheVariants.{Tracked}
-use Rattle.shard_record.specs.Calls.{call, calls_by}
+use Rattle.shard_record.specs.declared.view.Call.{Call}
+use Rattle.shard_record.specs.Calls.{call, calls_by, out}
 use Rattle.shard_record.specs.Views.{View}
-use Rattle.shard_record.specs.Telling.{IsReference, KeeperState, log_of, mine_of, number_of, ticket_at}
+use Rattle.shard_record.specs.Telling.{IsReference, KeeperState, key_at, log_of, mine_of, number_of, ticket_at}
 use Rattle.shard_book.specs.BookState.{BookState}
 use Rattle.shard_book.specs.Keeping.{part_of}
 use Rattle.shard_book.specs.Kept.{IsKept, IsMadeWith}
@@ -31,9 +36,17 @@ HasMade book event reply old new = calls_by (number_of book old) (log_of book ne
 abbrev pub IsOfShard : ShardsState → ℕ → View → Type 0
 IsOfShard table shard known = IsMadeWith (part_of table.spec table.shards shard) (log_of (book_of table shard) known)
 
--- a token that came with a reply: where that tells a ticket, it is the token of a reference by that ticket
+-- at some moment of these calls the ticket was out by the key
+abbrev pub WasOut : List Call → Ticket → Key → Type 0
+WasOut log ticket key = (before : List Call) × IsPrefix before log × (key_of ticket (out before) ≡ Some key)
+
+-- as a reference's token knows the record, its ticket was out by its key
+abbrev pub KnowsKey : ℕ → View → Type 0
+KnowsKey book token = WasOut (log_of book token) (ticket_at book token) (key_at book token)
+
+-- a token that came with a reply: where that tells a ticket, it is the token of a reference by that ticket, which knows its key
 abbrev pub IsGiven : ℕ → Reply → View → Type 0
-IsGiven book (Tracked ticket row) token = IsReference book token × (ticket ≡ ticket_at book token)
+IsGiven book (Tracked ticket row) token = IsReference book token × (ticket ≡ ticket_at book token) × KnowsKey book token
 IsGiven book reply token = Unit {0}
 
 -- a table's books have the numbers from `first` on, in a record of so many

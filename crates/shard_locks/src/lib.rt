@@ -2,6 +2,7 @@
 //! call it.
 #![tactic(auto)]
 
+mod holding;
 mod insisting;
 mod listing;
 mod opening;

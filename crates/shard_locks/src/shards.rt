@@ -39,11 +39,11 @@ use stored_data::Act;
 /// each table of its record, and a reference with the table that made it: with another of the record its calls never return.
 #[derive(Drop)]
 pub struct Shards<T: Table, J: Naming> {
-    spec: Spec,
+    pub(crate) spec: Spec,
     /// What each shard was made with: nothing of a book can be lent out of its lock.
     specs: Vec<Spec>,
     keep: bool,
-    records: Arc<Record<J>, Global>,
+    pub(crate) records: Arc<Record<J>, Global>,
     /// The number by which the record has the book of the first shard.
     first: u32,
     pub(crate) books: Locks<T, J>,
@@ -189,7 +189,7 @@ impl<T: Table, J: Naming> Shards<T, J> {
     }
 
     /// The number by which the record has the book of a shard.
-    fn book_of(&self, shard: u32) -> u32
+    pub(crate) fn book_of(&self, shard: u32) -> u32
         requires { shard < self.now.shards }
         ensures book { result ≡ book_of self.now shard }
         ensures inside { result < J.books }
@@ -278,13 +278,18 @@ impl<T: Table, J: Naming> Shards<T, J> {
         }
         let own = self.book_of(shard);
         let ticket = reference.ticket();
-        let (book, token) = reference.into_token();
+        let (book, mut token) = reference.into_token();
         insist(rt, book == own);
+        // What it knows of its key would go with it.
+        let known = self.records.part_keeper(&mut token, book);
         let mut kept = self.books[shard as usize].lock(rt);
         insist(rt, kept.is_of(book));
         match seat.give_back(&mut kept, &self.records, token, shard, now, ticket) {
             Ok(()) => Ok(()),
-            Err((token, refusal)) => Err((SharedRef::new(shard, book, ticket, token), refusal)),
+            Err((mut token, refusal)) => {
+                self.records.join(&mut token, known);
+                Err((SharedRef::new(shard, book, ticket, token), refusal))
+            }
         }
     }
 

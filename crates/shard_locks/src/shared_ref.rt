@@ -2,6 +2,7 @@
 
 ghost use Rattle.std.specs.Prelude.{◌≡◌};
 ghost use Rattle.shard_record.specs.Telling.{IsReference, ticket_at};
+ghost use Rattle.shard_locks.specs.Shared.{KnowsKey};
 
 use shard_record::{Naming, Token};
 use std::marker::Model;
@@ -21,12 +22,14 @@ impl<J: Naming> Model for SharedRef<J> {
     ghost use Rattle.std.specs.Prelude.{◌≡◌};
     ghost use Rattle.shard_record.specs.Telling.{IsReference, ticket_at};
     ghost use Rattle.shard_book.specs.SeatState.{RefState};
+    ghost use Rattle.shard_locks.specs.Shared.{KnowsKey};
 
     ghost Value = { RefState };
 
     ghost view = { λ reference. record { shard = reference.shard; ticket = reference.ticket } };
 
-    ghost invariant = { λ reference. IsReference reference.book reference.token × (reference.ticket ≡ ticket_at reference.book reference.token) };
+    ghost invariant = { λ reference. IsReference reference.book reference.token × (reference.ticket ≡ ticket_at reference.book reference.token)
+        × KnowsKey reference.book reference.token };
 }
 
 impl<J: Naming> SharedRef<J> {
@@ -34,6 +37,7 @@ impl<J: Naming> SharedRef<J> {
     pub(crate) fn new(shard: u32, book: u32, ticket: Ticket, token: Token<J>) -> SharedRef<J>
         requires reference { IsReference book token }
         requires ticket { ticket ≡ ticket_at book token }
+        requires known { KnowsKey book token }
         ensures { result ≡ record { shard = shard; ticket = ticket } }
     {
         SharedRef {
@@ -67,6 +71,7 @@ impl<J: Naming> SharedRef<J> {
     pub(crate) fn into_token(self) -> (u32, Token<J>)
         ensures reference { IsReference result.0 result.1 }
         ensures ticket { self.ticket ≡ ticket_at result.0 result.1 }
+        ensures known { KnowsKey result.0 result.1 }
     {
         let SharedRef {
             shard: _,

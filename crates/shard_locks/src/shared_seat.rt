@@ -57,6 +57,15 @@ impl<J: Naming> SharedSeat<J> {
         &self.seat
     }
 
+    /// The token by which its calls were noted: it calls no more.
+    pub(crate) fn into_token(self) -> Token<J>
+        ensures known { result ≡ self.known }
+        ensures sees { SeesAll J.books result }
+    {
+        let SharedSeat { seat: _, token } = self;
+        token
+    }
+
     /// Has a book answer an event that is no release, as `Kept::serve` does: what is done under the shard's lock.
     pub(crate) fn ask<T: Table>(
         &mut self,

@@ -6,12 +6,15 @@
 //!
 //! Worlds of connections from a few addresses under one limit, and what is counted of them: for the same program, whose
 //! allocations are refused in turn, and for `test_script`. They stand apart so that they are proved once for both.
+//!
+//! Crowds of clients of such a table, each on a thread of its own, which are admitted at a limit: for `bench_table`.
 #![tactic(auto)]
 
 mod asking;
 mod books;
 mod caller;
 mod counts;
+mod crowds;
 mod draws;
 mod purse;
 mod random_numbers;
@@ -24,6 +27,7 @@ pub use asking::{ask, ticket_of};
 pub use books::books_of;
 pub use caller::{Caller, Drawing, Held};
 pub use counts::{admitted, go_on, held, open_world, out, phase, visit};
+pub use crowds::{Client, Crowd, admit_all};
 pub use draws::{event, key, spec};
 pub use purse::{Purse, abandon_all, references_of};
 pub use random_numbers::Random;

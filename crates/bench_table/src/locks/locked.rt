@@ -30,7 +30,7 @@ fn reference_of<J: Naming>(tracking: Tracking<SharedRef<J>>) -> Option<SharedRef
 }
 
 /// Tracks a key.
-pub fn track_key<T: Table, J: Naming>(
+fn track_key<T: Table, J: Naming>(
     rt: &impl Wait,
     table: &Shards<T, J>,
     seat: &mut SharedSeat<J>,
@@ -43,7 +43,7 @@ pub fn track_key<T: Table, J: Naming>(
 }
 
 /// Gives a reference back; answers whether it was taken.
-pub fn give_back<T: Table, J: Naming>(
+fn give_back<T: Table, J: Naming>(
     rt: &impl Wait,
     table: &Shards<T, J>,
     seat: &mut SharedSeat<J>,
