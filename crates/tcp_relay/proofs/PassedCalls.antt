@@ -29,12 +29,11 @@ use Rattle.shard_record.proofs.Prefixes.{prefix_self, prefix_trans}
 use Rattle.shard_record.proofs.Records.{history_legal, history_out}
 use Rattle.shard_record.proofs.Tickets.{same_self}
 use Rattle.rule_eval.specs.Readings.{value_in}
-use Rattle.tcp_relay.specs.Passed.{WasOut, shows_few}
+use Rattle.shard_locks.specs.Shared.{WasOut}
+use Rattle.shard_locks.proofs.KeyLemmas.{track_out as row_out}
+use Rattle.tcp_relay.specs.Passed.{shows_few}
 
 -- ---- as calls are added
-
-pub was_out_later : (log later : List Call) (ticket : Ticket) (key : Key) → IsPrefix log later → WasOut log ticket key → WasOut later ticket key
-was_out_later log later ticket key begins was = (was.0, prefix_trans was.0 log later was.1 begins, was.2)
 
 any_append : {X : Type 0} (p : X → Bool) (xs ys : List X) → list_any p xs ≡ true → list_any p (xs ++ ys) ≡ true
 any_append p [] ys is = absurd (false≢true is)
@@ -90,9 +89,7 @@ unfolding ended
 track_out log seat now key given row is =
     let whole : List Call = log ++ call seat (Track now key) (Tracked given row) ∷ [] in
     let end = ended log seat (Track now key) (Tracked given row) is in
-    let gives : key_of given end.live.tickets ≡ Some row.key = step_gives_ticket end.before (Track now key) given row end.live (orderly-from_legal end.before (history_legal log end.before end.history)) end.answers.step in
-    let of_key : row.key ≡ key = track_key end.before now key given row end.live end.answers.step in
-    (whole, prefix_self whole, ap (key_of given) (sym (history_out whole is.0 is.1)) ∙ gives ∙ ap Some of_key)
+    subst (WasOut whole given) (track_key end.before now key given row end.live end.answers.step) (row_out log seat now key given row is)
 
 -- ---- a look
 

@@ -32,8 +32,10 @@ use Rattle.rule_eval.specs.declared.wants.Samples.{Samples}
 use Rattle.rule_eval.specs.declared.wants.Answer.TheVariants as answers
 use Rattle.admit_core.specs.Connection.{Connection}
 use Rattle.admit_port.specs.Calls.{AnswersAt, Call}
-use Rattle.tcp_relay.specs.Passed.{WasOut, known_of, shows_few}
-use Rattle.tcp_relay.proofs.PassedCalls.{any_later, look_few, track_out, was_out_later}
+use Rattle.shard_locks.specs.Shared.{WasOut}
+use Rattle.shard_locks.proofs.KeyLemmas.{was_later}
+use Rattle.tcp_relay.specs.Passed.{known_of, shows_few}
+use Rattle.tcp_relay.proofs.PassedCalls.{any_later, look_few, track_out}
 use Rattle.tcp_relay.proofs.PassedHeld.{IsJudged}
 use Rattle.tcp_relay.proofs.PassedTold.{get_set_other, get_set_same, other_same, told_grows, told_history}
 
@@ -168,7 +170,7 @@ module _ (old new : List SeatedState) (asked : Call) (reply : Reply) (answers_it
         on_shard = seen.on_shard;
         history = grown.history seen.history;
         made = grown.made seen.made;
-        of_key = was_out_later (known_of seen.seat entry.1.shard) (known_of grown.later entry.1.shard) entry.1.ticket key grown.more seen.of_key;
+        of_key = was_later (known_of seen.seat entry.1.shard) (known_of grown.later entry.1.shard) entry.1.ticket key grown.more seen.of_key;
       }
 
   pub looked_still : (setup : Setup) (key : Key) (entry : ℕ × RefState) (limit : ℕ) (seen : IsSeen setup old key entry) → has_looked limit seen ≡ true → has_looked limit (seen_still setup key entry seen) ≡ true
@@ -214,7 +216,7 @@ told_look setup old new entry now limit key row by was seen few =
     let number = number_of book by.before.known in
     let its : was.seat ≡ by.before = same_seat was.seat by.before (sym was.at ∙ by.at) in
     let out : WasOut known entry.1.ticket key = subst (λ (s : SeatedState). WasOut (known_of s entry.1.shard) entry.1.ticket key) its was.of_key in
-    let out_then : WasOut (known ++ told_so.between) entry.1.ticket key = was_out_later known (known ++ told_so.between) entry.1.ticket key (told_so.between, refl) out in
+    let out_then : WasOut (known ++ told_so.between) entry.1.ticket key = was_later known (known ++ told_so.between) entry.1.ticket key (told_so.between, refl) out in
     let looked = look_few (known ++ told_so.between) number now limit entry.1.ticket key row (subst IsHistory told_so.log told_so.history) out_then few in
     let now_it : seen.seat ≡ by.after = same_seat seen.seat by.after (sym seen.at ∙ after_at old new asked (replies.Row row) by) in
     let knows : known_of seen.seat entry.1.shard ≡ (known ++ told_so.between) ++ call number look (replies.Row row) ∷ [] =

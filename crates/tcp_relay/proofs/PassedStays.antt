@@ -29,7 +29,8 @@ use Rattle.admit_port.specs.declared.moved.Rested.{Rested}
 use Rattle.admit_port.specs.declared.moved.Rested.TheVariants.{Still, Kept as RestsKept}
 use Rattle.tcp_relay.specs.Passed.{HasPassed, HasPassedBy, HasPassedLimits, HavePassedStill, PassedStaysLaw, known_of, shows_few}
 use Rattle.tcp_relay.specs.Seating.{StoreAs}
-use Rattle.tcp_relay.proofs.PassedCalls.{any_later, was_out_later}
+use Rattle.shard_locks.proofs.KeyLemmas.{was_later}
+use Rattle.tcp_relay.proofs.PassedCalls.{any_later}
 use Rattle.tcp_relay.proofs.PassedSeats.{seats_grow, tables_stay}
 
 -- by more calls of the same table
@@ -39,7 +40,7 @@ has_later shards limit key log later reference begins history has =
     record {
       history = history;
       on_shard = has.on_shard;
-      of_key = was_out_later log later reference.ticket key begins has.of_key;
+      of_key = was_later log later reference.ticket key begins has.of_key;
       looked = looked;
       passed = passed_later key limit log later (reference.ticket, key) begins has.passed;
     }

@@ -1,21 +1,21 @@
 -- What the reference of an admitted connection has had, by the record of its shard's book; and of all that a worker holds.
 use Rattle.std.specs.Prelude.{◌≡◌, ℕ, nat_le, Bool, true, false, ◌&&◌, Option, Some, List, slice_get}
 use Rattle.std.specs.List.{list_any}
-use mathlib.Core.List.{IsPrefix}
 use Rattle.stored_data.specs.declared.datum.Datum.TheVariants.{ConnCur}
 use Rattle.stick_key.specs.Shard.{shard}
 use Rattle.stick_model.specs.Key.{Key, same_key}
-use Rattle.stick_model.specs.State.{key_of, same_ticket}
+use Rattle.stick_model.specs.State.{same_ticket}
 use Rattle.stick_model.specs.declared.rows.Ticket.{Ticket}
 use Rattle.stick_model.specs.declared.events.Event.{Event}
 use Rattle.stick_model.specs.declared.events.Event.TheVariants.{Look}
 use Rattle.stick_model.specs.declared.replies.Reply.{Reply}
 use Rattle.stick_model.specs.declared.replies.Reply.TheVariants.{Row as ARow}
 use Rattle.shard_record.specs.declared.view.Call.{Call}
-use Rattle.shard_record.specs.Calls.{IsHistory, out, passed_in}
+use Rattle.shard_record.specs.Calls.{IsHistory, passed_in}
 use Rattle.shard_record.specs.Telling.{log_of}
 use Rattle.shard_book.specs.SeatState.{RefState}
 use Rattle.shard_locks.specs.Ported.{seated_meaning}
+use Rattle.shard_locks.specs.Shared.{WasOut}
 use Rattle.shard_locks.specs.ShardsState.{SeatedState, book_of}
 use Rattle.rule_model.specs.declared.actions.KeyExpression.TheVariants as keys
 use Rattle.rule_model.specs.declared.actions.Slot.TheVariants.{Sc0}
@@ -32,10 +32,6 @@ use Rattle.admit_port.specs.Moves.{Moves}
 use Rattle.admit_port.specs.declared.moved.Moved.{Moved}
 
 -- ---- of the calls of a book
-
--- at some moment of these calls the ticket was out by the key
-abbrev pub WasOut : List Call → Ticket → Key → Type 0
-WasOut log ticket key = (before : List Call) × IsPrefix before log × (key_of ticket (out before) ≡ Some key)
 
 -- whether a call is a look by the ticket, whose row is of the key and shows at most so many current connections
 abbrev pub few_in : Key → ℕ → Ticket → Event → Reply → Bool
