@@ -115,9 +115,11 @@ looked_is table limit now reference row old new told few tracked =
     let whole : List Call = before ++ call seat (Look now reference.ticket) (ARow row) ∷ [] in
     let was : WasOut before reference.ticket key = was_later (log_of book old) before reference.ticket key (told.between, refl) tracked.1 in
     let of_key : row.key ≡ key = look_key before seat now reference.ticket key row (subst IsHistory told.log told.history) was in
-    let passed : passed_in key limit whole (reference.ticket, key) ≡ true = passed_last key limit seat now reference.ticket row before of_key few in
-    (key, subst (λ log. WasOut log reference.ticket key) (sym told.log) (was_later before whole reference.ticket key (call seat (Look now reference.ticket) (ARow row) ∷ [], refl) was),
-      subst (λ log. passed_in key limit log (reference.ticket, key) ≡ true) (sym told.log) passed)
+    let passed : passed_in key limit whole (reference.ticket, key) ≡ true = passed_last key limit seat now reference.ticket row before of_key few in (
+      key,
+      subst (λ log. WasOut log reference.ticket key) (sym told.log) (was_later before whole reference.ticket key (call seat (Look now reference.ticket) (ARow row) ∷ [], refl) was),
+      subst (λ log. passed_in key limit log (reference.ticket, key) ≡ true) (sym told.log) passed,
+    )
 
 -- ---- its shard is one of the table's
 
