@@ -1,7 +1,7 @@
 //! A listener, and what is served there.
 
-ghost use Rattle.std.specs.Prelude.{◌≡◌, All, IfSome, length, vec_len};
-ghost use Rattle.tcp_relay.specs.Serving.{AreSeats};
+ghost use Rattle.std.specs.Prelude.{◌≡◌, ◌<◌, true, All, IfSome, length, vec_len};
+ghost use Rattle.tcp_relay.specs.Serving.{AreSeats, AreTablesOf};
 
 use crate::setups::setup;
 use crate::tables::give_up;
@@ -17,6 +17,7 @@ use std::sync::Wait;
 use std::thread::Threads;
 use std::time::{Clock, Instant};
 use stick_table::PlainTable;
+use stored_data::Column;
 use tcp_link::Timeouts;
 use tcp_relay::{Control, Drain, FaultKind, Gate, Limits, Listener, ServeFault, Served, serve};
 use tcp_stats::{Cells, Counts, Gauge};
@@ -210,8 +211,35 @@ fn of_one<J: Naming + Send + Sync>(
     }
 }
 
+/// Whether two tables store the same.
+fn is_stored_alike(columns: &[Column], others: &[Column]) -> bool
+    ensures { result ≡ true → columns.now ≡ others.now }
+{
+    columns == others
+}
+
+/// Whether a table stores what is said.
+fn stores<J: Naming>(table: &Shards<PlainTable, J>, declared: &[Column]) -> bool
+    requires shards { 0 < table.now.shards }
+    ensures { result ≡ true → table.now.spec.columns ≡ declared.now }
+{
+    is_stored_alike(table.spec(0).columns.columns(), declared)
+}
+
+/// Whether the only table is that of a setup: in one shard, and with the columns that the setup says.
+fn is_of_setup<J: Naming>(setup: &Setup, tables: &[Shards<PlainTable, J>]) -> bool
+    requires one { length tables.now ≡ 1 }
+    requires shards { All (λ table. table.shards ≡ 1) tables.now }
+    ensures { result ≡ true → AreTablesOf setup.now tables.now }
+{
+    if setup.tables.as_slice().len() != 1 || setup.shards != 1 {
+        return false;
+    }
+    let declared = setup.tables.as_slice()[0].spec.columns.columns();
+    stores(&tables[0], declared)
+}
+
 /// Serves so many connections on two threads over one table.
-#[tactic(auto, using(crate::proofs::PlanLemmas::stored_alone))]
 fn serve_among<
     J: Naming + Send + Sync,
     R: Net<Listener = TcpListener, Stream = TcpStream> + Threads + Wait + Clock + Sync,
@@ -229,11 +257,7 @@ fn serve_among<
     requires seats { AreSeats 1 2 seats }
 {
     let setup = &site.setup;
-    if setup.server.is_none() || setup.tables.as_slice().len() != 1 || setup.shards != 1 {
-        return None;
-    }
-    let declared = setup.tables.as_slice()[0].spec.columns.columns();
-    if tables[0].spec(0).columns.columns() != declared {
+    if setup.server.is_none() || !is_of_setup(setup, tables) {
         return None;
     }
     match serve(
