@@ -1,7 +1,6 @@
 -- One round more of housekeeping.
-use Rattle.std.proofs.Common.{◌≡◌, ℕ, suc, ◌+◌, ◌-◌, ◌*◌, ◌/◌, ◌^◌, ◌<◌, ◌≤◌, min, List, length, get_or, Some, sym, ap, ◌∙◌, subst, arith}
+use Rattle.std.proofs.Common.{◌≡◌, ℕ, suc, ◌+◌, ◌-◌, ◌^◌, ◌<◌, min, List, length, get_or, Some, sym, ap, ◌∙◌, subst, arith}
 use Rattle.std.specs.Prelude.{slice_get}
-use Rattle.std.proofs.Math.Nat.{div-mul-le_self, mul-le-mul_left}
 use Rattle.std.proofs.lemmas.Option.{slice_get-get_or}
 use Rattle.shard_locks.specs.ShardsState.{ShardsState}
 use Rattle.shard_housekeeping.specs.Keeping.{ByFirst, KeepsRound, RoundState}
@@ -23,13 +22,3 @@ pub rounds_more : {C : Type 0} (shows : C → ℕ → C → Type 0) (tables : Li
     → (n : ℕ) × (after ≡ min n (2 ^ 64 - 1)) × ByFirst (λ round. KeepsRound shows tables) n first new
 rounds_more shows tables count counted after first old new is then before here =
     (count + 1, more_counted count counted after is then, by_first_more (λ round. KeepsRound shows tables) count first old new before here)
-
--- so many calls take no more bytes than a table
-pub within_table : (size width words entry bytes result : ℕ) → words ≡ min (width * 8) (2 ^ 64 - 1) → entry ≡ min (words + 110) (2 ^ 64 - 1) → bytes ≡ min (size * entry) (2 ^ 64 - 1) → result ≤ bytes / 48
-    → result * 48 ≤ size * (110 + 8 * width)
-within_table size width words entry bytes result words_are entry_is bytes_are least =
-    let each : entry ≤ 110 + 8 * width = omega (arith, words_are, entry_is) in
-    let all : size * entry ≤ size * (110 + 8 * width) = mul-le-mul_left size each in
-    let some : bytes ≤ size * entry = omega (arith, bytes_are) in
-    let whole : bytes / 48 * 48 ≤ bytes = div-mul-le_self bytes 48 in
-    omega (arith, all, some, whole, least)
