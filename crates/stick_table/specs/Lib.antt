@@ -2,3 +2,5 @@ pub mod Invariant
 pub mod Replies
 pub mod Purging
 pub mod References
+pub mod Packing
+pub mod Forms

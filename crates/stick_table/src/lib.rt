@@ -3,11 +3,15 @@
 //! The plain one goes over all its records at each event. The types and the definitions are those of `stick_model`.
 #![tactic(auto)]
 
+mod base;
+mod packing;
 mod plain;
 mod redoing;
 mod running;
 mod tables;
 
+pub use base::Base;
+pub use packing::{Head, PackedTable};
 pub use plain::PlainTable;
 pub use redoing::redo_all;
 pub use running::run;

@@ -13,14 +13,15 @@ mod tickets;
 ghost use Rattle.std.specs.Prelude.{◌≡◌, ◌+◌, ◌<◌, ◌^◌};
 ghost use Rattle.std.specs.Option.{option_map};
 
-use crate::Table;
+use crate::{Base, Table};
 use base_sequence::NoMemory;
 use records::copy_records;
 use std::alloc::Global;
 use std::marker::Model;
 use stick_key::StickKey;
 use stick_model::{Event, Record, Refusal, Reply, Spec, Stored, Ticket};
-use tickets::{copy_tickets, find_key, free_slot};
+pub(crate) use tickets::copy_tickets;
+use tickets::{find_key, free_slot};
 
 /// A table that goes over all its records at each event.
 #[derive(Drop)]
@@ -50,7 +51,7 @@ impl PlainTable {
     ghost use Rattle.std.specs.Prelude.{◌≡◌, ◌≤◌, ◌^◌, ◌↔◌, IsTrue, IfOk, IsOk, IfErr, OnOk, OnErr, MatchOption, true, false};
     ghost use Rattle.stick_model.specs.State.{empty_table};
     ghost use Rattle.stick_table.specs.Invariant.{IsBounded};
-    ghost use Rattle.stick_model.specs.Limits.{IsTableEvent};
+    ghost use Rattle.stick_model.specs.Limits.{IsTableEvent, IsTableSpec};
     ghost use Rattle.stick_model.specs.Refusals.{IsRefused, has_life as has_life_for, takes_memory};
     ghost use Rattle.stick_model.specs.Run.{CanRedo, redone};
     ghost use Rattle.stick_model.specs.Step.{Step, MayTrack, is_out as is_event_out, is_free_slot, after};
@@ -106,6 +107,29 @@ impl PlainTable {
         ensures { IsTrue result ↔ (self.now ≡ empty_table self.now.spec) }
     {
         self.clock == 0 && self.events == 0 && self.records.is_empty() && self.tickets.is_empty()
+    }
+
+    /// What it was made with.
+    pub(crate) fn made_with(&self) -> &Spec
+        ensures spec { result.now ≡ self.now.spec }
+        ensures limits { IsTableSpec result.now }
+    {
+        &self.spec
+    }
+
+    /// An equal table.
+    pub(crate) fn copied(&self) -> Result<PlainTable, NoMemory>
+        ensures { IfOk result (λ table. table ≡ self.now) }
+    {
+        Ok(PlainTable {
+            alloc: self.alloc,
+            spec: self.spec.copy()?,
+            clock: self.clock,
+            events: self.events,
+            records: copy_records(self.alloc, &self.records)?,
+            tickets: copy_tickets(self.alloc, &self.tickets)?,
+            purged: self.purged,
+        })
     }
 
     /// The step of a stored event once more: a reference that it makes gets the slot that the call names. Refused as
@@ -206,7 +230,7 @@ impl PlainTable {
 }
 
 /// The date of what is refreshed at a moment.
-fn date_after(expire: Option<u32>, clock: u64) -> Option<u64>
+pub(crate) fn date_after(expire: Option<u32>, clock: u64) -> Option<u64>
     requires { clock < 2 ^ 62 }
     ensures { result ≡ option_map (λ life. clock + life) expire }
 {
@@ -253,15 +277,11 @@ impl Table for PlainTable {
         self.purged
     }
 
+    fn to_base(&self) -> Result<Base, NoMemory> {
+        Ok(Base::of_plain(self.copied()?))
+    }
+
     fn to_plain(&self) -> Result<PlainTable, NoMemory> {
-        Ok(PlainTable {
-            alloc: self.alloc,
-            spec: self.spec.copy()?,
-            clock: self.clock,
-            events: self.events,
-            records: copy_records(self.alloc, &self.records)?,
-            tickets: copy_tickets(self.alloc, &self.tickets)?,
-            purged: self.purged,
-        })
+        self.copied()
     }
 }

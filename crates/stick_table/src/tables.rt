@@ -6,7 +6,7 @@ ghost use Rattle.stick_model.specs.Step.{Step};
 ghost use Rattle.stick_model.specs.Refusals.{IsRefused, has_life};
 ghost use Rattle.stick_model.specs.Limits.{IsTableSpec, IsTableEvent};
 
-use crate::PlainTable;
+use crate::{Base, PlainTable};
 use base_sequence::NoMemory;
 use std::alloc::Global;
 use stick_model::{Event, Refusal, Reply, Spec};
@@ -53,6 +53,10 @@ pub trait Table: Drop {
 
     /// How many entries went to make room for others since it was opened, modulo 2^64. No clause says it, as its state doesn't tell.
     fn purged(&self) -> u64;
+
+    /// What it is now, to be a base. It takes as little memory as this kind of table can, and as little time.
+    fn to_base(&self) -> Result<Base, NoMemory>
+        ensures { IfOk result (λ base. base ≡ state self.now) };
 
     /// A plain table in the same state.
     fn to_plain(&self) -> Result<PlainTable, NoMemory>
