@@ -14,12 +14,12 @@ use base_sequence::NoMemory;
 use std::alloc::Global;
 use std::marker::Model;
 use std::mem;
-use stick_table::{Event, PlainTable, Refusal, Reply, Spec, Table};
+use stick_table::{Base, Event, PlainTable, Refusal, Reply, Spec, Table};
 
 /// A table, what it was at its base, and the calls recorded since: those that were answered, in their order.
 #[derive(Drop)]
 pub struct Book<T: Table> {
-    base: PlainTable,
+    base: Base,
     calls: Vec<Recorded>,
     live: T,
     /// How many tickets are out. The record keeps a place for the release of each.
@@ -48,7 +48,7 @@ impl<T: Table> Book<T> {
         let base = PlainTable::open(alloc, spec.copy()?)?;
         let live = T::open(alloc, spec)?;
         Ok(Book {
-            base,
+            base: Base::of_plain(base),
             calls: Vec::new(alloc),
             live,
             out: 0,
@@ -139,15 +139,15 @@ impl<T: Table> Book<T> {
     }
 
     /// Makes the live state the base, and empties the record. The record's memory stays, and so its places for the
-    /// releases of the tickets that are out. The table is copied: of 100,000 entries that takes some ms. The base before comes
+    /// releases of the tickets that are out. The table is copied, as `Table::to_base` does. The base before comes
     /// back, so that whoever holds a lock can drop it behind that. Where a growth is refused, nothing changes.
-    pub fn roll(&mut self) -> Result<PlainTable, NoMemory>
+    pub fn roll(&mut self) -> Result<Base, NoMemory>
         ensures book { IsBook self.new }
         ensures ok { OnOk result (self.new ≡ rolled self.old) }
         ensures before { IfOk result (λ base. base ≡ self.old.base) }
         ensures err { OnErr result (self.new ≡ self.old) }
     {
-        let base = self.live.to_plain()?;
+        let base = self.live.to_base()?;
         let before = mem::replace(&mut self.base, base);
         self.calls.clear();
         Ok(before)
@@ -182,7 +182,7 @@ impl<T: Table> Book<T> {
     }
 
     /// The table from which the record begins.
-    pub fn base(&self) -> &PlainTable
+    pub fn base(&self) -> &Base
         ensures base { result.now ≡ self.now.base }
         ensures book { IsBook self.now }
     {

@@ -32,3 +32,4 @@ pub mod SlotLemmas
 pub mod StoreCountLemmas
 pub mod PlaceLemmas
 pub mod TicketThreads
+pub mod PackLemmas

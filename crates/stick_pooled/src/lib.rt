@@ -11,6 +11,7 @@ mod filters;
 mod listing;
 mod looks;
 mod numbers;
+mod packing;
 mod pairs;
 mod plain_copy;
 mod references;
@@ -27,7 +28,7 @@ use entry_store::Store;
 use std::alloc::Global;
 use std::marker::Model;
 use stick_model::{Event, Refusal, Reply, Spec};
-use stick_table::{PlainTable, Table};
+use stick_table::{Base, PlainTable, Table};
 use ticket_book::TicketBook;
 
 /// A table in which an event of one key costs the same whatever its size. `open` takes the memory of its whole size;
@@ -100,6 +101,10 @@ impl Table for StickTable {
 
     fn purged(&self) -> u64 {
         self.store.purged()
+    }
+
+    fn to_base(&self) -> Result<Base, NoMemory> {
+        self.pack()
     }
 
     fn to_plain(&self) -> Result<PlainTable, NoMemory> {

@@ -1,4 +1,4 @@
-//! A plain table in the same state; `StickTable::to_plain` calls it for rolls and for settling.
+//! A plain table in the same state; `StickTable::to_plain` calls it for settling and for commands.
 ghost use Rattle.std.specs.Prelude.{◌≡◌, ℕ, ◌+◌, ◌<◌, ◌^◌, IfOk, IsSome, length, map};
 ghost use Rattle.std.specs.List.{AllByRecursion};
 ghost use Rattle.std.specs.Option.{option_map};
@@ -89,7 +89,7 @@ fn copy_records(
 }
 
 /// The tickets with the keys of their entries, the oldest first.
-fn copy_tickets(
+pub(crate) fn copy_tickets(
     alloc: Global,
     store: &Store,
     book: &TicketBook,

@@ -102,6 +102,7 @@ fn clear_in(words: &mut Vec<u64>, at: usize, width: usize, columns: &[Column])
 impl Rows {
     ghost use Rattle.std.specs.Prelude.{◌≡◌, ◌<◌, length, IfOk};
     ghost use Rattle.stored_data.specs.Acts.{acted, answer, value_at, with_value, zero_of};
+    ghost use Rattle.stored_data.specs.Words.{width as specified_width, fields_in};
     ghost use Rattle.stick_pooled.specs.Grid.{row_at, with_row, zero_rows};
 
     /// So many rows of these columns with nothing counted. It takes the memory of them all.
@@ -180,6 +181,15 @@ impl Rows {
             now,
             act,
         )
+    }
+
+    /// The words of a row.
+    pub fn row(&self, at: u32) -> &[u64]
+        requires { at < length self.now.rows }
+        ensures data { fields_in self.now.columns result.now ≡ row_at self.now at }
+        ensures sized { length result.now ≡ specified_width self.now.columns }
+    {
+        row_in(self.words.as_slice(), at as usize, self.width)
     }
 
     /// A copy of a row, where there is memory.

@@ -9,7 +9,7 @@ invariant_of-result g c =
     let base_is : c.in_ok-base.base ≡ empty_table c.args.spec = c.in_ok-base.ensures.empty ∙ ap empty_table c.in_ok-copy.ensures in
     let live_is : live ≡ empty_table c.args.spec = c.in_ok-live.ensures.empty in
     let within : vec_len c.new.result ≤ vec_capacity c.new.result = omega (arith, c.new.ensures.len) in (
-      empty_is_book c.args.spec c.in_ok-base.base live c.new.result.items c.requires base_is c.new.ensures.items live_is,
+      empty_is_book c.args.spec c.of_plain.result live c.new.result.items c.requires (c.of_plain.ensures ∙ base_is) c.new.ensures.items live_is,
       empty_has_places c.args.spec live (vec_len c.new.result) (vec_capacity c.new.result) live_is within,
     )
 
@@ -17,4 +17,4 @@ pub returns-clause-book : goal.returns-clause-book
 returns-clause-book g c =
     let live : State = g.T.Table.state c.in_ok-live.live in
     let base_is : c.in_ok-base.base ≡ empty_table c.args.spec = c.in_ok-base.ensures.empty ∙ ap empty_table c.in_ok-copy.ensures in
-    empty_is_book c.args.spec c.in_ok-base.base live c.new.result.items c.requires base_is c.new.ensures.items c.in_ok-live.ensures.empty
+    empty_is_book c.args.spec c.of_plain.result live c.new.result.items c.requires (c.of_plain.ensures ∙ base_is) c.new.ensures.items c.in_ok-live.ensures.empty
