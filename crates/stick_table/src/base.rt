@@ -1,8 +1,6 @@
 //! A table as it was at a moment: books begin their records with one, and tables make it.
 
-ghost use Rattle.std.specs.Prelude.{◌≡◌};
-
-use crate::{PackedTable, PlainTable};
+use crate::{PackedTable, PlainTable, Table};
 use base_sequence::NoMemory;
 use std::marker::Model;
 use stick_key::StickKey;
@@ -60,7 +58,7 @@ impl Base {
         ensures limits { IsTableSpec result.now }
     {
         match &self.form {
-            Form::Plain(table) => table.made_with(),
+            Form::Plain(table) => table.spec(),
             Form::Packed(table) => table.spec(),
         }
     }
@@ -101,7 +99,7 @@ impl Base {
         ensures { IfOk result (λ table. table ≡ self.now) }
     {
         match &self.form {
-            Form::Plain(table) => table.copied(),
+            Form::Plain(table) => table.to_plain(),
             Form::Packed(table) => table.to_plain(),
         }
     }

@@ -51,7 +51,7 @@ impl PlainTable {
     ghost use Rattle.std.specs.Prelude.{◌≡◌, ◌≤◌, ◌^◌, ◌↔◌, IsTrue, IfOk, IsOk, IfErr, OnOk, OnErr, MatchOption, true, false};
     ghost use Rattle.stick_model.specs.State.{empty_table};
     ghost use Rattle.stick_table.specs.Invariant.{IsBounded};
-    ghost use Rattle.stick_model.specs.Limits.{IsTableEvent, IsTableSpec};
+    ghost use Rattle.stick_model.specs.Limits.{IsTableEvent};
     ghost use Rattle.stick_model.specs.Refusals.{IsRefused, has_life as has_life_for, takes_memory};
     ghost use Rattle.stick_model.specs.Run.{CanRedo, redone};
     ghost use Rattle.stick_model.specs.Step.{Step, MayTrack, is_out as is_event_out, is_free_slot, after};
@@ -107,29 +107,6 @@ impl PlainTable {
         ensures { IsTrue result ↔ (self.now ≡ empty_table self.now.spec) }
     {
         self.clock == 0 && self.events == 0 && self.records.is_empty() && self.tickets.is_empty()
-    }
-
-    /// What it was made with.
-    pub(crate) fn made_with(&self) -> &Spec
-        ensures spec { result.now ≡ self.now.spec }
-        ensures limits { IsTableSpec result.now }
-    {
-        &self.spec
-    }
-
-    /// An equal table.
-    pub(crate) fn copied(&self) -> Result<PlainTable, NoMemory>
-        ensures { IfOk result (λ table. table ≡ self.now) }
-    {
-        Ok(PlainTable {
-            alloc: self.alloc,
-            spec: self.spec.copy()?,
-            clock: self.clock,
-            events: self.events,
-            records: copy_records(self.alloc, &self.records)?,
-            tickets: copy_tickets(self.alloc, &self.tickets)?,
-            purged: self.purged,
-        })
     }
 
     /// The step of a stored event once more: a reference that it makes gets the slot that the call names. Refused as
@@ -278,10 +255,18 @@ impl Table for PlainTable {
     }
 
     fn to_base(&self) -> Result<Base, NoMemory> {
-        Ok(Base::of_plain(self.copied()?))
+        Ok(Base::of_plain(self.to_plain()?))
     }
 
     fn to_plain(&self) -> Result<PlainTable, NoMemory> {
-        self.copied()
+        Ok(PlainTable {
+            alloc: self.alloc,
+            spec: self.spec.copy()?,
+            clock: self.clock,
+            events: self.events,
+            records: copy_records(self.alloc, &self.records)?,
+            tickets: copy_tickets(self.alloc, &self.tickets)?,
+            purged: self.purged,
+        })
     }
 }

@@ -54,6 +54,13 @@ pub fn copied<T: Table>(table: &T) -> Result<PlainTable, NoMemory>
     table.to_plain()
 }
 
+/// A plain copy of a table, made of its base.
+pub fn copied_by_base<T: Table>(table: &T) -> Result<PlainTable, NoMemory>
+    ensures { IfOk result (λ copy. copy ≡ T.state table.now) }
+{
+    table.to_base()?.to_plain()
+}
+
 /// What a table replies to an event, and the call by which it is made again.
 pub fn step_stored<T: Table>(table: &mut T, event: Event) -> Result<(Stored, Reply), Refusal>
     requires { IsTableEvent event }

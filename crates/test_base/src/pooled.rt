@@ -3,7 +3,7 @@ ghost use Rattle.std.specs.Prelude.{◌<◌, ◌^◌, IfOk};
 ghost use Rattle.stick_model.specs.Limits.{IsTableEvent};
 
 use crate::alike::is_alike;
-use crate::calls::{Answer, Answers, copied, open, step};
+use crate::calls::{Answer, Answers, copied, copied_by_base, open, step};
 use crate::draws::{self, ACTS, Place, Scope};
 use crate::tables::{columns, spec};
 use crate::telling::told_ticket;
@@ -312,12 +312,11 @@ impl Trial {
     }
 
     /// Whether a plain copy of the table has the same references out, counted as many events, and lists the same as
-    /// the plain table.
+    /// the plain table; and one that is made of its base, too.
     fn is_copied(&self) -> Result<bool, AllocError> {
-        match copied(&self.table) {
-            Ok(mut copy) => self.is_copy(&mut copy),
-            Err(refused) => Err(refused),
-        }
+        let mut copy = copied(&self.table)?;
+        let mut unpacked = copied_by_base(&self.table)?;
+        Ok(self.is_copy(&mut copy)? && self.is_copy(&mut unpacked)?)
     }
 }
 
