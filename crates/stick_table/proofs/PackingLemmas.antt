@@ -53,6 +53,25 @@ one_before spec heads words i next head after below is =
     ap (λ hs. in_key_order (entries_in spec hs here)) left
     ∙ ap (λ ws. with_entry (packed_entry spec head (take w here)) (in_key_order (entries_in spec (drop next heads) ws))) later
 
+-- so an entry that is put before those behind it makes the entries from its place on
+pub one_put : (spec : Spec) (heads : List Head) (words : List ℕ) (i next : ℕ) (head : Head) (w : ℕ) (row : List ℕ) (records : List (Key × Record)) → next ≡ i + 1 → i < length heads → head ≡ get_or heads i head
+    → w ≡ width spec.columns → row ≡ take w (drop (i * w) words) → records ≡ in_key_order (entries_in spec (drop next heads) (drop (next * width spec.columns) words))
+    → with_entry (packed_entry spec head row) records ≡ in_key_order (entries_in spec (drop i heads) (drop (i * width spec.columns) words))
+one_put spec heads words i next head w row records after below is wide taken were =
+    let same : row ≡ take (width spec.columns) (drop (i * width spec.columns) words) = taken ∙ ap (λ n. take n (drop (i * n) words)) wide in
+    (λ k. with_entry (packed_entry spec head (same k)) (were k)) ∙ sym (one_before spec heads words i next head after below is)
+
+no_rows : (w : ℕ) → 0 * w ≡ 0
+no_rows w = omega arith
+
+-- the entries from the first on are all
+pub from_first : (spec : Spec) (heads : List Head) (words : List ℕ) (left : ℕ) (records : List (Key × Record)) → left ≤ 0 → records ≡ in_key_order (entries_in spec (drop left heads) (drop (left * width spec.columns) words))
+    → records ≡ records_in spec heads words
+from_first spec heads words left records first were =
+    let w : ℕ = width spec.columns in
+    let zero : left ≡ 0 = omega arith in
+    were ∙ ap (λ n. in_key_order (entries_in spec (drop n heads) (drop (n * w) words))) zero ∙ ap (λ n. in_key_order (entries_in spec heads (drop n words))) (no_rows w)
+
 -- a row lies within the words
 pub row_within : (count left next w words : ℕ) → next ≡ left + 1 → words ≡ count * w → left < count → left * w + w ≤ words
 row_within count left next w words after sized below =
