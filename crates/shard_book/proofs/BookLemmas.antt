@@ -1,5 +1,5 @@
 -- A call more keeps a book, and its record's places.
-use Rattle.std.proofs.Common.{◌≡◌, ℕ, ◌+◌, ◌≤◌, ◌^◌, List, [], ◌∷◌, ◌++◌, length, true, refl, sym, ap, ◌∙◌, subst, arith, rules}
+use Rattle.std.proofs.Common.{◌≡◌, ℕ, ◌+◌, ◌≤◌, ◌^◌, List, [], ◌∷◌, ◌++◌, length, Option, None, true, refl, sym, ap, ◌∙◌, subst, arith, rules}
 use Rattle.std.proofs.lemmas.List.Elements.{All-push}
 use Rattle.stick_model.specs.State.{State, empty_table}
 use Rattle.stick_model.specs.Step.{Step, slot_of}
@@ -15,6 +15,10 @@ use Rattle.stick_model.proofs.StepLemmas.{step_places, given_by, taken_by}
 use Rattle.stick_model.proofs.RunLemmas.{lasting_run_more, stored-from-lasting, stored_run_events, stored_run_spec}
 use Rattle.stick_model.specs.Run.{StoredRun}
 use Rattle.stick_model.proofs.LegalLemmas.{orderly-from_legal, step_legal, step_tickets-length, empty_legal}
+use Rattle.stick_model.specs.declared.events.Event.TheVariants.{Get, Track, Look, Count, Release, Put, Clear, ClearWhere, List as ListRows, Expire}
+use Rattle.stick_model.proofs.StepCases.{IsQuiet, Happens, idles, tracks, counts, releases, writes, removes, clears, happened}
+use Rattle.shard_book.specs.RecordedState.{RecordedState}
+use Rattle.shard_book.specs.Briefs.{IsToldSlot, MayTell, unanswered}
 use Rattle.shard_book.specs.declared.recorded.Recorded.{Recorded}
 use Rattle.shard_book.specs.BookState.{BookState, IsBook, HasPlaces, stored_of, recorded, opened, out_after}
 
@@ -50,6 +54,44 @@ recorded_more base live old reserved new call seat event reply next pushed stays
     let more : IsBook (record { base = base; calls = old ++ recorded seat event reply ∷ []; live = next }) = book_more base live old seat event reply next book taken lives step in
     subst (λ (calls : List Recorded). IsBook (record { base = base; calls = calls; live = next })) (sym (one_behind old reserved new call (recorded seat event reply) pushed stays is)) more
 
+-- ---- how a call lies in the record
+
+-- a call that was made before its reply was known, as it is recorded
+pub recorded_so : (call result : RecordedState) (seat : ℕ) (event : Event) (reply : Reply) → call ≡ unanswered seat event → result ≡ recorded call.seat call.stored.event reply → result ≡ recorded seat event reply
+recorded_so call result seat event reply made is = is ∙ ap (λ (c : RecordedState). recorded c.seat c.stored.event reply) made
+
+none_told : (event : Event) (slot : Option ℕ) → slot ≡ None → IsToldSlot event slot
+none_told (Track now key) slot none = tt
+none_told (Get now key) slot none = none
+none_told (Look now ticket) slot none = none
+none_told (Count now ticket act) slot none = none
+none_told (Release now ticket) slot none = none
+none_told (Put now key pairs) slot none = none
+none_told (Clear now key) slot none = none
+none_told (ClearWhere now choice) slot none = none
+none_told (ListRows now choice) slot none = none
+none_told (Expire now) slot none = none
+
+quiet_slot : (reply : Reply) → IsQuiet reply → slot_of reply ≡ None
+quiet_slot (Tracked ticket row) quiet = absurd quiet
+quiet_slot _ quiet = refl
+
+-- only a track's reply tells a slot
+slot_told : (old : State) (event : Event) (reply : Reply) (new : State) → Step old event reply new → IsToldSlot event (slot_of reply)
+slot_told old event reply new step = told (happened old event reply new step)
+  where
+    told : {slot : ℕ} {event : Event} {reply : Reply} {new : State} → Happens old slot event reply new → IsToldSlot event (slot_of reply)
+    told (idles event reply quiet idle) = none_told event (slot_of reply) (quiet_slot reply quiet)
+    told (tracks now key records room) = tt
+    told (counts now ticket act key out) = refl
+    told (releases now ticket key out) = refl
+    told (writes now key pairs created records room) = refl
+    told (removes now key free) = refl
+    told (clears now choice) = refl
+
+pub tells_so : (call : RecordedState) (old : State) (seat : ℕ) (event : Event) (reply : Reply) (new : State) → call ≡ unanswered seat event → Step old event reply new → MayTell call (slot_of reply)
+tells_so call old seat event reply new made step = subst (λ (c : RecordedState). MayTell c (slot_of reply)) (sym made) (slot_told old event reply new step)
+
 out-counted : (reply : Reply) (before after : ℕ) → after + taken_by reply ≡ before + given_by reply → after ≡ out_after before reply
 out-counted (Tracked ticket row) before after h = omega (arith, h)
 out-counted Released before after h = omega (arith, h)
@@ -83,6 +125,13 @@ places-recorded live event reply next used capacity out_before new_used new_capa
     let places : HasPlaces next (used + 1) capacity (out_after (length live.tickets) reply) = places-more live event reply next used capacity legal step (omega arith) in
     let out : out_now ≡ out_after (length live.tickets) reply = now ∙ ap (λ n. out_after n reply) counted in
     record { counted = out ∙ places.counted; room = omega (arith, out, places.room) }
+
+-- the places that an event takes are one at least, or it gives a ticket back, whose release has one
+pub place_left : (live : State) (event : Event) (reply : Reply) (next : State) (used capacity out : ℕ)
+    → IsLegal live → Step live event reply next → out ≡ length live.tickets → used + out + life_taken event ≤ capacity → used + 1 ≤ capacity
+place_left live event reply next used capacity out legal step counted place =
+    let places : HasPlaces next (used + 1) capacity (out_after (length live.tickets) reply) = places-more live event reply next used capacity legal step (omega arith) in
+    omega (arith, places.room)
 
 -- a ticket that is given back is counted
 pub held_counted : (live : State) (event : Event) (reply : Reply) (next : State) (out : ℕ) → IsLegal live → Step live event reply next → out ≡ length live.tickets → reply ≡ Released → 1 ≤ out

@@ -1,5 +1,5 @@
 -- A book beside its record, when it is opened and after a call.
-use Rattle.std.proofs.Common.{◌≡◌, ℕ, List, [], ◌∷◌, ◌++◌, refl, sym, ap, ◌∙◌, subst, append_assoc, true, length, suc, ◌-◌, ◌≤◌, get_or, arith, length-append, rules, ◌<◌, ◌^◌}
+use Rattle.std.proofs.Common.{◌≡◌, ℕ, List, [], ◌∷◌, ◌++◌, refl, sym, ap, ◌∙◌, subst, append_assoc, true, rules, ◌<◌, ◌^◌}
 use Rattle.std.proofs.lemmas.List.{map-append}
 use Rattle.stick_model.specs.State.{empty_table}
 use Rattle.stick_model.specs.Limits.{IsTableSpec, IsTableEvent}
@@ -8,15 +8,14 @@ use Rattle.stick_model.specs.declared.specification.Spec.{Spec}
 use Rattle.stick_model.proofs.StepLemmas.{step_spec}
 use Rattle.stick_model.specs.declared.events.Event.{Event}
 use Rattle.stick_model.specs.declared.rows.Ticket.{Ticket}
-use Rattle.stick_model.specs.declared.events.Event.TheVariants.{Expire, Release}
+use Rattle.stick_model.specs.declared.events.Event.TheVariants.{Release}
 use Rattle.stick_model.specs.declared.replies.Reply.{Reply}
 use Rattle.shard_record.specs.declared.view.Call.{Call}
 use Rattle.shard_record.specs.Calls.{Answers, IsHistoryOf, call}
 use Rattle.shard_record.specs.Telling.{HasAnswered}
 use Rattle.shard_record.proofs.Records.{history_more}
-use Rattle.shard_book.specs.declared.recorded.Recorded.{Recorded}
 use Rattle.shard_book.specs.BookState.{BookState, Extends, opened, recorded, stored_of}
-use Rattle.shard_book.specs.Kept.{IsKept, IsMadeWith, last_event, last_of, stored}
+use Rattle.shard_book.specs.Kept.{IsKept, IsMadeWith, stored}
 use Rattle.shard_book.proofs.BookLemmas.{stored_of-push}
 
 -- the record of an empty table
@@ -56,30 +55,6 @@ kept_more spec old new log after seat by event reply kept takes lives extends is
       live = history_more log old.live by event reply new.live kept.live answers;
       made = step_spec old.live event reply new.live extends.step ∙ kept.made;
     })
-
--- ---- the last call of a book
-
-last_of_more : (first : Event) (calls : List Recorded) (call : Recorded) → last_of first (calls ++ call ∷ []) ≡ call.stored.event
-last_of_more first [] call = refl
-last_of_more first (one ∷ calls) call = last_of_more one.stored.event calls call
-
-pub last_more : (old new : BookState) (seat : ℕ) (event : Event) (reply : Reply) → Extends old seat event reply new → last_event new.calls ≡ event
-last_more old new seat event reply extends = ap last_event extends.calls ∙ last_of_more (Expire 0) old.calls (recorded seat event reply)
-
-pub some_more : (old new : BookState) (seat : ℕ) (event : Event) (reply : Reply) → Extends old seat event reply new → 1 ≤ length new.calls
-some_more old new seat event reply extends = omega (arith, ap length extends.calls, length-append old.calls (recorded seat event reply ∷ []))
-
-last_of_at : (first : Event) (calls : List Recorded) (at : Recorded) (d : Recorded) → 1 ≤ length calls → at ≡ get_or calls (length calls - 1) d → last_of first calls ≡ at.stored.event
-last_of_at first [] at d some is = absurd (omega (arith, some))
-last_of_at first (one ∷ []) at d some is = ap (λ (c : Recorded). c.stored.event) (sym is)
-last_of_at first (one ∷ two ∷ calls) at d some is =
-    last_of_at one.stored.event (two ∷ calls) at d (omega arith) (is ∙ ap (λ k. get_or (one ∷ two ∷ calls) k d) (less (length calls)))
-  where
-    less : (n : ℕ) → suc (suc n) - 1 ≡ suc (suc n - 1)
-    less n = omega arith
-
-pub last_at : (calls : List Recorded) (at : Recorded) → 1 ≤ length calls → at ≡ get_or calls (length calls - 1) at → at.stored.event ≡ last_event calls
-last_at calls at some is = sym (last_of_at (Expire 0) calls at at some is)
 
 -- a table takes a release at any moment
 pub takes_release : (now : ℕ) (ticket : Ticket) → now < 2 ^ 62 → IsTableEvent (Release now ticket)

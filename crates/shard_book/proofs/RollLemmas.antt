@@ -1,5 +1,5 @@
 -- On rolls of books.
-use Rattle.std.proofs.Common.{rules, ◌≡◌, ◌⊎◌, inl, inr, ⊎_elim, ℕ, zero, suc, ◌+◌, ◌≤◌, ◌<◌, List, [], ◌∷◌, ◌++◌, Some, length, map, take, drop, slice_get, refl, sym, ap, ◌∙◌, subst, arith}
+use Rattle.std.proofs.Common.{rules, ◌≡◌, ◌⊎◌, inl, inr, ⊎_elim, ℕ, zero, suc, ◌+◌, ◌<◌, List, [], ◌∷◌, ◌++◌, Some, length, map, slice_get, refl, sym, ap, ◌∙◌, subst, arith}
 use Rattle.std.specs.Prelude.{Result, Ok, Err, OnOk, OnErr, slice_set}
 use Rattle.std.proofs.lemmas.List.Elements.{All-append}
 use Rattle.stick_model.specs.State.{State}
@@ -11,7 +11,7 @@ use Rattle.shard_book.specs.declared.recorded.Recorded.{Recorded}
 use Rattle.shard_book.specs.BookState.{BookState, IsBook, rolled, stored_of}
 use Rattle.shard_book.specs.BooksState.{AreBooks, BooksState}
 use Rattle.shard_book.specs.Keeping.{part_of}
-use Rattle.shard_book.specs.Rolling.{IsOneRecord, RollingLaw, RollsInPart, joined, rolled_books, rolled_first}
+use Rattle.shard_book.specs.Rolling.{RollingLaw, RollsInPart, joined, rolled_books, rolled_first}
 use Rattle.shard_book.proofs.BookLemmas.{live_limits}
 use Rattle.shard_book.proofs.RecordLemmas.{stored_of-append}
 

@@ -1,14 +1,11 @@
 -- A book beside the record of all its calls since it was opened.
-use Rattle.std.specs.Prelude.{◌≡◌, ℕ, List, [], ◌∷◌, ◌++◌, map}
+use Rattle.std.specs.Prelude.{◌≡◌, ℕ, List, ◌++◌, map}
 use Rattle.stick_model.specs.State.{State}
 use Rattle.stick_model.specs.Step.{slot_of}
 use Rattle.stick_model.specs.declared.specification.Spec.{Spec}
 use Rattle.stick_model.specs.declared.events.Stored.{Stored}
-use Rattle.stick_model.specs.declared.events.Event.{Event}
-use Rattle.stick_model.specs.declared.events.Event.TheVariants.{Expire}
 use Rattle.shard_record.specs.declared.view.Call.{Call}
 use Rattle.shard_record.specs.Calls.{IsHistoryOf}
-use Rattle.shard_book.specs.declared.recorded.Recorded.{Recorded}
 use Rattle.shard_book.specs.BookState.{BookState, stored_of}
 
 -- the book, which one it is, and the record of its calls
@@ -37,11 +34,3 @@ pub record IsKept (spec : Spec) (book : BookState) (log : List Call) : Type 0 wh
   pub calls : stored_of book.calls ≡ map stored since
   pub live : IsHistoryOf log book.live
   pub made : book.live.spec ≡ spec
-
--- the event of the call that was recorded last, if there is one
-abbrev pub last_of : Event → List Recorded → Event
-last_of event [] = event
-last_of event (call ∷ calls) = last_of call.stored.event calls
-
-abbrev pub last_event : List Recorded → Event
-last_event calls = last_of (Expire 0) calls

@@ -9,3 +9,5 @@ pub mod SeatState
 pub mod Told
 pub mod SeatLaws
 pub mod Kept
+pub mod RecordedState
+pub mod Briefs

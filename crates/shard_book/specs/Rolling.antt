@@ -1,6 +1,5 @@
 -- What a roll of a table's books does, and what it leaves.
 use Rattle.std.specs.Prelude.{◌≡◌, ℕ, ◌<◌, ◌^◌, ◌-◌, min, List, ◌++◌, length, map, sum_by, take, drop}
-use Rattle.stick_model.specs.declared.replies.Reply.{Reply}
 use Rattle.shard_book.specs.BookState.{BookState, IsBook, rolled}
 use Rattle.shard_book.specs.BooksState.{BooksState}
 

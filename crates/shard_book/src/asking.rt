@@ -21,22 +21,22 @@ pub(crate) fn ask<T: Table>(
     keeps: bool,
     number: u32,
     shard: u32,
-    event: Event,
+    event: &Event,
 ) -> Result<Reply, Refusal>
-    requires { IsTableEvent event }
+    requires { IsTableEvent event.now }
     ensures book { OnOk result (IsBook book.new) }
-    ensures ok { IfOk result (λ reply. Extends book.old number event reply book.new) }
-    ensures receipts { IfOk result (λ reply. receipts.new.items ≡ kept_receipts keeps receipts.old.items shard event reply) }
-    ensures lives { OnOk result (has_life book.old.live event ≡ true) }
-    ensures refused { IfErr result (IsAskRefused book.old.live keeps event) }
-    ensures release { (now : _) (ticket : _) → event ≡ Release now ticket → keeps ≡ false → is_some (key_of ticket book.old.live.tickets) ≡ true → IsOk result }
+    ensures ok { IfOk result (λ reply. Extends book.old number event.now reply book.new) }
+    ensures receipts { IfOk result (λ reply. receipts.new.items ≡ kept_receipts keeps receipts.old.items shard event.now reply) }
+    ensures lives { OnOk result (has_life book.old.live event.now ≡ true) }
+    ensures refused { IfErr result (IsAskRefused book.old.live keeps event.now) }
+    ensures release { (now : _) (ticket : _) → event.now ≡ Release now ticket → keeps ≡ false → is_some (key_of ticket book.old.live.tickets) ≡ true → IsOk result }
     ensures book_stays { OnErr result (book.new ≡ book.old) }
     ensures receipts_stay { OnErr result (receipts.new.items ≡ receipts.old.items) }
 {
     if keeps {
         ask_twice(book, receipts, number, shard, event)
     } else {
-        book.call(number, event)
+        book.call_lent(number, event)
     }
 }
 
@@ -46,14 +46,14 @@ fn ask_twice<T: Table>(
     receipts: &mut Vec<Receipt>,
     number: u32,
     shard: u32,
-    event: Event,
+    event: &Event,
 ) -> Result<Reply, Refusal>
-    requires { IsTableEvent event }
+    requires { IsTableEvent event.now }
     ensures book { OnOk result (IsBook book.new) }
-    ensures ok { IfOk result (λ reply. Extends book.old number event reply book.new) }
-    ensures receipts { IfOk result (λ reply. receipts.new.items ≡ receipts.old.items ++ receipt shard event reply ∷ []) }
-    ensures lives { OnOk result (has_life book.old.live event ≡ true) }
-    ensures refused { IfErr result (IsAskRefused book.old.live true event) }
+    ensures ok { IfOk result (λ reply. Extends book.old number event.now reply book.new) }
+    ensures receipts { IfOk result (λ reply. receipts.new.items ≡ receipts.old.items ++ receipt shard event.now reply ∷ []) }
+    ensures lives { OnOk result (has_life book.old.live event.now ≡ true) }
+    ensures refused { IfErr result (IsAskRefused book.old.live true event.now) }
     ensures book_stays { OnErr result (book.new ≡ book.old) }
     ensures receipts_stay { OnErr result (receipts.new.items ≡ receipts.old.items) }
 {
@@ -63,7 +63,7 @@ fn ask_twice<T: Table>(
     if receipts.reserve(1).is_err() {
         return Err(Refusal::Memory);
     }
-    match book.call_twice(number, event) {
+    match book.call_twice_lent(number, event) {
         Ok((reply, again)) => {
             receipts.push_reserved(Receipt {
                 shard,

@@ -68,13 +68,33 @@ impl<T: Table> Book<T> {
         ensures release { (now : _) (ticket : _) → event ≡ Release now ticket → is_some (key_of ticket self.old.live.tickets) ≡ true → IsOk result }
         ensures err { OnErr result (self.new ≡ self.old) }
     {
-        let reply = answer(&mut self.live, &mut self.calls, self.out, &event)?;
+        match self.call_lent(seat, &event) {
+            Ok(reply) => Ok(reply),
+            Err(refusal) => Err(refusal),
+        }
+    }
+
+    /// The same of an event that is lent.
+    pub(crate) fn call_lent(&mut self, seat: u32, event: &Event) -> Result<Reply, Refusal>
+        requires { IsTableEvent event.now }
+        ensures before { IsBook self.old }
+        ensures book { OnOk result (IsBook self.new) }
+        ensures ok { IfOk result (λ reply. Extends self.old seat event.now reply self.new) }
+        ensures lives { OnOk result (has_life self.old.live event.now ≡ true) }
+        ensures refused { IfErr result (IsCallRefused self.old.live event.now) }
+        ensures release { (now : _) (ticket : _) → event.now ≡ Release now ticket → is_some (key_of ticket self.old.live.tickets) ≡ true → IsOk result }
+        ensures err { OnErr result (self.new ≡ self.old) }
+    {
+        let Ok(call) = Recorded::of(*self.calls.allocator(), seat, event) else {
+            return Err(Refusal::Memory);
+        };
+        let reply = answer(&mut self.live, &mut self.calls, self.out, event)?;
         self.out = out_after(self.out, &reply);
-        self.calls.push_reserved(record_of(seat, event, &reply));
+        self.calls.push_reserved(record_of(call, &reply));
         Ok(reply)
     }
 
-    /// The same, the reply given twice, as for the caller and for what the caller keeps. Memory for both is taken before
+    /// The same as `call`, the reply given twice, as for the caller and for what the caller keeps. Memory for both is taken before
     /// anything changes; a `Release` takes none here either.
     pub fn call_twice(&mut self, seat: u32, event: Event) -> Result<(Reply, Reply), Refusal>
         requires { IsTableEvent event }
@@ -87,9 +107,34 @@ impl<T: Table> Book<T> {
         ensures release { (now : _) (ticket : _) → event ≡ Release now ticket → is_some (key_of ticket self.old.live.tickets) ≡ true → IsOk result }
         ensures err { OnErr result (self.new ≡ self.old) }
     {
-        let (reply, again) = answer_twice(&mut self.live, &mut self.calls, self.out, &event)?;
+        match self.call_twice_lent(seat, &event) {
+            Ok(replies) => Ok(replies),
+            Err(refusal) => Err(refusal),
+        }
+    }
+
+    /// The same of an event that is lent.
+    pub(crate) fn call_twice_lent(
+        &mut self,
+        seat: u32,
+        event: &Event,
+    ) -> Result<(Reply, Reply), Refusal>
+        requires { IsTableEvent event.now }
+        ensures before { IsBook self.old }
+        ensures book { OnOk result (IsBook self.new) }
+        ensures ok { IfOk result (λ replies. Extends self.old seat event.now replies.0 self.new) }
+        ensures twice { IfOk result (λ replies. replies.1 ≡ replies.0) }
+        ensures lives { OnOk result (has_life self.old.live event.now ≡ true) }
+        ensures refused { IfErr result (IsCallRefused self.old.live event.now) }
+        ensures release { (now : _) (ticket : _) → event.now ≡ Release now ticket → is_some (key_of ticket self.old.live.tickets) ≡ true → IsOk result }
+        ensures err { OnErr result (self.new ≡ self.old) }
+    {
+        let Ok(call) = Recorded::of(*self.calls.allocator(), seat, event) else {
+            return Err(Refusal::Memory);
+        };
+        let (reply, again) = answer_twice(&mut self.live, &mut self.calls, self.out, event)?;
         self.out = out_after(self.out, &reply);
-        self.calls.push_reserved(record_of(seat, event, &reply));
+        self.calls.push_reserved(record_of(call, &reply));
         Ok((reply, again))
     }
 

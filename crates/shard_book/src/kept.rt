@@ -10,12 +10,13 @@ ghost use Rattle.stick_model.specs.declared.replies.Refusal.TheVariants.{Stale};
 ghost use Rattle.shard_record.specs.Calls.{call as noted};
 ghost use Rattle.shard_record.specs.Parts.{holder};
 ghost use Rattle.shard_record.specs.Views.{only};
-ghost use Rattle.shard_record.specs.Telling.{HasAnswered, IsNoRelease, IsReference, IsSeer, IsSettled, IsTold, key_at, log_of, number_of, ticket_at};
+ghost use Rattle.shard_record.specs.Telling.{IsNoRelease, IsReference, IsSeer, IsSettled, IsTold, key_at, log_of, number_of, ticket_at};
 ghost use Rattle.shard_book.specs.BookState.{Extends, opened, rolled};
-ghost use Rattle.shard_book.specs.Kept.{IsKept, IsMadeWith, last_event as event_of_last};
+ghost use Rattle.shard_book.specs.Kept.{IsKept, IsMadeWith};
 ghost use Rattle.shard_book.specs.Told.{IsRefusedBy, IsRefusedTo, Told};
 
-use crate::{Book, Occupancy, Seat, serve};
+use crate::seat::serve_lent;
+use crate::{Book, Occupancy, Seat};
 use base_sequence::NoMemory;
 use shard_record::{Keeper, Naming, Record, Token};
 use std::marker::Model;
@@ -130,8 +131,8 @@ impl<T: Table, J: Naming> Kept<T, J> {
         ensures err { OnErr result ((self.new ≡ self.old) × (seat.new ≡ seat.old) × (token.new ≡ token.old)) }
     {
         let Kept { book, keeper } = self;
-        let reply = serve(book, seat, shard, event)?;
-        let given = note_last(book, keeper, records, token, &reply);
+        let reply = serve_lent(book, seat, shard, &event)?;
+        let given = keeper.note(records, token, &event, &reply);
         Ok((reply, given))
     }
 
@@ -169,7 +170,8 @@ impl<T: Table, J: Naming> Kept<T, J> {
         ensures err { OnErr result ((self.new ≡ self.old) × (seat.new ≡ seat.old) × (token.new ≡ token.old)) }
     {
         let Kept { book, keeper } = self;
-        let reply = match serve(book, seat, shard, Event::Release(now, ticket)) {
+        let release = Event::Release(now, ticket);
+        let reply = match serve_lent(book, seat, shard, &release) {
             Ok(reply) => reply,
             Err(refusal) => {
                 let mut shown = reference;
@@ -177,64 +179,7 @@ impl<T: Table, J: Naming> Kept<T, J> {
                 return Err((shown, refusal));
             }
         };
-        note_release(book, keeper, records, token, reference, &reply);
+        keeper.note_release(records, token, reference, &release, &reply);
         Ok(())
     }
-}
-
-/// Notes the release that a book recorded last.
-fn note_release<T: Table, J: Naming>(
-    book: &Book<T>,
-    keeper: &mut Keeper<J>,
-    records: &Record<J>,
-    token: &mut Token<J>,
-    reference: Token<J>,
-    reply: &Reply,
-)
-    requires some { 1 ≤ length book.now.calls }
-    requires seat { IsSeer keeper.old.book token.old }
-    requires settled { IsSettled token.old }
-    requires reference { IsReference keeper.old.book reference }
-    requires release { (now : ℕ) × (event_of_last book.now.calls ≡ Release now (ticket_at keeper.old.book reference)) }
-    requires answered { HasAnswered keeper.old.log (event_of_last book.now.calls) reply.now }
-    ensures released { reply.now ≡ Released }
-    ensures noted { keeper.new ≡ record { book = keeper.old.book; log = keeper.old.log ++ noted (number_of keeper.old.book token.old) (event_of_last book.now.calls) reply.now ∷ [] } }
-    ensures told { IsTold keeper.old.book (event_of_last book.now.calls) reply.now token.old token.new }
-    ensures seen { log_of keeper.old.book token.new ≡ keeper.new.log }
-    ensures seer { IsSeer keeper.old.book token.new }
-    ensures settled { IsSettled token.new }
-{
-    keeper.note_release(records, token, reference, last_event(book), reply)
-}
-
-/// Notes the call that a book recorded last, which is no release.
-fn note_last<T: Table, J: Naming>(
-    book: &Book<T>,
-    keeper: &mut Keeper<J>,
-    records: &Record<J>,
-    token: &mut Token<J>,
-    reply: &Reply,
-) -> Token<J>
-    requires some { 1 ≤ length book.now.calls }
-    requires seat { IsSeer keeper.old.book token.old }
-    requires settled { IsSettled token.old }
-    requires answered { HasAnswered keeper.old.log (event_of_last book.now.calls) reply.now }
-    requires other { IsNoRelease (event_of_last book.now.calls) }
-    ensures noted { keeper.new ≡ record { book = keeper.old.book; log = keeper.old.log ++ noted (number_of keeper.old.book token.old) (event_of_last book.now.calls) reply.now ∷ [] } }
-    ensures told { IsTold keeper.old.book (event_of_last book.now.calls) reply.now token.old token.new }
-    ensures seen { log_of keeper.old.book token.new ≡ keeper.new.log }
-    ensures seer { IsSeer keeper.old.book token.new }
-    ensures settled { IsSettled token.new }
-    ensures given { result ≡ only keeper.old.book (holder keeper.new.log (tickets_told (event_of_last book.now.calls) reply.now [])) }
-{
-    keeper.note(records, token, last_event(book), reply)
-}
-
-/// The event of the call that a book recorded last.
-fn last_event<T: Table>(book: &Book<T>) -> &Event
-    requires { 1 ≤ length book.now.calls }
-    ensures { result.now ≡ event_of_last book.now.calls }
-{
-    let calls = book.calls();
-    &calls[calls.len() - 1].stored.event
 }

@@ -7,6 +7,7 @@
 mod asking;
 mod book;
 mod books;
+mod brief;
 mod joining;
 mod keeper;
 mod kept;
@@ -18,6 +19,7 @@ mod receipt;
 mod recorded;
 mod seat;
 pub mod seat_laws;
+mod short;
 mod track_ref;
 
 pub use book::Book;

@@ -1,31 +1,99 @@
 //! A call as it is recorded, and the places that the record has; `Book::call` records by it, and settling reads it.
 
 ghost use Rattle.std.specs.Prelude.{◌≡◌, ◌+◌, ◌≤◌, ◌<◌, ◌^◌, true, IfOk, IfErr, OnOk, OnErr, vec_len, vec_capacity};
-ghost use Rattle.stick_model.specs.Step.{Step};
+ghost use Rattle.stick_model.specs.Step.{Step, slot_of};
 ghost use Rattle.stick_model.specs.Limits.{IsTableEvent};
 ghost use Rattle.stick_model.specs.Refusals.{has_life, life_taken};
 ghost use Rattle.stick_model.specs.declared.replies.Reply.TheVariants.{Released};
 ghost use Rattle.shard_book.specs.BookState.{IsCallRefused, may_grow, out_after as specified_out, recorded as specified_record};
+ghost use Rattle.shard_book.specs.Briefs.{MayTell, unanswered};
 
+use crate::brief::Brief;
 use base_sequence::NoMemory;
+use std::alloc::Global;
+use std::marker::Model;
+use std::mem::size_of;
 use stick_table::{Event, Refusal, Reply, Stored, Table};
 
-/// A call that was answered, and the seat that made it.
+const _: () = prove!(size_of::<Recorded>() <= 48);
+
+/// A call that was answered, and the seat that made it. It takes 48 bytes, and memory of its own only where its key has more
+/// than sixteen bytes, or it is of a filter or of any number of pairs but one.
 #[derive(Drop)]
 pub struct Recorded {
-    pub seat: u32,
-    pub stored: Stored,
+    call: Brief,
 }
 
-/// How a call is recorded.
-pub(crate) fn record_of(seat: u32, event: Event, reply: &Reply) -> Recorded
-    ensures { result ≡ specified_record seat event reply.now }
-{
-    let slot = reply.slot();
-    Recorded {
-        seat,
-        stored: Stored { event, slot },
+impl Model for Recorded {
+    ghost use Rattle.shard_book.specs.RecordedState.{RecordedState};
+
+    ghost Value = { RecordedState };
+
+    ghost use Rattle.shard_book.specs.Briefs.{call_in};
+
+    ghost view = { λ recorded. call_in recorded.call };
+}
+
+impl Recorded {
+    ghost use Rattle.std.specs.Prelude.{◌≡◌, ◌↔◌, IsTrue, IfOk, OnErr, true};
+    ghost use Rattle.shard_book.specs.BookState.{may_grow};
+    ghost use Rattle.shard_book.specs.Briefs.{MayTell, unanswered, with_slot};
+
+    /// A seat's call of an event that isn't answered yet. That of a release takes no memory.
+    pub(crate) fn of(alloc: Global, seat: u32, event: &Event) -> Result<Recorded, NoMemory>
+        ensures call { IfOk result (λ call. call ≡ unanswered seat event.now) }
+        ensures memory { OnErr result (may_grow event.now ≡ true) }
+    {
+        match Brief::of(seat, event) {
+            Some(call) => Ok(Recorded { call }),
+            None => Ok(Recorded {
+                call: Brief::whole(alloc, seat, event)?,
+            }),
+        }
     }
+
+    /// The call with the slot that its reply tells.
+    fn with_slot(self, slot: Option<u32>) -> Recorded
+        requires { MayTell self slot }
+        ensures { result ≡ with_slot slot self }
+    {
+        let Recorded { call } = self;
+        Recorded {
+            call: call.with_slot(slot),
+        }
+    }
+
+    /// The seat that made it.
+    pub fn seat(&self) -> u32
+        ensures { result ≡ self.now.seat }
+    {
+        self.call.seat()
+    }
+
+    /// Its event, and the slot that its reply told, where there is memory for the event.
+    pub fn stored(&self, alloc: Global) -> Result<Stored, NoMemory>
+        ensures { IfOk result (λ stored. stored ≡ self.now.stored) }
+    {
+        Ok(Stored {
+            event: self.call.event(alloc)?,
+            slot: self.call.slot(),
+        })
+    }
+
+    /// Whether that is its event.
+    pub fn is_of(&self, event: &Event) -> bool
+        ensures { IsTrue result ↔ (event.now ≡ self.now.stored.event) }
+    {
+        self.call.asks(event)
+    }
+}
+
+/// How a call is recorded, once it is answered.
+pub(crate) fn record_of(call: Recorded, reply: &Reply) -> Recorded
+    requires { MayTell call (slot_of reply.now) }
+    ensures { result ≡ specified_record call.seat call.stored.event reply.now }
+{
+    call.with_slot(reply.slot())
 }
 
 /// Reserves the record's place for an event, and for a reference the place for its release beside it. Those for the

@@ -120,6 +120,36 @@ pub fn serve<T: Table>(
     ensures book_stays { OnErr result (book.new ≡ book.old) }
     ensures seat_stays { OnErr result (seat.new ≡ seat.old) }
 {
+    match serve_lent(book, seat, shard, &event) {
+        Ok(reply) => Ok(reply),
+        Err(refused) => Err(refused),
+    }
+}
+
+/// The same of an event that is lent.
+pub(crate) fn serve_lent<T: Table>(
+    book: &mut Book<T>,
+    seat: &mut Seat,
+    shard: u32,
+    event: &Event,
+) -> Result<Reply, Refusal>
+    requires shard { shard < 64 }
+    requires event { IsTableEvent event.now }
+
+    // The book has the call, and so has the seat.
+    ensures ok { IfOk result (λ reply. Extends book.old seat.old.number event.now reply book.new) }
+    ensures told { IfOk result (λ reply. Told seat.old shard event.now reply seat.new) }
+    ensures number { OnOk result (seen_of seat.new shard ≡ book.new.live.events) }
+    ensures later { OnOk result (seen_of seat.old shard ≤ book.old.live.events) }
+    ensures lives { OnOk result (has_life book.old.live event.now ≡ true) }
+
+    // A refusal has its cause, in this book, and changes nothing.
+    ensures refused { IfErr result (IsRefusedTo seat.old shard event.now) }
+    ensures cause { IfErr result (IsRefusedBy book.old.live seat.old shard event.now) }
+    ensures release { (now : _) (ticket : _) → event.now ≡ Release now ticket → seat.old.keeps ≡ false → seen_of seat.old shard ≤ book.old.live.events → is_some (key_of ticket book.old.live.tickets) ≡ true → IsOk result }
+    ensures book_stays { OnErr result (book.new ≡ book.old) }
+    ensures seat_stays { OnErr result (seat.new ≡ seat.old) }
+{
     let count = book.events();
     let front = seat.seen[shard as usize];
     if count < front {

@@ -1,6 +1,8 @@
 -- What housekeeping does, as the seats of its tables are told, and what is counted of it.
-use Rattle.std.specs.Prelude.{◌≡◌, ℕ, zero, suc, ◌+◌, ◌-◌, ◌<◌, ◌^◌, ◌⊎◌, min, Bool, true, false, Result, Ok, Err, List, Some, length, slice_get, slice_set}
+use Rattle.std.specs.Prelude.{◌≡◌, ℕ, zero, suc, ◌+◌, ◌-◌, ◌*◌, ◌<◌, ◌^◌, ◌⊎◌, min, Bool, true, false, Result, Ok, Err, List, Some, length, slice_get, slice_set}
 use Rattle.std.specs.declared.alloc.AllocError.{AllocError}
+use Rattle.stored_data.specs.Words.{width}
+use Rattle.stick_model.specs.declared.specification.Spec.{Spec}
 use Rattle.stick_model.specs.declared.events.Event.TheVariants.{Expire}
 use Rattle.stick_model.specs.declared.replies.Reply.{Reply}
 use Rattle.stick_model.specs.declared.replies.Refusal.{Refusal}
@@ -29,6 +31,10 @@ pub record RoundState (C : Type 0) : Type 0 where
 
 abbrev pub one_refused : Counts → Counts
 one_refused counts = record { rolled = counts.rolled; refused = more counts.refused }
+
+-- the bytes of a shard's table, which takes those of its whole size as it is opened: of each entry 110, and eight for each word
+abbrev pub table_bytes : Spec → ℕ
+table_bytes spec = spec.size * (110 + 8 * width spec.columns)
 
 -- what a shard answered to a roll: whether its record began again, or that it was refused
 abbrev pub noted : Result Bool AllocError → Counts → Counts

@@ -3,6 +3,7 @@
 
 mod counts;
 mod kept;
+mod lengths;
 mod pace;
 mod rounds;
 

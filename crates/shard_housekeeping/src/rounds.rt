@@ -5,6 +5,7 @@ ghost use Rattle.shard_locks.specs.ShardsState.{book_of};
 ghost use Rattle.shard_housekeeping.specs.Keeping.{Expires, KeepsRound, KeepsRounds, KeepsShard, KeepsTable, Rolls};
 
 use crate::counts::Counts;
+use crate::lengths::greatest_length;
 use crate::{Kept, Pace};
 use base_clock::Clock;
 use shard_locks::{Shards, SharedSeat};
@@ -61,7 +62,8 @@ fn keep_shard<T: Table, J: Naming, C: Clock>(
 {
     let now = clock.now();
     expire(rt, table, seat, shard, now, counts);
-    roll(rt, table, shard, roll_at, counts);
+    let least = greatest_length(table.spec(shard), roll_at);
+    roll(rt, table, shard, least, counts);
 }
 
 /// Does so in each shard of a table, in their order.
@@ -101,7 +103,7 @@ fn keep_round<T: Table, J: Naming, C: Clock>(
 
 /// Keeps house until the pace says that there is no round more. In a round each shard of each table is asked to expire the
 /// entries whose time has come, at the moment that the clock shows, and then its record begins again where it has at least
-/// `roll_at` calls and no receipts are kept. What is refused is counted and left to the next round. The seats come back with their calls.
+/// `roll_at` calls, or as many as take a quarter of the bytes of its table, and no receipts are kept. What is refused is counted and left to the next round. The seats come back with their calls.
 pub fn housekeep<T: Table, J: Naming, C: Clock, P: Pace>(
     rt: &impl Wait,
     tables: &[Shards<T, J>],

@@ -3,7 +3,7 @@
 ghost use Rattle.std.specs.Prelude.{◌≡◌, IfOk, IfSome};
 ghost use Rattle.stick_model.specs.State.{empty_table};
 ghost use Rattle.stick_model.specs.Step.{Step, slot_of};
-ghost use Rattle.stick_model.specs.Run.{StoredRun};
+ghost use Rattle.stick_model.specs.Run.{CanRedo, StoredRun, redone};
 ghost use Rattle.stick_model.specs.Limits.{IsTableEvent};
 ghost use Rattle.shard_book.specs.BookState.{stored_of};
 
@@ -35,7 +35,7 @@ fn step_all<T: Table>(alloc: Global, book: &Book<T>) -> Result<Option<Vec<Reply>
     let mut table = T::open(alloc, book.base().spec().copy()?)?;
     let mut replies = Vec::new(alloc);
     for call in calls {
-        match step_again(&mut table, call) {
+        match step_again(alloc, &mut table, call) {
             Ok(reply) => replies.push(reply)?,
             Err(Halt::Memory) => return Err(NoMemory),
             Err(Halt::Differs) => return Ok(None),
@@ -53,20 +53,37 @@ enum Halt {
 }
 
 /// Makes a recorded call again, which gets the slot that is recorded.
-fn step_again<T: Table>(table: &mut T, call: &Recorded) -> Result<Reply, Halt>
+fn step_again<T: Table>(alloc: Global, table: &mut T, call: &Recorded) -> Result<Reply, Halt>
     requires { IsTableEvent call.now.stored.event }
     ensures step { IfOk result (λ reply. Step (T.state table.old) call.now.stored.event reply (T.state table.new)) }
     ensures slot { IfOk result (λ reply. call.now.stored.slot ≡ slot_of reply) }
 {
-    match table.step(&call.stored.event) {
+    let Ok(stored) = call.stored(alloc) else {
+        return Err(Halt::Memory);
+    };
+    match table.step(&stored.event) {
         Ok(reply) => {
-            if reply.slot() != call.stored.slot {
+            if reply.slot() != stored.slot {
                 return Err(Halt::Differs);
             }
             Ok(reply)
         }
         Err(Refusal::Memory) => Err(Halt::Memory),
         Err(_) => Err(Halt::Differs),
+    }
+}
+
+/// Makes a recorded call again on a plain table, by the slot that is recorded.
+fn redo_again(alloc: Global, table: &mut PlainTable, call: &Recorded) -> Result<Reply, NoMemory>
+    requires event { IsTableEvent call.now.stored.event }
+    requires slot { CanRedo table.old call.now.stored }
+    ensures step { IfOk result (λ reply. Step table.old call.now.stored.event reply table.new) }
+    ensures redone { IfOk result (λ reply. redone table.old call.now.stored ≡ (reply, table.new)) }
+{
+    let stored = call.stored(alloc)?;
+    match table.redo(&stored) {
+        Ok(reply) => Ok(reply),
+        Err(_) => Err(NoMemory),
     }
 }
 
@@ -80,9 +97,9 @@ fn redo_all<T: Table>(alloc: Global, book: &Book<T>) -> Result<Vec<Reply>, NoMem
     let mut table = PlainTable::open(alloc, book.base().spec().copy()?)?;
     let mut replies = Vec::new(alloc);
     for call in calls {
-        match table.redo(&call.stored) {
+        match redo_again(alloc, &mut table, call) {
             Ok(reply) => replies.push(reply)?,
-            Err(_) => return Err(NoMemory),
+            Err(refused) => return Err(refused),
         }
     }
     Ok(replies)

@@ -9,7 +9,7 @@ ghost use Rattle.shard_settling.specs.Settled.{AreTold, told_to};
 use shard_book::{Receipt, Recorded};
 use shard_locks::SharedSeat;
 use shard_record::Naming;
-use stick_model::{same_event, same_reply};
+use stick_model::same_reply;
 use stick_table::Reply;
 
 /// Whether a seat's receipts of a shard are its calls there with these replies, in their order, and no others.
@@ -26,7 +26,7 @@ pub fn is_told(
     let mut next = next_at(receipts, shard, 0);
     for i in 0..calls.len() {
         let call = &calls[i];
-        if call.seat == seat {
+        if call.seat() == seat {
             if next >= receipts.len() {
                 return false;
             }
@@ -44,7 +44,7 @@ pub fn is_told(
 fn is_of(receipt: &Receipt, call: &Recorded, reply: &Reply) -> bool
     ensures { IsTrue result ↔ ((receipt.now.event ≡ call.now.stored.event) × (receipt.now.reply ≡ reply.now)) }
 {
-    same_event(&receipt.event, &call.stored.event) && same_reply(&receipt.reply, reply)
+    call.is_of(&receipt.event) && same_reply(&receipt.reply, reply)
 }
 
 /// The place of the next receipt of a shard, or the number of receipts.

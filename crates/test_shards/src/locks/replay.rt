@@ -6,18 +6,8 @@ ghost use Rattle.shard_book.specs.BookState.{stored_of};
 use base_sequence::{NoMemory, Sequence};
 use shard_book::{Book, Receipt, Recorded};
 use std::alloc::Global;
-use stick_model::{same_event, same_reply};
+use stick_model::same_reply;
 use stick_table::{PlainTable, Refusal, Reply, Stored, Table, redo_all};
-
-/// A call of a record, without its seat.
-fn stored_call(call: &Recorded) -> Result<Stored, NoMemory>
-    ensures { IfOk result (λ stored. stored ≡ call.now.stored) }
-{
-    Ok(Stored {
-        event: call.stored.event.copy()?,
-        slot: call.stored.slot,
-    })
-}
 
 /// The calls of a record, without their seats.
 fn stored_calls(alloc: Global, calls: &[Recorded]) -> Result<Vec<Stored>, NoMemory>
@@ -25,7 +15,7 @@ fn stored_calls(alloc: Global, calls: &[Recorded]) -> Result<Vec<Stored>, NoMemo
 {
     let mut stored = Vec::new(alloc);
     for call in calls {
-        stored.push(stored_call(call)?)?;
+        stored.push(call.stored(alloc)?)?;
     }
     Ok(stored)
 }
@@ -39,9 +29,7 @@ pub fn replies_of(alloc: Global, book: &Book<PlainTable>) -> Result<Sequence<Rep
 
 /// Whether that is what was noted of a call.
 fn is_noted(note: &Receipt, shard: u32, call: &Recorded, reply: &Reply) -> bool {
-    note.shard == shard
-        && same_event(&note.event, &call.stored.event)
-        && same_reply(&note.reply, reply)
+    note.shard == shard && call.is_of(&note.event) && same_reply(&note.reply, reply)
 }
 
 /// The place of the next note of a shard, from this one on.
@@ -79,7 +67,7 @@ pub fn is_told(
     let mut place = next_note(notes, shard, 0);
     for index in 0..calls.len() {
         let call = &calls[index];
-        if call.seat != seat {
+        if call.seat() != seat {
             continue;
         }
         if !is_noted_at(notes, place, shard, call, replies.get(index)) {

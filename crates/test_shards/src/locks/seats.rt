@@ -141,7 +141,7 @@ fn is_event_counted(
 /// The seats under whose numbers a book has recorded its first calls.
 fn recorded_seats(book: &Book<PlainTable>) -> Option<(u32, u32, u32)> {
     match book.calls() {
-        [first, second, third, ..] => Some((first.seat, second.seat, third.seat)),
+        [first, second, third, ..] => Some((first.seat(), second.seat(), third.seat())),
         _ => None,
     }
 }

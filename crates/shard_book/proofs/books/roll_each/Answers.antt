@@ -1,8 +1,7 @@
-use Rattle.std.proofs.Common.{◌≡◌, ◌<◌, List, Some, length, slice_get, refl, sym, ap, ◌∙◌, arith}
+use Rattle.std.proofs.Common.{◌≡◌, ◌<◌, List, Some, length, slice_get, sym, ap, ◌∙◌, arith}
 use Rattle.std.proofs.lemmas.Option.{slice_get-get_or}
 use Rattle.shard_book.specs.BookState.{BookState}
-use Rattle.shard_book.proofs.BooksLemmas.{set_same}
-use Rattle.shard_book.proofs.RollLemmas.{all_rolled, length-rolled_first, rolled_more}
+use Rattle.shard_book.proofs.RollLemmas.{length-rolled_first, rolled_more}
 use Rattle.shard_book.proofs.books.roll_each.Goals as goal
 
 pub loop-shard-preserved : goal.loop-shard-preserved

@@ -26,13 +26,13 @@ loop-call-preserved g c =
     let i : ℕ = c.loop-call.call-index in
     let call : Recorded = c.call-item.result in
     let middle : State = c.loop-call.table in
-    let next : State = c.redo.new.self in
+    let next : State = c.redo_again.new.table in
     let reply : Reply = c.in-Ok.reply in
     let was = c.loop-call.invariant in
     let slot = redo-slot book.live calls i call middle reply next c.loop-call-test.true c.call-item.is was.rest c.in-Ok.ensures.redone in
     record {
       calls = was.calls;
       done = subst (λ (rs : List Reply). StoredRun book.base (stored_of (take (i + 1) calls)) rs next) (sym c.in_ok-push-in-Ok.ensures.items)
-          (made-more book.base book.live calls i call c.loop-call.replies.items middle reply next c.loop-call-test.true c.call-item.is was.done slot c.in-Ok.ensures.ok);
-      rest = leads-more book.live calls i call middle reply next c.loop-call-test.true c.call-item.is was.rest slot c.in-Ok.ensures.ok;
+          (made-more book.base book.live calls i call c.loop-call.replies.items middle reply next c.loop-call-test.true c.call-item.is was.done slot c.in-Ok.ensures.step);
+      rest = leads-more book.live calls i call middle reply next c.loop-call-test.true c.call-item.is was.rest slot c.in-Ok.ensures.step;
     }

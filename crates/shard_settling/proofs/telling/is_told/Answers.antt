@@ -7,7 +7,7 @@ use Rattle.shard_book.specs.declared.receipt.Receipt.{Receipt}
 use Rattle.shard_book.specs.SeatState.{receipts_at}
 use Rattle.shard_settling.proofs.ToldLemmas.{all_told, at_place, heads_are, heads_join, none_left, one_left, some_reply, told-skip}
 use Rattle.shard_settling.proofs.telling.is_told.Goals as goal
-use Rattle.shard_settling.proofs.telling.is_told.Goals.{then-call-seat+else-next-receipts+else-not-is_of, else-call-seat}
+use Rattle.shard_settling.proofs.telling.is_told.Goals.{then-seat+else-next-receipts+else-not-is_of, else-seat}
 
 pub returns-then-next-receipts : goal.returns-then-next-receipts
 returns-then-next-receipts c =
@@ -16,7 +16,7 @@ returns-then-next-receipts c =
     let i : ℕ = c.loop-i.i in
     let r = some_reply rs i (omega (arith, c.requires, c.loop-i-test.true)) in (
       λ f. absurd (false≢true f),
-      λ all. absurd (none_left c.args.shard c.args.seat cs rs c.args.receipts.now i c.loop-i.next c.index-calls-i.result r.0 c.loop-i-test.true c.index-calls-i.is r.1 r.2 c.if-call-seat.true c.if-next-receipts.true (c.loop-i.invariant.same.0 all)),
+      λ all. absurd (none_left c.args.shard c.args.seat cs rs c.args.receipts.now i c.loop-i.next c.index-calls-i.result r.0 c.loop-i-test.true c.index-calls-i.is r.1 r.2 (sym c.seat.ensures ∙ c.if-seat.true) c.if-next-receipts.true (c.loop-i.invariant.same.0 all)),
     )
 
 pub returns-then-not-is_of : goal.returns-then-not-is_of
@@ -25,7 +25,7 @@ returns-then-not-is_of c =
     let y = c.index-replies-i in
     let shard = c.loop-i.invariant.here x.result (at_place c.args.receipts.now c.loop-i.next x.result c.if-next-receipts.false x.is) in (
       λ f. absurd (false≢true f),
-      λ all. absurd (false≢true (sym c.if-not-is_of.true ∙ c.is_of.ensures.1 (heads_are c.args.shard c.args.seat c.args.calls.now c.args.replies.now c.args.receipts.now c.loop-i.i c.loop-i.next c.index-calls-i.result y.result x.result c.loop-i-test.true c.index-calls-i.is (omega (arith, c.requires, c.loop-i-test.true)) y.is c.if-call-seat.true c.if-next-receipts.false x.is shard (c.loop-i.invariant.same.0 all)).0)),
+      λ all. absurd (false≢true (sym c.if-not-is_of.true ∙ c.is_of.ensures.1 (heads_are c.args.shard c.args.seat c.args.calls.now c.args.replies.now c.args.receipts.now c.loop-i.i c.loop-i.next c.index-calls-i.result y.result x.result c.loop-i-test.true c.index-calls-i.is (omega (arith, c.requires, c.loop-i-test.true)) y.is (sym c.seat.ensures ∙ c.if-seat.true) c.if-next-receipts.false x.is shard (c.loop-i.invariant.same.0 all)).0)),
     )
 
 pub loop-i-preserved : goal.loop-i-preserved
@@ -38,25 +38,25 @@ loop-i-preserved c =
     let Here : ℕ → Type 0 = λ n. (one : Receipt) → slice_get xs n ≡ Some one → one.shard ≡ c.args.shard in
     let At = λ (n : ℕ). receipts_at c.args.shard (drop n xs) in
     let was = c.loop-i.invariant in
-    elim c.if-call-seat.branch [
-      | then-call-seat+else-next-receipts+else-not-is_of w ↦
+    elim c.if-seat.branch [
+      | then-seat+else-next-receipts+else-not-is_of w ↦
           let x = w.index-receipts-next in
           let y = w.index-replies-i in
           let shard = was.here x.result (at_place xs c.loop-i.next x.result w.if-next-receipts.false x.is) in
           let agreed = w.is_of.ensures.0 (search rules) in
-          let later = w.next_at-next-then-call-seat.ensures in
+          let later = w.next_at-next-then-seat.ensures in
           let below : i < length rs = omega (arith, c.requires, c.loop-i-test.true) in
           record {
             bound = rw w.next-is later.bound.1;
             here = subst Here (sym w.next-is) later.here;
             same = (
-              λ all. (heads_are c.args.shard c.args.seat cs rs xs i c.loop-i.next call.result y.result x.result c.loop-i-test.true call.is below y.is w.if-call-seat.true w.if-next-receipts.false x.is shard (was.same.0 all)).1 ∙ later.rest ∙ ap At (sym w.next-is),
-              λ e. was.same.1 (heads_join c.args.shard c.args.seat cs rs xs i c.loop-i.next call.result y.result x.result c.loop-i-test.true call.is below y.is w.if-call-seat.true w.if-next-receipts.false x.is shard agreed.0 agreed.1 (e ∙ ap At w.next-is ∙ sym later.rest)),
+              λ all. (heads_are c.args.shard c.args.seat cs rs xs i c.loop-i.next call.result y.result x.result c.loop-i-test.true call.is below y.is (sym c.seat.ensures ∙ w.if-seat.true) w.if-next-receipts.false x.is shard (was.same.0 all)).1 ∙ later.rest ∙ ap At (sym w.next-is),
+              λ e. was.same.1 (heads_join c.args.shard c.args.seat cs rs xs i c.loop-i.next call.result y.result x.result c.loop-i-test.true call.is below y.is (sym c.seat.ensures ∙ w.if-seat.true) w.if-next-receipts.false x.is shard agreed.0 agreed.1 (e ∙ ap At w.next-is ∙ sym later.rest)),
             );
           }
-      | else-call-seat w ↦
+      | else-seat w ↦
           let r = some_reply rs i (omega (arith, c.requires, c.loop-i-test.true)) in
-          let skip = told-skip c.args.shard c.args.seat cs rs i call.result r.0 c.loop-i-test.true call.is r.1 r.2 w.if-call-seat.false in
+          let skip = told-skip c.args.shard c.args.seat cs rs i call.result r.0 c.loop-i-test.true call.is r.1 r.2 (λ same. w.if-seat.false (c.seat.ensures ∙ same)) in
           record {
             bound = rw w.next-is was.bound;
             here = subst Here (sym w.next-is) was.here;
