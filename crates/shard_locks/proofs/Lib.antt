@@ -6,3 +6,4 @@ pub mod SharedLemmas
 pub mod KeptLemmas
 pub mod KeyLemmas
 pub mod HoldingLemmas
+pub mod LastCalls

@@ -26,7 +26,7 @@ use Rattle.rule_eval.specs.Readings.{value_in}
 use Rattle.admit_core.proofs.ShownLemmas.{reading_law}
 use Rattle.shard_book.specs.Kept.{IsMadeWith}
 use Rattle.tcp_relay.specs.Passed.{few_in, shows_few}
-use Rattle.tcp_relay.proofs.PassedCalls.{shown}
+use Rattle.shard_locks.proofs.LastCalls.{shown}
 
 -- ---- which calls are looks that show a row
 

@@ -35,7 +35,8 @@ use Rattle.admit_port.specs.Calls.{AnswersAt, Call}
 use Rattle.shard_locks.specs.Shared.{WasOut}
 use Rattle.shard_locks.proofs.KeyLemmas.{was_later}
 use Rattle.tcp_relay.specs.Passed.{known_of, shows_few}
-use Rattle.tcp_relay.proofs.PassedCalls.{any_later, look_few, track_out}
+use Rattle.shard_locks.proofs.LastCalls.{key_out}
+use Rattle.tcp_relay.proofs.PassedCalls.{any_later, look_few}
 use Rattle.tcp_relay.proofs.PassedHeld.{IsJudged}
 use Rattle.tcp_relay.proofs.PassedTold.{get_set_other, get_set_same, other_same, told_grows, told_history}
 
@@ -201,7 +202,7 @@ told_track setup old new table part now key given row by on_shard =
       on_shard = on_shard;
       history = subst IsHistory (sym knows) history;
       made = subst (λ (t : ShardsState). IsOfShard t part by.after.known) (sym by.answers.table) by.answers.of_shard;
-      of_key = subst (λ log. WasOut log given key) (sym knows) (track_out before number now key given row history);
+      of_key = subst (λ log. WasOut log given key) (sym knows) (key_out before number now key given row history);
     }
 
 -- of one that was out, that a row of few is its look's

@@ -1,99 +1,42 @@
 -- A client that comes to a table in shards: what its calls tell of its reference.
-use Rattle.std.proofs.Common.{◌≡◌, ℕ, ◌+◌, ◌-◌, ◌^◌, ◌≤◌, ◌<◌, min, refl, sym, ap, subst, ◌∙◌, arith, Bool, true, false, cond, nat_le, ◌&&◌, ◌||◌, inl, inr, List, [], ◌∷◌, ◌++◌, Option, Some, None, is_some, Result, Ok, Err}
+use Rattle.std.proofs.Common.{◌≡◌, ℕ, ◌+◌, ◌-◌, ◌^◌, ◌≤◌, ◌<◌, min, refl, sym, ap, subst, ◌∙◌, arith, Bool, true, false, cond, nat_le, ◌&&◌, inl, inr, List, [], ◌∷◌, ◌++◌, Result, Ok, Err}
 use Rattle.std.specs.List.{list_any}
-use Rattle.std.proofs.lemmas.Bool.{cases_Bool, false≢true}
+use Rattle.std.proofs.lemmas.Bool.{cases_Bool}
 use Rattle.std.proofs.lemmas.Bool.Decides.{nat_tests}
-use mathlib.Core.List.{IsPrefix}
 use Rattle.stick_model.specs.Key.{Key, same_key}
-use Rattle.stick_model.specs.Laws.{IsAnsweredFrom}
-use Rattle.stick_model.specs.Legal.{IsLegal}
 use Rattle.stick_model.specs.Passed.{has_passed, passing_looks}
-use Rattle.stick_model.specs.State.{State, key_of, same_ticket}
-use Rattle.stick_model.specs.Step.{Step}
-use Rattle.stick_model.specs.declared.events.Event.{Event}
+use Rattle.stick_model.specs.State.{same_ticket}
 use Rattle.stick_model.specs.declared.events.Event.TheVariants.{Look, Track}
-use Rattle.stick_model.specs.declared.replies.Reply.{Reply}
 use Rattle.stick_model.specs.declared.replies.Reply.TheVariants.{Row as ARow, Tracked}
 use Rattle.stick_model.specs.declared.replies.Refusal.{Refusal}
 use Rattle.stick_model.specs.declared.replies.Refusal.TheVariants.{Stale}
 use Rattle.stick_model.specs.declared.rows.Row.{Row}
 use Rattle.stick_model.specs.declared.rows.Ticket.{Ticket}
 use Rattle.stick_model.proofs.KeyLemmas.{same_key-refl}
-use Rattle.stick_model.proofs.ReferenceLemmas.{reference-law}
 use Rattle.shard_record.specs.declared.view.Call.{Call}
-use Rattle.shard_record.specs.Calls.{Answers, IsHistory, IsHistoryOf, IsRecord, call, events_in, out, passed_in, replies_in}
+use Rattle.shard_record.specs.Calls.{IsHistory, call, events_in, passed_in, replies_in}
 use Rattle.shard_record.specs.Views.{View}
 use Rattle.shard_record.specs.Telling.{IsTold, log_of, number_of}
-use Rattle.shard_record.proofs.OneKey.{one_key-law}
-use Rattle.shard_record.proofs.Prefixes.{prefix_trans}
-use Rattle.shard_record.proofs.Records.{history_legal, history_out, looks_append}
+use Rattle.shard_record.proofs.Records.{looks_append}
 use Rattle.shard_record.proofs.Tickets.{same_self}
 use Rattle.shard_book.specs.SeatState.{RefState}
 use Rattle.shard_locks.specs.Holding.{count_held}
 use Rattle.shard_locks.specs.Shared.{WasOut}
 use Rattle.shard_locks.specs.ShardsState.{ShardsState, book_of}
 use Rattle.shard_locks.proofs.KeyLemmas.{track_out, was_later}
-use Rattle.test_calls.specs.Crowds.{HasPassed, IsCounted, IsTracked}
+use Rattle.shard_locks.proofs.LastCalls.{any_last, look_key}
+use Rattle.test_calls.specs.Crowds.{WasWithin, AreAdmitted, IsKnownOut}
 
 -- ---- a reference is made
 
-pub tracked_is : (table : ShardsState) (place now : ℕ) (key : Key) (reference : RefState) (row : Row) (old new : View) → IsTold (book_of table place) (Track now key) (Tracked reference.ticket row) old new → reference.shard ≡ place → IsTracked table new reference
+pub tracked_is : (table : ShardsState) (place now : ℕ) (key : Key) (reference : RefState) (row : Row) (old new : View) → IsTold (book_of table place) (Track now key) (Tracked reference.ticket row) old new → reference.shard ≡ place → IsKnownOut table new reference
 tracked_is table place now key reference row old new told at =
     let book : ℕ = book_of table place in
     let before : List Call = log_of book old ++ told.between in
     let was = track_out before (number_of book old) now key reference.ticket row (subst IsHistory told.log told.history) in
     (row.key, subst (λ n. WasOut (log_of (book_of table n) new) reference.ticket row.key) (sym at) (subst (λ log. WasOut log reference.ticket row.key) (sym told.log) was))
 
--- ---- the last call
-
-split_last : (old : State) (log : List Call) (one : Call) (live : State) → IsRecord old (log ++ one ∷ []) live → (before : State) × IsRecord old log before × Answers before one.event one.reply live
-split_last old [] one live is = (old, refl, subst (λ (s : State). Answers old one.event one.reply s) (sym is.2) is.1)
-split_last old (first ∷ log) one live is = let rest = split_last is.0 log one live is.2 in (rest.0, (is.0, is.1, rest.1), rest.2)
-
-record HasEnded (log : List Call) (event : Event) (reply : Reply) : Type 0 where
-  before : State
-  live : State
-  history : IsHistoryOf log before
-  answers : Answers before event reply live
-
-ended : (log : List Call) (seat : ℕ) (event : Event) (reply : Reply) → IsHistory (log ++ call seat event reply ∷ []) → HasEnded log event reply
-ended log seat event reply is =
-    let split = split_last is.1.start log (call seat event reply) is.0 is.1.runs in
-    record { before = split.0; live = is.0; history = record { start = is.1.start; begins = is.1.begins; runs = split.1 }; answers = split.2 }
-
 -- ---- a look
-
-the_row : (a b : Row) → ARow a ≡ ARow b → a ≡ b
-the_row a b e = cc
-
-some_of : (o : Option Key) → is_some o ≡ true → (key : Key) × (o ≡ Some key)
-some_of None is = absurd (false≢true is)
-some_of (Some key) is = (key, refl)
-
-record HasShown (old : State) (ticket : Ticket) (row : Row) : Type 0 where
-  key : Key
-  is_out : key_of ticket old.tickets ≡ Some key
-  of_key : row.key ≡ key
-
-shown : (old : State) (now : ℕ) (ticket : Ticket) (row : Row) (new : State) → IsLegal old → Step old (Look now ticket) (ARow row) new → HasShown old ticket row
-shown old now ticket row new legal step =
-    let there = some_of (key_of ticket old.tickets) step.out in
-    let from : IsAnsweredFrom old there.0 (Look now ticket) (ARow row) = reference-law old (Look now ticket) (ARow row) new ticket there.0 legal step refl there.1 in
-    record { key = there.0; is_out = there.1; of_key = ap (λ (r : Row). r.key) (the_row row _ from.answered) }
-
--- a ticket that was out by a key is shown rows of that key
-look_key : (log : List Call) (seat now : ℕ) (ticket : Ticket) (key : Key) (row : Row) → IsHistory (log ++ call seat (Look now ticket) (ARow row) ∷ []) → WasOut log ticket key → row.key ≡ key
-look_key log seat now ticket key row is was =
-    let whole : List Call = log ++ call seat (Look now ticket) (ARow row) ∷ [] in
-    let end = ended log seat (Look now ticket) (ARow row) is in
-    let shows = shown end.before now ticket row end.live (history_legal log end.before end.history) end.answers.step in
-    let here : key_of ticket (out log) ≡ Some shows.key = ap (key_of ticket) (sym (history_out log end.before end.history)) ∙ shows.is_out in
-    let begins : IsPrefix log whole = (call seat (Look now ticket) (ARow row) ∷ [], refl) in
-    shows.of_key ∙ one_key-law whole was.0 log ticket key shows.key is (prefix_trans was.0 log whole was.1 begins) begins was.2 here
-
-any_last : {X : Type 0} (p : X → Bool) (xs : List X) (x : X) → p x ≡ true → list_any p (xs ++ x ∷ []) ≡ true
-any_last p [] x is = ap (λ b. b || false) is
-any_last p (y ∷ xs) x is = elim (p y) as (λ b. (b || list_any p (xs ++ x ∷ [])) ≡ true) [ true ↦ refl | false ↦ any_last p xs x is ]
 
 -- a look that shows few enough passes its reference
 passed_last : (key : Key) (limit seat now : ℕ) (ticket : Ticket) (row : Row) (log : List Call) → row.key ≡ key → nat_le row.refs limit ≡ true → passed_in key limit (log ++ call seat (Look now ticket) (ARow row) ∷ []) (ticket, key) ≡ true
@@ -106,7 +49,7 @@ passed_last key limit seat now ticket row log of_key few =
     subst (λ ts. has_passed key ts (ticket, key) ≡ true) (sym all)
     (ap (λ b. b && list_any (same_ticket ticket) (before ++ ticket ∷ [])) (same_key-refl key) ∙ any_last (same_ticket ticket) before ticket (same_self ticket))
 
-pub looked_is : (table : ShardsState) (limit now : ℕ) (reference : RefState) (row : Row) (old new : View) → IsTold (book_of table reference.shard) (Look now reference.ticket) (ARow row) old new → nat_le row.refs limit ≡ true → IsTracked table old reference → HasPassed table limit reference new
+pub looked_is : (table : ShardsState) (limit now : ℕ) (reference : RefState) (row : Row) (old new : View) → IsTold (book_of table reference.shard) (Look now reference.ticket) (ARow row) old new → nat_le row.refs limit ≡ true → IsKnownOut table old reference → WasWithin table limit reference new
 looked_is table limit now reference row old new told few tracked =
     let book : ℕ = book_of table reference.shard in
     let seat : ℕ = number_of book old in
@@ -141,8 +84,8 @@ is_there shards shard row result is strange =
 
 -- ---- two counts
 
-pub both_counted : (table : ShardsState) (one other new : View) (first second all : ℕ) → IsCounted table one first → IsCounted table other second → count_held table new ≡ count_held table one + count_held table other
-    → all ≡ min (first + second) (2 ^ 32 - 1) → IsCounted table new all
+pub both_counted : (table : ShardsState) (one other new : View) (first second all : ℕ) → AreAdmitted table one first → AreAdmitted table other second → count_held table new ≡ count_held table one + count_held table other
+    → all ≡ min (first + second) (2 ^ 32 - 1) → AreAdmitted table new all
 both_counted table one other new first second all counted counts both sum =
     sum_of (count_held table one) (count_held table other) (count_held table new) first second all counted counts both sum
   where

@@ -13,12 +13,12 @@ use Rattle.shard_locks.specs.Shared.{WasOut}
 use Rattle.shard_locks.specs.ShardsState.{ShardsState, book_of}
 
 -- by what a seat knows, the ticket of the reference was out
-abbrev pub IsTracked : ShardsState → View → RefState → Type 0
-IsTracked table known reference = (key : Key) × WasOut (log_of (book_of table reference.shard) known) reference.ticket key
+abbrev pub IsKnownOut : ShardsState → View → RefState → Type 0
+IsKnownOut table known reference = (key : Key) × WasOut (log_of (book_of table reference.shard) known) reference.ticket key
 
 -- by what a seat knows, the reference is of a key, and had a look that shows at most `limit` references of that key
-abbrev pub HasPassed : ShardsState → ℕ → RefState → View → Type 0
-HasPassed table limit reference known = (key : Key) × WasOut (log_of (book_of table reference.shard) known) reference.ticket key
+abbrev pub WasWithin : ShardsState → ℕ → RefState → View → Type 0
+WasWithin table limit reference known = (key : Key) × WasOut (log_of (book_of table reference.shard) known) reference.ticket key
     × (passed_in key limit (log_of (book_of table reference.shard) known) (reference.ticket, key) ≡ true)
 
 -- a reference is looked at, and is within the limit exactly if its row shows at most so many references; or the look is refused
@@ -27,5 +27,5 @@ IsJudged table limit now reference old within new =
     ((row : Row) × IsTold (book_of table reference.shard) (Look now reference.ticket) (ARow row) old new × (within ≡ nat_le row.refs limit)) ⊎ ((within ≡ false) × (new ≡ old))
 
 -- so many are admitted: as many as have references, up to what the count can tell
-abbrev pub IsCounted : ShardsState → View → ℕ → Type 0
-IsCounted table token admitted = admitted ≡ min (count_held table token) (2 ^ 32 - 1)
+abbrev pub AreAdmitted : ShardsState → View → ℕ → Type 0
+AreAdmitted table token admitted = admitted ≡ min (count_held table token) (2 ^ 32 - 1)

@@ -4,7 +4,7 @@
 ghost use Rattle.std.specs.Prelude.{◌≡◌, ◌+◌, ◌<◌, ◌≤◌, ◌^◌, ℕ, true, IfSome};
 ghost use Rattle.stick_model.specs.Key.{Key as AKey};
 ghost use Rattle.shard_locks.specs.Holding.{HoldsPassed, count_held, held_on};
-ghost use Rattle.test_calls.specs.Crowds.{HasPassed, IsCounted, IsJudged, IsTracked};
+ghost use Rattle.test_calls.specs.Crowds.{WasWithin, AreAdmitted, IsJudged, IsKnownOut};
 
 use shard_locks::{Shards, SharedRef, SharedSeat, Tracking};
 use shard_record::{Naming, Token};
@@ -36,7 +36,7 @@ fn track_one<T: Table, J: Naming>(
     key: StickKey,
 ) -> Option<SharedRef<J>>
     requires moment { now < 2 ^ 62 }
-    ensures tracked { IfSome result (IsTracked table.now seat.new.known) }
+    ensures tracked { IfSome result (IsKnownOut table.now seat.new.known) }
 {
     match table.track(rt, seat, now, key) {
         Ok(Tracking::Tracked(reference, _row)) => Some(reference),
@@ -57,7 +57,7 @@ fn is_within<T: Table, J: Naming>(
     requires moment { now < 2 ^ 62 }
     ensures judged { IsJudged table.now limit now reference.now seat.old.known result seat.new.known }
     ensures there { result ≡ true → reference.now.shard < table.now.shards }
-    ensures passed { result ≡ true → IsTracked table.now seat.old.known reference.now → HasPassed table.now limit reference.now seat.new.known }
+    ensures passed { result ≡ true → IsKnownOut table.now seat.old.known reference.now → WasWithin table.now limit reference.now seat.new.known }
 {
     match table.look(rt, seat, reference, now) {
         Ok(row) => row.refs <= limit,
@@ -84,7 +84,7 @@ fn let_go<T: Table, J: Naming>(
 /// A client that isn't admitted: it holds nothing.
 fn turned_away<T: Table, J: Naming>(table: &Shards<T, J>, seat: SharedSeat<J>) -> Crowd<J>
     ensures none { count_held table.now result.held ≡ 0 }
-    ensures counted { IsCounted table.now result.held result.admitted }
+    ensures counted { AreAdmitted table.now result.held result.admitted }
     ensures passed { (limit : ℕ) → HoldsPassed table.now limit result.held }
 {
     Crowd {
@@ -102,9 +102,9 @@ fn let_in<T: Table, J: Naming>(
     limit: u32,
 ) -> Crowd<J>
     requires there { reference.shard < table.now.shards }
-    requires passed { HasPassed table.now limit reference seat.known }
+    requires passed { WasWithin table.now limit reference seat.known }
     ensures one { count_held table.now result.held ≡ 1 }
-    ensures counted { IsCounted table.now result.held result.admitted }
+    ensures counted { AreAdmitted table.now result.held result.admitted }
     ensures passed { HoldsPassed table.now limit result.held }
 {
     Crowd {
@@ -123,7 +123,7 @@ fn admit_one<T: Table, J: Naming>(
     limit: u32,
 ) -> Crowd<J>
     requires moment { now < 2 ^ 62 }
-    ensures counted { IsCounted table.now result.held result.admitted }
+    ensures counted { AreAdmitted table.now result.held result.admitted }
     ensures passed { HoldsPassed table.now limit result.held }
 {
     let Client { mut seat, key } = client;
@@ -144,10 +144,10 @@ fn both<T: Table, J: Naming>(
     second: Crowd<J>,
     limit: u32,
 ) -> Crowd<J>
-    requires first { IsCounted table.now first.held first.admitted × HoldsPassed table.now limit first.held }
-    requires second { IsCounted table.now second.held second.admitted × HoldsPassed table.now limit second.held }
+    requires first { AreAdmitted table.now first.held first.admitted × HoldsPassed table.now limit first.held }
+    requires second { AreAdmitted table.now second.held second.admitted × HoldsPassed table.now limit second.held }
     ensures both { count_held table.now result.held ≡ count_held table.now first.held + count_held table.now second.held }
-    ensures counted { IsCounted table.now result.held result.admitted }
+    ensures counted { AreAdmitted table.now result.held result.admitted }
     ensures passed { HoldsPassed table.now limit result.held }
 {
     let admitted = first.admitted.saturating_add(second.admitted);
@@ -173,7 +173,7 @@ pub fn admit_all<T: Table + Send, J: Naming + Send + Sync, R: Threads + Wait + S
     limit: u32,
 ) -> Crowd<J>
     requires moment { now < 2 ^ 62 }
-    ensures counted { IsCounted table.now result.held result.admitted }
+    ensures counted { AreAdmitted table.now result.held result.admitted }
     ensures passed { HoldsPassed table.now limit result.held }
     ensures limit { (shard : ℕ) → shard < table.now.shards → (key : AKey) → held_on table.now shard key result.held ≤ limit }
 {
@@ -184,11 +184,11 @@ pub fn admit_all<T: Table + Send, J: Naming + Send + Sync, R: Threads + Wait + S
         rt,
         move || -> Crowd<J>
             requires { now < 2 ^ 62 }
-            ensures { IsCounted table.entry.now result.held result.admitted × HoldsPassed table.entry.now limit result.held }
+            ensures { AreAdmitted table.entry.now result.held result.admitted × HoldsPassed table.entry.now limit result.held }
         { admit_one(rt, table, first, now, limit) },
         move || -> Crowd<J>
             requires { now < 2 ^ 62 }
-            ensures { IsCounted table.entry.now result.held result.admitted × HoldsPassed table.entry.now limit result.held }
+            ensures { AreAdmitted table.entry.now result.held result.admitted × HoldsPassed table.entry.now limit result.held }
         { admit_all(rt, table, next, others, now, limit) },
     );
     both(table, one, more, limit)
