@@ -1,7 +1,8 @@
 -- How a recorded call lies in memory. No clause of a book cites this module.
 use Rattle.std.specs.Prelude.{◌≡◌, ℕ, Option, None, [], ◌∷◌}
 use Rattle.stick_model.specs.declared.events.Event.{Event}
-use Rattle.stick_model.specs.declared.events.Event.TheVariants.{Get, Track, Look, Count, Release, Put, Clear, Expire}
+use Rattle.stick_model.specs.declared.events.Event.TheVariants.{Get, Track, Look, Count, Release, Put, Clear, ClearWhere, Expire}
+use Rattle.stick_model.specs.declared.filters.Filter.TheVariants.{Everything, Compare}
 use Rattle.shard_book.specs.declared.brief.Brief.{Brief}
 use Rattle.shard_book.specs.declared.brief.Brief.TheVariants as kept
 use Rattle.shard_book.specs.RecordedState.{RecordedState}
@@ -26,6 +27,8 @@ call_in (kept.Count seat ticket now act) = unanswered seat (Count now ticket act
 call_in (kept.Release seat ticket now) = unanswered seat (Release now ticket)
 call_in (kept.Put key seat cell now) = unanswered seat (Put now key (cell ∷ []))
 call_in (kept.Clear key seat now) = unanswered seat (Clear now key)
+call_in (kept.ClearAll seat now) = unanswered seat (ClearWhere now Everything)
+call_in (kept.ClearBy seat field op bound now) = unanswered seat (ClearWhere now (Compare field op bound))
 call_in (kept.Expire seat now) = unanswered seat (Expire now)
 call_in (kept.Whole seat slot event) = recorded_as seat event.value slot
 

@@ -2,17 +2,18 @@
 
 ghost use Rattle.std.specs.Prelude.{◌≡◌, ◌↔◌, ◌∷◌, [], false, IsTrue, IfOk, IfSome, IsSome};
 ghost use Rattle.shard_book.specs.BookState.{may_grow};
+ghost use Rattle.stick_model.specs.declared.events.Event.TheVariants.{ClearWhere};
 ghost use Rattle.shard_book.specs.Briefs.{MayTell, call_in, unanswered, with_slot};
 
 use crate::short::Short;
 use base_sequence::NoMemory;
 use std::alloc::Global;
 use stick_model::same_event;
-use stick_table::{Cell, Cells, Event, Ticket};
-use stored_data::Act;
+use stick_table::{Cell, Cells, Event, Filter, Op, Ticket};
+use stored_data::{Act, Field};
 
-/// A call in 48 bytes, with a key of up to sixteen bytes and a pair of a `Put` that has but one. Any other event has memory of its
-/// own. The fields lie in this order, small ones first, as they then need no room between them.
+/// A call in 48 bytes, with a key of up to sixteen bytes, a pair of a `Put` that has but one, and a clear of all or by a value. Any other
+/// event has memory of its own. The fields lie in this order, small ones first, as they then need no room between them.
 #[derive(Drop)]
 pub(crate) enum Brief {
     Get {
@@ -51,6 +52,17 @@ pub(crate) enum Brief {
     Clear {
         key: Short,
         seat: u32,
+        now: u64,
+    },
+    ClearAll {
+        seat: u32,
+        now: u64,
+    },
+    ClearBy {
+        seat: u32,
+        field: Field,
+        op: Op,
+        bound: u64,
         now: u64,
     },
     Expire {
@@ -105,7 +117,25 @@ impl Brief {
                 now: *now,
             }),
             Event::Expire(now) => Some(Brief::Expire { seat, now: *now }),
+            Event::ClearWhere(now, filter) => Brief::of_filter(seat, *now, filter),
             _ => Brief::of_key(seat, event),
+        }
+    }
+
+    /// The same of a clear by a filter.
+    fn of_filter(seat: u32, now: u64, filter: &Filter) -> Option<Brief>
+        ensures { IfSome result (λ brief. call_in brief ≡ unanswered seat (ClearWhere now filter.now)) }
+    {
+        match filter {
+            Filter::Everything => Some(Brief::ClearAll { seat, now }),
+            Filter::Compare(field, op, bound) => Some(Brief::ClearBy {
+                seat,
+                field: *field,
+                op: *op,
+                bound: *bound,
+                now,
+            }),
+            _ => None,
         }
     }
 
@@ -192,6 +222,8 @@ impl Brief {
             Brief::Release { seat, .. } => *seat,
             Brief::Put { seat, .. } => *seat,
             Brief::Clear { seat, .. } => *seat,
+            Brief::ClearAll { seat, .. } => *seat,
+            Brief::ClearBy { seat, .. } => *seat,
             Brief::Expire { seat, .. } => *seat,
             Brief::Whole { seat, .. } => *seat,
         }
@@ -228,6 +260,14 @@ impl Brief {
                 Ok(Event::Put(*now, key.key(alloc)?, cells))
             }
             Brief::Clear { key, now, .. } => Ok(Event::Clear(*now, key.key(alloc)?)),
+            Brief::ClearAll { now, .. } => Ok(Event::ClearWhere(*now, Filter::Everything)),
+            Brief::ClearBy {
+                field,
+                op,
+                bound,
+                now,
+                ..
+            } => Ok(Event::ClearWhere(*now, Filter::Compare(*field, *op, *bound))),
             Brief::Expire { now, .. } => Ok(Event::Expire(*now)),
             Brief::Whole { event, .. } => Ok(event.copy()?),
         }
@@ -265,6 +305,19 @@ impl Brief {
             (Brief::Clear { key, now, .. }, Event::Clear(moment, asked)) => {
                 moment == now && key.is(asked)
             }
+            (Brief::ClearAll { now, .. }, Event::ClearWhere(moment, Filter::Everything)) => {
+                moment == now
+            }
+            (
+                Brief::ClearBy {
+                    field,
+                    op,
+                    bound,
+                    now,
+                    ..
+                },
+                Event::ClearWhere(moment, Filter::Compare(asked, how, limit)),
+            ) => moment == now && asked == field && how == op && limit == bound,
             (Brief::Expire { now, .. }, Event::Expire(moment)) => moment == now,
             (Brief::Whole { event: kept, .. }, _) => same_event(event, kept),
             _ => false,

@@ -18,7 +18,7 @@ use stick_table::{Event, Refusal, Reply, Stored, Table};
 const _: () = prove!(size_of::<Recorded>() <= 48);
 
 /// A call that was answered, and the seat that made it. It takes 48 bytes, and memory of its own only where its key has more
-/// than sixteen bytes, or it is of a filter or of any number of pairs but one.
+/// than sixteen bytes, or it is a listing or a put of any number of pairs but one.
 #[derive(Drop)]
 pub struct Recorded {
     call: Brief,
@@ -133,6 +133,7 @@ pub(crate) fn answer<T: Table>(
     ensures lives { OnOk result (has_life (T.state live.old) event.now ≡ true) }
     ensures refused { IfErr result (IsCallRefused (T.state live.old) event.now) }
     ensures err { OnErr result (T.state live.new ≡ T.state live.old) }
+    ensures base { T.base live.new ≡ T.base live.old }
 {
     match reserve_places(calls, out, event) {
         Ok(()) => live.step(event),
@@ -157,6 +158,7 @@ pub(crate) fn answer_twice<T: Table>(
     ensures lives { OnOk result (has_life (T.state live.old) event.now ≡ true) }
     ensures refused { IfErr result (IsCallRefused (T.state live.old) event.now) }
     ensures err { OnErr result (T.state live.new ≡ T.state live.old) }
+    ensures base { T.base live.new ≡ T.base live.old }
 {
     match reserve_places(calls, out, event) {
         Ok(()) => live.step_twice(event),

@@ -36,6 +36,11 @@ one_refused counts = record { rolled = counts.rolled; refused = more counts.refu
 abbrev pub table_bytes : Spec → ℕ
 table_bytes spec = spec.size * (110 + 8 * width spec.columns)
 
+-- the bytes that a call takes in its shard's record: 48 of its own, and of the entry that it changes, as that was before, 48 and
+-- eight for each word
+abbrev pub call_bytes : Spec → ℕ
+call_bytes spec = 96 + 8 * width spec.columns
+
 -- what a shard answered to a roll: whether its record began again, or that it was refused
 abbrev pub noted : Result Bool AllocError → Counts → Counts
 noted (Ok true) counts = record { rolled = more counts.rolled; refused = counts.refused }

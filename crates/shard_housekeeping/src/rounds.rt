@@ -102,8 +102,9 @@ fn keep_round<T: Table, J: Naming, C: Clock>(
 }
 
 /// Keeps house until the pace says that there is no round more. In a round each shard of each table is asked to expire the
-/// entries whose time has come, at the moment that the clock shows, and then its record begins again where it has at least
-/// `roll_at` calls, or as many as take a quarter of the bytes of its table, and no receipts are kept. What is refused is counted and left to the next round. The seats come back with their calls.
+/// entries whose time has come, at the moment that the clock shows. Then its record begins again where no receipts are kept and
+/// it has at least `roll_at` calls, or as many as take an eighth of its table's bytes. What is refused is counted and left to
+/// the next round. The seats come back with their calls.
 pub fn housekeep<T: Table, J: Naming, C: Clock, P: Pace>(
     rt: &impl Wait,
     tables: &[Shards<T, J>],

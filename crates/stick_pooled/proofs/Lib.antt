@@ -32,3 +32,7 @@ pub mod SlotLemmas
 pub mod StoreCountLemmas
 pub mod PlaceLemmas
 pub mod TicketThreads
+pub mod ImageLemmas
+pub mod BaseLemmas
+pub mod KeepLemmas
+pub mod StatesLemmas

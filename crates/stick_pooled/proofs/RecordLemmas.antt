@@ -114,6 +114,7 @@ module _ (expire : Option ℕ) (s : Stock) (kept : IsStock s) where
         let f = (kept.queued slot).0 dead.queued in
         let one : h ≡ f.held = same_some (sym (left.tracked j h there some) ∙ ap (held_at s) same ∙ f.there) in
         some (ap (λ (x : Held). x.entry.refs) one ∙ f.alone)) ∙ left.tracked j h there some;
+    base = left.base;
   }
     where
       was : (j : ℕ) (h : Held) → held_at (without_slot s slot) j ≡ Some h → (j ≡ slot) ⊎ (j ≡ slot → ⊥) → held_at s j ≡ Some h

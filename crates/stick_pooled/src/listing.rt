@@ -96,9 +96,9 @@ fn list_rows(
 impl StickTable {
     /// What a listing is answered, once the clock has come to this moment.
     fn list_reply(&self, clock: u64, choice: &Filter) -> Result<Reply, NoMemory>
-        requires past { self.now.clock ≤ clock }
+        requires past { self.now.now.clock ≤ clock }
         requires limit { clock < 2 ^ 62 }
-        ensures { IfOk result (λ reply. reply ≡ listed_reply self.now clock choice.now) }
+        ensures { IfOk result (λ reply. reply ≡ listed_reply self.now.now clock choice.now) }
     {
         match not_stored(&self.spec.columns, choice) {
             Some(field) => Ok(Reply::NotStored(field)),
@@ -115,9 +115,10 @@ impl StickTable {
 
     pub(crate) fn list(&mut self, now: u64, choice: &Filter) -> Result<Reply, NoMemory>
         requires moment { now < 2 ^ 62 }
-        requires life { self.old.events + length self.old.tickets < self.old.spec.life }
-        ensures ok { IfOk result (λ reply. reply_to_list (begun self.old now) choice.now ≡ (reply, self.new)) }
+        requires life { self.old.now.events + length self.old.now.tickets < self.old.now.spec.life }
+        ensures ok { IfOk result (λ reply. reply_to_list (begun self.old.now now) choice.now ≡ (reply, self.new.now)) }
         ensures err { OnErr result (self.new ≡ self.old) }
+        ensures base { self.new.base ≡ self.old.base }
     {
         let clock = self.clock.max(now);
         let reply = self.list_reply(clock, choice)?;
@@ -131,10 +132,11 @@ impl StickTable {
         choice: &Filter,
     ) -> Result<(Reply, Reply), NoMemory>
         requires moment { now < 2 ^ 62 }
-        requires life { self.old.events + length self.old.tickets < self.old.spec.life }
-        ensures ok { IfOk result (λ replies. reply_to_list (begun self.old now) choice.now ≡ (replies.0, self.new)) }
+        requires life { self.old.now.events + length self.old.now.tickets < self.old.now.spec.life }
+        ensures ok { IfOk result (λ replies. reply_to_list (begun self.old.now now) choice.now ≡ (replies.0, self.new.now)) }
         ensures twice { IfOk result (λ replies. replies.1 ≡ replies.0) }
         ensures err { OnErr result (self.new ≡ self.old) }
+        ensures base { self.new.base ≡ self.old.base }
     {
         let clock = self.clock.max(now);
         let first = self.list_reply(clock, choice)?;

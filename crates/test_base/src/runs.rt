@@ -76,7 +76,7 @@ fn told_calls(
     base: &PlainTable,
     rows: &[Told],
 ) -> Result<(Vec<Stored>, Vec<Reply>), Refusal>
-    ensures run { IfOk result (λ told. (new : State) × StoredRun base.now told.0.items told.1.items new) }
+    ensures run { IfOk result (λ told. (new : State) × StoredRun base.now.now told.0.items told.1.items new) }
     ensures events { IfOk result (λ told. All (λ (call : ItsStored). IsTableEvent call.event) told.0.items) }
 {
     let mut table = copied(base)?;
@@ -113,7 +113,7 @@ fn are_told_again(
     rows: &[Told],
 ) -> Result<bool, Refusal>
     requires events { All (λ (call : ItsStored). IsTableEvent call.event) calls.now }
-    requires slots { CanRedoAll base.old calls.now }
+    requires slots { CanRedoAll base.old.now calls.now }
 {
     let redone = redo_run(alloc, base, calls)?;
     Ok(are_told(redone.as_slice(), rows))
