@@ -1,9 +1,39 @@
-"""Clients that benches/beside_haproxy has connect to a proxy at a port of 127.0.0.1."""
+"""Clients that benches/beside_haproxy and benches/held_locks have: at a proxy's port of 127.0.0.1, and at its command socket."""
 import contextlib
 import select
 import socket
 import threading
 import time
+
+
+def address(number):
+    """The IPv4 address of a number, as a key of a table."""
+    return f'10.{number >> 16 & 255}.{number >> 8 & 255}.{number & 255}'
+
+
+def send_all(client, lines, prompted):
+    """Sends lines in pieces. HAProxy answers one line alone unless it is asked for its prompt."""
+    piece = 'prompt\n' if prompted else ''
+    for line in lines:
+        piece += line
+        if len(piece) > 60_000:
+            client.sendall(piece.encode())
+            piece = ''
+    client.sendall((piece + ('quit\n' if prompted else '')).encode())
+    client.shutdown(socket.SHUT_WR)
+
+
+def ask(path, lines, prompted=False):
+    """Sends lines over one client of a command socket, and answers how many bytes came back."""
+    with socket.socket(socket.AF_UNIX) as client:
+        client.connect(path)
+        sending = threading.Thread(target=send_all, args=(client, lines, prompted))
+        sending.start()
+        count = 0
+        while part := client.recv(1 << 18):
+            count += len(part)
+        sending.join()
+    return count
 
 
 def pings(port, count):
