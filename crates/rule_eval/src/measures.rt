@@ -19,6 +19,7 @@ use stored_data::Act;
 
 /// An entry that is looked at through its slot.
 #[tactic(auto, unfolding(crate::specs::Course::question_want, crate::specs::Course::is_asked))]
+#[inline(always)]
 fn look(case: &Case<'_>, slot: Slot, fetch: Fetch) -> Found<Option<u64>>
     ensures { Finds case.now.setup.now case.now.samples case.now.slots result (read_of fetch) (looked case.now.setup.now slot (slot_of case.now.slots slot) fetch) }
 {
@@ -36,6 +37,7 @@ fn look(case: &Case<'_>, slot: Slot, fetch: Fetch) -> Found<Option<u64>>
 
 /// An act on the entry of a slot.
 #[tactic(auto, unfolding(crate::specs::Course::question_want, crate::specs::Course::is_asked))]
+#[inline(always)]
 fn count(case: &Case<'_>, slot: Slot, act: Act) -> Found<Option<u64>>
     ensures { Finds case.now.setup.now case.now.samples case.now.slots result value_of (counted slot (slot_of case.now.slots slot) act) }
 {
@@ -47,6 +49,7 @@ fn count(case: &Case<'_>, slot: Slot, act: Act) -> Found<Option<u64>>
 
 /// The entry of the source in a table: 0, where the source can't be its key.
 #[tactic(auto, unfolding(crate::specs::Course::question_want, crate::specs::Course::is_asked))]
+#[inline(always)]
 fn show(case: &Case<'_>, table: u32, fetch: Fetch) -> Found<Option<u64>>
     ensures { Finds case.now.setup.now case.now.samples case.now.slots result (read_of fetch) (source_shown case.now.setup.now case.now.samples (Some table) fetch) }
 {
@@ -61,6 +64,7 @@ fn show(case: &Case<'_>, table: u32, fetch: Fetch) -> Found<Option<u64>>
 }
 
 /// The value of a measure; none makes its criterion false.
+#[inline(always)]
 fn measure_of(case: &Case<'_>, measure: &Measure) -> Found<Option<u64>>
     ensures { Finds case.now.setup.now case.now.samples case.now.slots result (reading measure.now) (measured case.now.setup.now case.now.samples case.now.slots measure.now) }
 {
@@ -84,6 +88,7 @@ fn is_in_one(networks: &[Network], address: Address) -> bool
 
 /// Whether a criterion holds.
 #[tactic(auto, unfolding(crate::specs::Verdict::judged, crate::specs::Course::truth))]
+#[inline(always)]
 pub(crate) fn judge(case: &Case<'_>, criterion: &Criterion) -> Found<bool>
     ensures { Finds case.now.setup.now case.now.samples case.now.slots result (truth criterion.now) (judged case.now.setup.now case.now.samples case.now.slots criterion.now) }
 {
@@ -102,6 +107,7 @@ pub(crate) fn judge(case: &Case<'_>, criterion: &Criterion) -> Found<bool>
 
 /// A reference for a slot, where it has none and the key can be converted.
 #[tactic(auto, unfolding(crate::specs::Course::request_want, crate::specs::Course::is_requested))]
+#[inline(always)]
 fn track<'a>(case: &Case<'_>, slot: Slot, key: &'a KeyExpression, name: &[u8]) -> Effect<'a>
     ensures { Acts case.now.setup.now case.now.samples case.now.slots result (tracked_in case.now.setup.now case.now.samples case.now.slots slot key.now (table_number case.now.setup.now name.now)) }
 {
@@ -120,6 +126,7 @@ fn track<'a>(case: &Case<'_>, slot: Slot, key: &'a KeyExpression, name: &[u8]) -
 
 /// An act on the entry of a slot, where the slot tracks one.
 #[tactic(auto, unfolding(crate::specs::Course::request_want, crate::specs::Course::is_requested))]
+#[inline(always)]
 fn act<'a>(case: &Case<'_>, slot: Slot, act: Act) -> Effect<'a>
     ensures { Acts case.now.setup.now case.now.samples case.now.slots result (acted case.now.slots slot (slot_of case.now.slots slot) act) }
 {
@@ -131,6 +138,7 @@ fn act<'a>(case: &Case<'_>, slot: Slot, act: Act) -> Effect<'a>
 
 /// What an action does: it ends with a verdict, or evaluation goes on.
 #[tactic(auto, unfolding(crate::specs::Verdict::effect))]
+#[inline(always)]
 pub(crate) fn effect<'a>(case: &Case<'_>, action: &'a Action) -> Effect<'a>
     ensures { Acts case.now.setup.now case.now.samples case.now.slots result (effect case.now.setup.now case.now.samples case.now.slots action.now) }
 {

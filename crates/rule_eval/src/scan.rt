@@ -1,4 +1,6 @@
 //! Where an evaluation waits next; `evaluation` calls it after each answer.
+//!
+//! A connection is judged by a few criteria, at each of which such small functions hand a place on. Inlined, they copy none.
 ghost use Rattle.std.specs.Prelude.{◌≡◌, ◌≤◌, ◌+◌, true, List, length};
 ghost use Rattle.rule_eval.specs.Course.{Leads, LeadsWithin, conjunction_end, term_end, criteria_end, criterion_end, rule_end, point_course, is_ready};
 ghost use Rattle.rule_eval.specs.Left.{criteria_in, criteria_of, place_left, point_left, rules_size, scan_left};
@@ -52,6 +54,7 @@ pub(crate) enum Point<'a> {
 }
 
 /// Looks for the first criterion that asks, or one that holds.
+#[inline(always)]
 fn scan_criteria<'a>(
     case: &Case<'_>,
     criteria: &'a [Criterion],
@@ -85,6 +88,7 @@ fn scan_criteria<'a>(
 }
 
 /// Looks for the first criterion that asks, or a term that doesn't hold.
+#[inline(always)]
 fn scan_terms<'a>(
     case: &Case<'_>,
     terms: &'a [Term],
@@ -112,6 +116,7 @@ fn scan_terms<'a>(
 }
 
 /// Looks for the first criterion that asks, or a conjunction that holds.
+#[inline(always)]
 fn scan_conjunctions<'a>(case: &Case<'_>, conjunctions: &'a [Sequence<Term>]) -> Scan<'a>
     ensures course { Leads case.now.setup.now case.now.samples case.now.slots result
         (any_conjunction case.now.setup.now case.now.samples case.now.slots conjunctions.now) }
@@ -129,6 +134,7 @@ fn scan_conjunctions<'a>(case: &Case<'_>, conjunctions: &'a [Sequence<Term>]) ->
 }
 
 /// What follows a term that holds or doesn't.
+#[inline(always)]
 fn after_term<'a>(
     case: &Case<'_>,
     holds: bool,
@@ -150,6 +156,7 @@ fn after_term<'a>(
 }
 
 /// What follows a criterion that holds or doesn't.
+#[inline(always)]
 pub(crate) fn after_criterion<'a>(case: &Case<'_>, place: Place<'a>, holds: bool) -> Scan<'a>
     ensures course { Leads case.now.setup.now case.now.samples case.now.slots result
         (λ after. criterion_end case.now.setup.now case.now.samples case.now.slots place.entry after holds) }
@@ -213,6 +220,7 @@ pub(crate) fn scan_rules<'a>(case: &Case<'_>, rules: &'a [Rule]) -> Point<'a>
 }
 
 /// What follows a rule that applies or doesn't.
+#[inline(always)]
 pub(crate) fn after_rule<'a>(
     case: &Case<'_>,
     applies: bool,

@@ -3,6 +3,7 @@ ghost use Rattle.std.specs.Prelude.{◌≡◌, true, false, IfOk, IsOk, is_some,
 ghost use Rattle.std.specs.Option.{option_map};
 ghost use Rattle.std.specs.Str.{bytes_eq};
 ghost use Rattle.stick_key.specs.Convert.{converted};
+ghost use Rattle.rule_addresses.specs.Prefix.{masked};
 ghost use Rattle.rule_eval.specs.Memory.{is_text, kind_takes_memory};
 ghost use Rattle.rule_eval.specs.Tables.{in_32_bits, table_number, kind_of, stores, sample_of, key_of, address_sample, has_datum, has_field};
 
@@ -90,12 +91,23 @@ fn address_converts(address: Address, kind: KeyType) -> bool
     }
 }
 
+/// Whether what is left of a source can be a key of this kind. Of IPv4 addresses that needn't be known.
+#[tactic(auto, unfolding(rule_addresses::specs::Prefix::masked))]
+fn source_converts(prefixes: Prefixes, source: Address, kind: KeyType) -> bool
+    ensures { result ≡ is_some (converted (address_sample (masked prefixes source)) kind) }
+{
+    match source {
+        Address::V4(_) => kind != KeyType::Integer,
+        Address::V6(_) => address_converts(prefixes.masked(source), kind),
+    }
+}
+
 /// Whether an expression can be a key of this kind. This takes no memory.
 fn converts(prefixes: Prefixes, samples: Samples, expression: &KeyExpression, kind: KeyType) -> bool
     ensures { result ≡ is_some (converted (sample_of prefixes samples expression.now) kind) }
 {
     match expression {
-        KeyExpression::Source => address_converts(prefixes.masked(samples.src), kind),
+        KeyExpression::Source => source_converts(prefixes, samples.src, kind),
         KeyExpression::SourcePort | KeyExpression::DestinationPort | KeyExpression::Integer(_) =>
             matches!(
                 kind,
