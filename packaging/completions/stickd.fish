@@ -69,7 +69,7 @@ complete -c stickd -n '__stickd_at run' -l report -x -d 'Write a line of counts 
 complete -c stickd -n '__stickd_at run' -l log-rejected -d 'Say on standard error that connections were rejected, at most once a second'
 complete -c stickd -n '__stickd_at run' -l drain -x -d 'How long open connections may go on once it is to stop [default: 30s]'
 complete -c stickd -n '__stickd_at run' -l stop-after -x -d 'Stop once N connections have ended, and settle the tables'
-complete -c stickd -n '__stickd_at run' -l roll-at -x -d 'How many calls of a part of a table are recorded before its record begins again [default: 65536]'
+complete -c stickd -n '__stickd_at run' -l roll-at -x -d 'How many calls of a part of a table are recorded, at the latest, before its record begins again [default: 65536]'
 complete -c stickd -n '__stickd_at run' -s h -l help -d 'Print help'
 complete -c stickd -n '__stickd_at run' -F
 

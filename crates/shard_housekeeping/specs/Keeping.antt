@@ -1,5 +1,5 @@
 -- What housekeeping does, as the seats of its tables are told, and what is counted of it.
-use Rattle.std.specs.Prelude.{◌≡◌, ℕ, zero, suc, ◌+◌, ◌-◌, ◌*◌, ◌<◌, ◌^◌, ◌⊎◌, min, Bool, true, false, Result, Ok, Err, List, Some, length, slice_get, slice_set}
+use Rattle.std.specs.Prelude.{◌≡◌, ℕ, zero, suc, ◌+◌, ◌-◌, ◌*◌, ◌/◌, ◌<◌, ◌^◌, ◌⊎◌, min, max, Bool, true, false, Result, Ok, Err, List, Some, length, slice_get, slice_set}
 use Rattle.std.specs.declared.alloc.AllocError.{AllocError}
 use Rattle.stored_data.specs.Words.{width}
 use Rattle.stick_model.specs.declared.specification.Spec.{Spec}
@@ -36,6 +36,16 @@ one_refused counts = record { rolled = counts.rolled; refused = more counts.refu
 abbrev pub table_bytes : Spec → ℕ
 table_bytes spec = spec.size * (110 + 8 * width spec.columns)
 
+-- the bytes that a call takes in its shard's record: 48 of its own, and of the entry that it changes, as that was before, 48 and
+-- eight for each word
+abbrev pub call_bytes : Spec → ℕ
+call_bytes spec = 96 + 8 * width spec.columns
+
+-- with how many calls a shard's record begins again: with so many, or with those for which an eighth of its table's bytes is room;
+-- but not for fewer than 64
+abbrev pub greatest_length : Spec → ℕ → ℕ
+greatest_length spec roll_at = min roll_at (max (table_bytes spec / 8 / call_bytes spec) 64)
+
 -- what a shard answered to a roll: whether its record began again, or that it was refused
 abbrev pub noted : Result Bool AllocError → Counts → Counts
 noted (Ok true) counts = record { rolled = more counts.rolled; refused = counts.refused }
@@ -57,6 +67,18 @@ Expires book shard now old counted new counts =
 -- a shard was asked to begin its record again, and what it answered is counted; where receipts are kept it doesn't
 abbrev pub Rolls : Bool → Counts → Counts → Type 0
 Rolls keep old new = (answer : Result Bool AllocError) × (keep ≡ true → answer ≡ Ok false) × (new ≡ noted answer old)
+
+-- each shard of a table was asked so, in their order
+abbrev pub RollsTable : ShardsState → Counts → Counts → Type 0
+RollsTable table old new = ByFirst (λ shard. Rolls table.keep) table.shards old new
+
+-- each shard of the table of a place was
+abbrev pub RollsPlace : List ShardsState → ℕ → Counts → Counts → Type 0
+RollsPlace tables place old new = (table : ShardsState) × (slice_get tables place ≡ Some table) × RollsTable table old new
+
+-- each shard of each table was, in their order, and this was counted
+abbrev pub RollsEach : List ShardsState → Counts → Type 0
+RollsEach tables counts = ByFirst (RollsPlace tables) (length tables) (record { rolled = 0; refused = 0 }) counts
 
 -- ---- by a clock, which in a state may show a moment in ms and leave another state
 

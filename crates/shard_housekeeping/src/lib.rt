@@ -7,6 +7,7 @@ mod lengths;
 mod pace;
 mod rounds;
 
+pub use counts::Counts;
 pub use kept::Kept;
 pub use pace::Pace;
-pub use rounds::housekeep;
+pub use rounds::{housekeep, roll_long};

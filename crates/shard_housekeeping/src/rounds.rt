@@ -2,7 +2,7 @@
 
 ghost use Rattle.std.specs.Prelude.{◌≡◌, ◌<◌, ◌^◌, length};
 ghost use Rattle.shard_locks.specs.ShardsState.{book_of};
-ghost use Rattle.shard_housekeeping.specs.Keeping.{Expires, KeepsRound, KeepsRounds, KeepsShard, KeepsTable, Rolls};
+ghost use Rattle.shard_housekeeping.specs.Keeping.{Expires, KeepsRound, KeepsRounds, KeepsShard, KeepsTable, Rolls, RollsEach, RollsTable};
 
 use crate::counts::Counts;
 use crate::lengths::greatest_length;
@@ -33,7 +33,7 @@ fn expire<T: Table, J: Naming>(
     }
 }
 
-/// Has a shard's record begin again where it has so many calls, and counts it. A refusal is counted, and changes nothing.
+/// Has a shard's record begin again where it is long, and counts it. A refusal is counted, and changes nothing.
 fn roll<T: Table, J: Naming>(
     rt: &impl Wait,
     table: &Shards<T, J>,
@@ -44,7 +44,8 @@ fn roll<T: Table, J: Naming>(
     requires shard { shard < table.now.shards }
     ensures { Rolls table.now.keep counts.old counts.new }
 {
-    counts.note_roll(table.roll(rt, shard, roll_at));
+    let least = greatest_length(table.spec(shard), roll_at);
+    counts.note_roll(table.roll(rt, shard, least));
 }
 
 /// Has a shard expire what is over at the clock's moment, and then begin its record again where it is long.
@@ -62,8 +63,7 @@ fn keep_shard<T: Table, J: Naming, C: Clock>(
 {
     let now = clock.now();
     expire(rt, table, seat, shard, now, counts);
-    let least = greatest_length(table.spec(shard), roll_at);
-    roll(rt, table, shard, least, counts);
+    roll(rt, table, shard, roll_at, counts);
 }
 
 /// Does so in each shard of a table, in their order.
@@ -102,8 +102,8 @@ fn keep_round<T: Table, J: Naming, C: Clock>(
 }
 
 /// Keeps house until the pace says that there is no round more. In a round each shard of each table is asked to expire the
-/// entries whose time has come, at the moment that the clock shows, and then its record begins again where it has at least
-/// `roll_at` calls, or as many as take a quarter of the bytes of its table, and no receipts are kept. What is refused is counted and left to the next round. The seats come back with their calls.
+/// entries whose time has come, at the moment that the clock shows. Then its record begins again where it is long, as
+/// `roll_long` says. What is refused is counted and left to the next round. The seats come back with their calls.
 pub fn housekeep<T: Table, J: Naming, C: Clock, P: Pace>(
     rt: &impl Wait,
     tables: &[Shards<T, J>],
@@ -133,4 +133,37 @@ pub fn housekeep<T: Table, J: Naming, C: Clock, P: Pace>(
         refused: counts.refused,
         seats,
     }
+}
+
+/// Has the long records of a table begin again.
+fn roll_table<T: Table, J: Naming>(
+    rt: &impl Wait,
+    table: &Shards<T, J>,
+    roll_at: u64,
+    counts: &mut Counts,
+)
+    ensures { RollsTable table.now counts.old counts.new }
+{
+    for shard in 0..table.shards() {
+        roll(rt, table, shard, roll_at, counts);
+    }
+}
+
+/// Has the record of each shard of each table begin again where no receipts are kept and it has at least `roll_at` calls, or as
+/// many as take an eighth of its table's bytes. What is refused is counted, and changes nothing.
+pub fn roll_long<T: Table, J: Naming>(
+    rt: &impl Wait,
+    tables: &[Shards<T, J>],
+    roll_at: u64,
+) -> Counts
+    ensures { RollsEach tables.now result }
+{
+    let mut counts = Counts {
+        rolled: 0,
+        refused: 0,
+    };
+    for place in 0..tables.len() {
+        roll_table(rt, &tables[place], roll_at, &mut counts);
+    }
+    counts
 }

@@ -187,7 +187,7 @@ pub(crate) fn roll_option<'a>(alloc: Global) -> Arg<'a> {
         "roll-at",
         "N",
         u32::MAX,
-        "How many calls of a part of a table are recorded before its record begins again",
+        "How many calls of a part of a table are recorded, at the latest, before its record begins again",
     )
     .default_value("65536")
 }

@@ -1,31 +1,73 @@
-//! The housekeeping of the tables, each second, until the proxy stops; `service_threads` has one thread do it.
+//! The housekeeping of the tables, each second and for long records more often, until the proxy stops; `service_threads` has one
+//! thread do it.
 
+use crate::running_program::ServiceCounts;
 use crate::shared::{ProxyRuntime, Shared};
 use base_clock::RunningClock;
 use log::{Log, info};
-use shard_housekeeping::{Kept, Pace, housekeep};
+use shard_housekeeping::{Counts, Kept, Pace, housekeep, roll_long};
 use shard_locks::{Shards, SharedSeat};
 use shard_record::Naming;
 use std::sync::atomic::{AtomicBool, Ordering};
 use std::thread;
-use std::time::{Clock, Duration};
+use std::time::Duration;
 use stick_table::Table;
 use tcp_stats::Count;
 
-/// How many naps are taken between two rounds, each of so many ms: the stop is looked for after each.
+/// How many naps are taken between two rounds, each of so many ms: after each it looks for the stop, and for long records.
 const NAPS: u32 = 20;
 
 const NAP: u64 = 50;
 
-/// Waits for a second. False where the proxy stops.
-fn wait_second<R: Clock>(rt: &R, stop: &AtomicBool) -> bool {
+/// What housekeeping came to, told at the end, and to others as it goes on.
+#[derive(Drop)]
+struct Tally<'a> {
+    board: &'a ServiceCounts,
+    rounds: u64,
+    rolls: u64,
+    refusals: u64,
+}
+
+impl<'a> Tally<'a> {
+    /// Nothing was done yet.
+    fn new(board: &'a ServiceCounts) -> Tally<'a> {
+        Tally {
+            board,
+            rounds: 0,
+            rolls: 0,
+            refusals: 0,
+        }
+    }
+
+    /// So many records more began again, and so many more calls were refused.
+    fn add(&mut self, rolled: u64, refused: u64) {
+        self.rolls = self.rolls.saturating_add(rolled);
+        self.refusals = self.refusals.saturating_add(refused);
+        self.board.add(Count::Rolls, rolled);
+        self.board.add(Count::Refusals, refused);
+    }
+
+    /// One round more, in which so many shards were asked to expire.
+    fn add_round(&mut self, shards: u64) {
+        self.rounds = self.rounds.saturating_add(1);
+        self.board.add(Count::Expiries, shards);
+    }
+}
+
+/// Waits for a second, in which long records begin again as they are found. False where the proxy stops.
+fn wait_second<T: Table, J: Naming, R: ProxyRuntime>(
+    shared: &Shared<'_, T, J, R>,
+    tally: &mut Tally<'_>,
+) -> bool {
     for _ in 0..NAPS {
-        if stop.load(Ordering::SeqCst) {
+        if shared.stop.load(Ordering::SeqCst) {
             return false;
         }
-        thread::sleep(rt, Duration::from_millis(NAP));
+        thread::sleep(shared.rt, Duration::from_millis(NAP));
+        let Counts { rolled, refused } = roll_long(shared.rt, shared.tables, shared.roll_at);
+        tally.add(rolled, refused);
     }
-    !stop.load(Ordering::SeqCst)
+    !shared.stop.load(Ordering::SeqCst)
 }
 
 /// One round, at once.
@@ -49,17 +91,16 @@ fn count_shards<T: Table, J: Naming>(tables: &[Shards<T, J>]) -> u64 {
     count
 }
 
-/// Has shards expire what is over, and begin long records again, each second. What that comes to is counted round by round.
+/// Has shards expire what is over each second, and begin long records again. What that comes to is counted as it goes on.
 pub(crate) fn keep_tables<T: Table, J: Naming, R: ProxyRuntime>(
     shared: &Shared<'_, T, J, R>,
     mut seats: Vec<SharedSeat<J>>,
 ) -> Vec<SharedSeat<J>> {
     let mut clock = RunningClock::new(shared.rt, shared.start);
-    let counts = &shared.running.board.service;
     let shards = count_shards(shared.tables);
-    let (mut rounds, mut rolls, mut refusals) = (0u64, 0u64, 0u64);
+    let mut tally = Tally::new(&shared.running.board.service);
     for _round in shared.rt.forever() {
-        if seats.as_slice().len() != shared.tables.len() || !wait_second(shared.rt, shared.stop) {
+        if seats.as_slice().len() != shared.tables.len() || !wait_second(shared, &mut tally) {
             break;
         }
         let once = Once {
@@ -79,13 +120,15 @@ pub(crate) fn keep_tables<T: Table, J: Naming, R: ProxyRuntime>(
             shared.roll_at,
         );
         seats = back;
-        rounds = rounds.saturating_add(1);
-        rolls = rolls.saturating_add(rolled);
-        refusals = refusals.saturating_add(refused);
-        counts.add(Count::Expiries, shards);
-        counts.add(Count::Rolls, rolled);
-        counts.add(Count::Refusals, refused);
+        tally.add_round(shards);
+        tally.add(rolled, refused);
     }
+    let Tally {
+        rounds,
+        rolls,
+        refusals,
+        ..
+    } = tally;
     info!(shared.rt; "housekeeping: {rounds} rounds, {rolls} records began again, {refusals} refusals");
     seats
 }

@@ -7,7 +7,7 @@ ghost use Rattle.test_calls.specs.Planned.{IsNamed};
 use crate::settling::books::{is_put, listed};
 use base_clock::StoppedClock;
 use shard_book::Book;
-use shard_housekeeping::{Kept, Pace, housekeep};
+use shard_housekeeping::{Kept, Pace, housekeep, roll_long};
 use shard_locks::{Shards, SharedSeat};
 use shard_record::Naming;
 use shard_settling::Settled;
@@ -260,6 +260,36 @@ fn keeps<R: Wait>(rt: &R, alloc: Global, keep: bool, rounds: u64, roll_at: u64) 
     keeps_recorded::<Brand, R>(rt, alloc, keep, rounds, roll_at, opened)
 }
 
+/// Puts a row, and twice has records begin again that have a call: how many did, where the table settles with the row.
+fn rolls_between<J: Naming, R: Wait>(
+    rt: &R,
+    alloc: Global,
+    keep: bool,
+    opened: Planned,
+) -> Option<(u64, u64)>
+    requires { IsNamed opened J.record_id J.books J.specs }
+{
+    let (table, mut seat) = open_one::<J>(alloc, opened, keep)?;
+    if !puts(rt, alloc, &table, &mut seat) {
+        return None;
+    }
+    let first = roll_long(rt, slice::from_ref(&table), 1);
+    let second = roll_long(rt, slice::from_ref(&table), 1);
+    let stays = gets(rt, alloc, &table, &mut seat);
+    let _calls = settles(alloc, table, seat)?;
+    if stays && first.refused == 0 && second.refused == 0 {
+        Some((first.rolled, second.rolled))
+    } else {
+        None
+    }
+}
+
+/// The same of a new record.
+fn rolls<R: Wait>(rt: &R, alloc: Global, keep: bool) -> Option<(u64, u64)> {
+    let opened = open_record_of(alloc, &lasting(alloc)?, 2, 1)?;
+    rolls_between::<Brand, R>(rt, alloc, keep, opened)
+}
+
 /// Three rounds, of which these records began again.
 fn three(rolled: u64) -> Option<Counted> {
     Some(Counted {
@@ -284,6 +314,17 @@ fn records_with_receipts_do_not(rt: HostRuntime) {
 #[test]
 fn records_begin_again_where_they_are_long(rt: HostRuntime) {
     assert!(rt; keeps(&rt, rt.alloc(), false, 3, 3) == three(2));
+}
+
+/// That of the shard that was called does, once.
+#[test]
+fn long_records_begin_again_between_rounds(rt: HostRuntime) {
+    assert!(rt; rolls(&rt, rt.alloc(), false) == Some((1, 0)));
+}
+
+#[test]
+fn none_with_receipts_begins_again_between_rounds(rt: HostRuntime) {
+    assert!(rt; rolls(&rt, rt.alloc(), true) == Some((0, 0)));
 }
 
 #[test]
