@@ -228,6 +228,19 @@ impl<'a, R> Conn<'a, R> {
         ensures less { rules_left self.new ≤ rules_left self.old }
         ensures stands { (connection : Connection R) → Stands self.old connection → Stands self.new (took connection answer reference) }
     {
+        self.hear(&answer, reference);
+    }
+
+    /// The same, of an answer that stays where it is: none of its rows is moved or dropped on the way.
+    fn hear(&mut self, answer: &Answer, reference: Option<R>)
+        requires answers { answers_need (needed self.old) answer.now reference ≡ true }
+        requires given { answer.now ≡ Released → is_some (progress_of self.old).given ≡ true }
+        ensures progress { progress_of self.new ≡ took_of (wanted self.old) (progress_of self.old) reference }
+        ensures given { is_some (progress_of self.new).given ≡ false }
+        ensures asked { is_asking (wanted self.old) (progress_of self.old) ≡ true → rules_left self.new + 1 ≤ rules_left self.old }
+        ensures less { rules_left self.new ≤ rules_left self.old }
+        ensures stands { (connection : Connection R) → Stands self.old connection → Stands self.new (took connection answer.now reference) }
+    {
         if self.given.is_some() {
             nothing_came(reference);
             self.given = None;
@@ -245,7 +258,7 @@ impl<'a, R> Conn<'a, R> {
             return;
         }
         receive(&mut self.held, asked, reference);
-        self.eval.take(answer);
+        self.eval.hear(answer);
         self.phase = Phase::Judging;
     }
 

@@ -171,7 +171,17 @@ impl<'a> Eval<'a> {
         ensures slots { slots_in self.new ≡ slots_after (slots_in self.old) (remaining self.old []) answer }
         ensures left { left self.new ≤ left self.old - 1 }
     {
-        self.advance(&answer);
+        self.hear(&answer);
+    }
+
+    /// Hears the answer to what is wanted, as `take` does, and leaves it to the caller. This takes no memory.
+    pub fn hear(&mut self, answer: &Answer)
+        ensures stands { (setup : Setup) (samples : Samples) (answers : List Answer) →
+            Stands self.old setup samples answers → Stands self.new setup samples (answers ++ answer.now ∷ []) }
+        ensures slots { slots_in self.new ≡ slots_after (slots_in self.old) (remaining self.old []) answer.now }
+        ensures left { left self.new ≤ left self.old - 1 }
+    {
+        self.advance(answer);
     }
 
     #[tactic(auto, unfolding(crate::specs::Eval::left, crate::specs::Eval::remaining, crate::specs::Eval::setup_of, crate::specs::Eval::slots_in, crate::specs::Course::question_want, crate::specs::Course::is_asked, crate::specs::Course::request_want, crate::specs::Course::is_requested))]
@@ -226,12 +236,8 @@ impl<'a> Eval<'a> {
                     self.point = Point::Done(Verdict::Reject);
                     return;
                 }
-                let case = Case {
-                    slots: slots_after(self.case.slots, request, answer),
-                    ..self.case
-                };
-                let point = scan_rules(&case, rules);
-                *self = Eval { case, point };
+                self.case.slots = slots_after(self.case.slots, request, answer);
+                self.point = scan_rules(&self.case, rules);
             }
             Point::Done(_) => {}
         }

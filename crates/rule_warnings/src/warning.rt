@@ -50,7 +50,7 @@ pub enum Warning {
         is_always: bool,
         shortage: Shortage,
     },
-    /// A shard of a table has so many places, that to begin its record again takes long. In `shards` none would have too
+    /// A shard of a table has so many places, that to list them takes long. In `shards` none would have too
     /// many; None where 64 are too few.
     WideShards {
         table: Name,
@@ -190,7 +190,7 @@ fn write_wide<W: Write>(
 ) -> fmt::Result {
     write!(
         f,
-        "A shard of table {table} has {places} places, and may be locked for long as its record begins again. "
+        "A shard of table {table} has {places} places, and may be locked for long by a listing. "
     )?;
     match shards {
         Some(least) => write!(

@@ -20,7 +20,7 @@ use Rattle.stick_model.proofs.StepCases.{IsQuiet, Happens, idles, tracks, counts
 use Rattle.shard_book.specs.RecordedState.{RecordedState}
 use Rattle.shard_book.specs.Briefs.{IsToldSlot, MayTell, unanswered}
 use Rattle.shard_book.specs.declared.recorded.Recorded.{Recorded}
-use Rattle.shard_book.specs.BookState.{BookState, IsBook, HasPlaces, stored_of, recorded, opened, out_after}
+use Rattle.shard_book.specs.BookState.{Extends, BookState, IsBook, HasPlaces, stored_of, recorded, opened, out_after}
 
 pub stored_of-push : (calls : List Recorded) (call : Recorded) → stored_of (calls ++ call ∷ []) ≡ stored_of calls ++ call.stored ∷ []
 stored_of-push [] call = refl
@@ -46,13 +46,22 @@ book_more base live calls seat event reply next book taken lives step =
     }
 
 -- the record with one call more, as the code leaves it: places are reserved, and the call is pushed
-pub recorded_more : (base live : State) (old reserved new : List Recorded) (call : Recorded) (seat : ℕ) (event : Event) (reply : Reply) (next : State)
-    → new ≡ reserved ++ call ∷ [] → reserved ≡ old → call ≡ recorded seat event reply
+pub recorded_more : (base after live : State) (old reserved new : List Recorded) (call : Recorded) (seat : ℕ) (event : Event) (reply : Reply) (next : State)
+    → after ≡ base → new ≡ reserved ++ call ∷ [] → reserved ≡ old → call ≡ recorded seat event reply
     → IsBook (record { base = base; calls = old; live = live }) → IsTableEvent event → has_life live event ≡ true → Step live event reply next
-    → IsBook (record { base = base; calls = new; live = next })
-recorded_more base live old reserved new call seat event reply next pushed stays is book taken lives step =
+    → IsBook (record { base = after; calls = new; live = next })
+recorded_more base after live old reserved new call seat event reply next same pushed stays is book taken lives step =
     let more : IsBook (record { base = base; calls = old ++ recorded seat event reply ∷ []; live = next }) = book_more base live old seat event reply next book taken lives step in
-    subst (λ (calls : List Recorded). IsBook (record { base = base; calls = calls; live = next })) (sym (one_behind old reserved new call (recorded seat event reply) pushed stays is)) more
+    let calls : new ≡ old ++ recorded seat event reply ∷ [] = one_behind old reserved new call (recorded seat event reply) pushed stays is in
+    subst (λ (y : State × List Recorded). IsBook (record { base = y.0; calls = y.1; live = next })) (λ k. (sym same k, sym calls k)) more
+
+-- the book has one call more
+pub extended : (base after live : State) (old reserved new : List Recorded) (call : Recorded) (seat : ℕ) (event : Event) (reply : Reply) (next : State) (before : BookState)
+    → record { base = base; calls = old; live = live } ≡ before → after ≡ base → new ≡ reserved ++ call ∷ [] → reserved ≡ old → call ≡ recorded seat event reply → Step live event reply next
+    → Extends before seat event reply (record { base = after; calls = new; live = next })
+extended base after live old reserved new call seat event reply next before was same pushed stays is step =
+    subst (λ (b : BookState). Extends b seat event reply (record { base = after; calls = new; live = next })) was
+    (record { step = step; calls = one_behind old reserved new call (recorded seat event reply) pushed stays is; base = same })
 
 -- ---- how a call lies in the record
 
@@ -142,8 +151,11 @@ pub stored_run : (book : BookState) (is : IsBook book) → StoredRun book.base (
 stored_run book is = stored-from-lasting book.base (stored_of book.calls) is.replies book.live is.run
 
 -- a book is of one specification
+pub live_spec : (book : BookState) → IsBook book → book.live.spec ≡ book.base.spec
+live_spec book is = stored_run_spec book.base (stored_of book.calls) is.replies book.live (stored_run book is)
+
 pub live_limits : (book : BookState) → IsBook book → IsTableSpec book.live.spec
-live_limits book is = subst IsTableSpec (sym (stored_run_spec book.base (stored_of book.calls) is.replies book.live (stored_run book is))) is.limits
+live_limits book is = subst IsTableSpec (sym (live_spec book is)) is.limits
 
 -- ---- how many events there were
 

@@ -20,9 +20,10 @@ use Rattle.shard_book.proofs.RecordLemmas.{stored_of-append}
 pub rolled_is_book : (book : BookState) → IsBook book → IsBook (rolled book)
 rolled_is_book book is = record { limits = live_limits book is; base_legal = is.live_legal; events = search rules; replies = []; run = refl; live_legal = is.live_legal }
 
--- its live state is the base, and it has no calls
-pub rolled_so : (old : BookState) (base : State) (calls : List Recorded) → IsBook old → base ≡ old.live → calls ≡ [] → IsBook (record { base = base; calls = calls; live = old.live })
-rolled_so old base calls is same none = subst (λ (y : State × List Recorded). IsBook (record { base = y.0; calls = y.1; live = old.live })) (λ k. (sym same k, sym none k)) (rolled_is_book old is)
+-- its live state stays and is the base, and it has no calls
+pub rolled_so : (old : BookState) (base live : State) (calls : List Recorded) → IsBook old → base ≡ old.live → live ≡ old.live → calls ≡ [] → IsBook (record { base = base; calls = calls; live = live })
+rolled_so old base live calls is same stays none =
+    subst (λ (y : State × List Recorded × State). IsBook (record { base = y.0; calls = y.1; live = y.2 })) (λ k. (sym same k, sym none k, sym stays k)) (rolled_is_book old is)
 
 -- ---- the books of a table
 

@@ -18,7 +18,7 @@ rolled_books table = record table { books = map rolled table.books }
 abbrev pub rolled_first : ℕ → List BookState → List BookState
 rolled_first count books = map rolled (take count books) ++ drop count books
 
--- where the copy of a book was refused: those before it are rolled; it stays as it was, and so do those behind it
+-- where the roll of a book was refused: those before it are rolled; it stays as it was, and so do those behind it
 pub record RollsInPart (old new : BooksState) : Type 0 where
   pub count : ℕ
   pub within : count < length old.books

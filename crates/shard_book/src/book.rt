@@ -13,14 +13,13 @@ use crate::{Occupancy, Recorded};
 use base_sequence::NoMemory;
 use std::alloc::Global;
 use std::marker::Model;
-use std::mem;
 use stick_table::{Event, PlainTable, Refusal, Reply, Spec, Table};
 
-/// A table, what it was at its base, and the calls recorded since: those that were answered, in their order.
+/// A table, and the calls recorded since its base: those that were answered, in their order.
 #[derive(Drop)]
 pub struct Book<T: Table> {
-    base: PlainTable,
     calls: Vec<Recorded>,
+    /// It knows what it was at its base, from which the record begins.
     live: T,
     /// How many tickets are out. The record keeps a place for the release of each.
     out: usize,
@@ -32,9 +31,9 @@ impl<T: Table> Model for Book<T> {
 
     ghost Value = { BookState };
 
-    ghost view = { λ book. record { base = book.base; calls = book.calls.items; live = T.state book.live } };
+    ghost view = { λ book. record { base = T.base book.live; calls = book.calls.items; live = T.state book.live } };
 
-    ghost invariant = { λ book. IsBook (record { base = book.base; calls = book.calls.items; live = T.state book.live })
+    ghost invariant = { λ book. IsBook (record { base = T.base book.live; calls = book.calls.items; live = T.state book.live })
         × HasPlaces (T.state book.live) (vec_len book.calls) (vec_capacity book.calls) book.out };
 }
 
@@ -45,10 +44,8 @@ impl<T: Table> Book<T> {
         ensures opened { IfOk result (λ book. book ≡ opened spec) }
         ensures book { IfOk result (λ book. IsBook book) }
     {
-        let base = PlainTable::open(alloc, spec.copy()?)?;
         let live = T::open(alloc, spec)?;
         Ok(Book {
-            base,
             calls: Vec::new(alloc),
             live,
             out: 0,
@@ -139,18 +136,15 @@ impl<T: Table> Book<T> {
     }
 
     /// Makes the live state the base, and empties the record. The record's memory stays, and so its places for the
-    /// releases of the tickets that are out. The table is copied: of 100,000 entries that takes some ms. The base before comes
-    /// back, so that whoever holds a lock can drop it behind that. Where a growth is refused, nothing changes.
-    pub fn roll(&mut self) -> Result<PlainTable, NoMemory>
+    /// releases of the tickets that are out. Where the table can't take its base for want of memory, nothing changes.
+    pub fn roll(&mut self) -> Result<(), NoMemory>
         ensures book { IsBook self.new }
         ensures ok { OnOk result (self.new ≡ rolled self.old) }
-        ensures before { IfOk result (λ base. base ≡ self.old.base) }
         ensures err { OnErr result (self.new ≡ self.old) }
     {
-        let base = self.live.to_plain()?;
-        let before = mem::replace(&mut self.base, base);
+        self.live.set_base()?;
         self.calls.clear();
-        Ok(before)
+        Ok(())
     }
 
     /// How many events the live table has counted.
@@ -159,7 +153,7 @@ impl<T: Table> Book<T> {
         ensures limit { result ≤ 2 ^ 62 }
         ensures book { IsBook self.now }
     {
-        self.base.events() + self.calls.as_slice().len() as u64
+        self.live.base_events() + self.calls.as_slice().len() as u64
     }
 
     /// What its live table is occupied by, and what went to make room there.
@@ -174,19 +168,19 @@ impl<T: Table> Book<T> {
 
     /// A plain copy of the table as it is now.
     pub fn copied(&self) -> Result<PlainTable, NoMemory>
-        ensures copy { IfOk result (λ table. table ≡ self.now.live) }
-        ensures limits { IfOk result (λ table. IsTableSpec table.spec) }
-        ensures legal { IfOk result (λ table. IsLegal table) }
+        ensures copy { IfOk result (λ table. table.now ≡ self.now.live) }
+        ensures limits { IfOk result (λ table. IsTableSpec table.now.spec) }
+        ensures legal { IfOk result (λ table. IsLegal table.now) }
     {
         self.live.to_plain()
     }
 
-    /// The table from which the record begins.
-    pub fn base(&self) -> &PlainTable
-        ensures base { result.now ≡ self.now.base }
+    /// A plain copy of the table from which the record begins.
+    pub fn base(&self) -> Result<PlainTable, NoMemory>
+        ensures base { IfOk result (λ table. table.now ≡ self.now.base) }
         ensures book { IsBook self.now }
     {
-        &self.base
+        self.live.base_to_plain()
     }
 
     /// The calls answered since the base, in their order.
@@ -197,9 +191,10 @@ impl<T: Table> Book<T> {
         self.calls.as_slice()
     }
 
-    /// The table as it is now.
+    /// The table as it is now; it knows its base.
     pub fn live(&self) -> &T
         ensures live { T.state result.now ≡ self.now.live }
+        ensures base { T.base result.now ≡ self.now.base }
         ensures book { IsBook self.now }
     {
         &self.live

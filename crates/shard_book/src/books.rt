@@ -56,14 +56,14 @@ fn count_calls<T: Table>(books: &Vec<Book<T>>) -> u64
     count
 }
 
-/// Rolls books in turn, up to the first whose copy is refused.
+/// Rolls books in turn, up to the first that is refused.
 fn roll_each<T: Table>(books: &mut Vec<Book<T>>) -> Result<(), NoMemory>
     ensures ok { OnOk result (books.new.items ≡ map rolled books.old.items) }
     ensures err { OnErr result ((count : ℕ) × (count < length books.old.items) × (books.new.items ≡ rolled_first count books.old.items)) }
 {
     for shard in 0..books.as_slice().len() {
         match books[shard].roll() {
-            Ok(_base) => {}
+            Ok(()) => {}
             Err(error) => return Err(error),
         }
     }
@@ -112,8 +112,8 @@ impl<T: Table> Books<T> {
         count_calls(&self.books)
     }
 
-    /// Rolls the book of each shard in turn, as `Book::roll` does, so that no record has calls left. Where the copy of one
-    /// is refused, those before it are rolled, and it and those behind it stay as they were.
+    /// Rolls the book of each shard in turn, as `Book::roll` does, so that no record has calls left. Where one is refused,
+    /// those before it are rolled, and it and those behind it stay as they were.
     pub fn roll(&mut self) -> Result<(), NoMemory>
         ensures books { AreBooks self.new }
         ensures ok { OnOk result (self.new ≡ rolled_books self.old) }

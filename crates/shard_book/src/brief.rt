@@ -1,18 +1,19 @@
 //! How a call lies in a record: `Recorded` has one, and `Book::call` makes it before its table answers.
 
-ghost use Rattle.std.specs.Prelude.{◌≡◌, ◌↔◌, ◌∷◌, [], false, IsTrue, IfOk, IfSome, IsSome};
+ghost use Rattle.std.specs.Prelude.{◌≡◌, ◌↔◌, ◌∷◌, [], false, length, IsTrue, IfOk, IfSome, IsSome};
 ghost use Rattle.shard_book.specs.BookState.{may_grow};
-ghost use Rattle.shard_book.specs.Briefs.{MayTell, call_in, unanswered, with_slot};
+ghost use Rattle.stick_model.specs.declared.events.Event.TheVariants.{ClearWhere};
+ghost use Rattle.shard_book.specs.Briefs.{IsBrief, IsBriefFilter, IsBriefKey, MayTell, call_in, unanswered, with_slot};
 
 use crate::short::Short;
 use base_sequence::NoMemory;
 use std::alloc::Global;
 use stick_model::same_event;
-use stick_table::{Cell, Cells, Event, Ticket};
-use stored_data::Act;
+use stick_table::{Cell, Cells, Event, Filter, Op, Ticket};
+use stored_data::{Act, Field};
 
-/// A call in 48 bytes, with a key of up to sixteen bytes and a pair of a `Put` that has but one. Any other event has memory of its
-/// own. The fields lie in this order, small ones first, as they then need no room between them.
+/// A call in 48 bytes, with a key of up to sixteen bytes, a pair of a `Put` that has but one, and a clear of all or by a value. Any other
+/// event has memory of its own. The fields lie in this order, small ones first, as they then need no room between them.
 #[derive(Drop)]
 pub(crate) enum Brief {
     Get {
@@ -53,6 +54,17 @@ pub(crate) enum Brief {
         seat: u32,
         now: u64,
     },
+    ClearAll {
+        seat: u32,
+        now: u64,
+    },
+    ClearBy {
+        seat: u32,
+        field: Field,
+        op: Op,
+        bound: u64,
+        now: u64,
+    },
     Expire {
         seat: u32,
         now: u64,
@@ -66,7 +78,8 @@ pub(crate) enum Brief {
 
 /// The only pair, if there is but one.
 fn only_cell(cells: &[Cell]) -> Option<Cell>
-    ensures { IfSome result (λ cell. cells.now ≡ cell ∷ []) }
+    ensures cell { IfSome result (λ cell. cells.now ≡ cell ∷ []) }
+    ensures only { length cells.now ≡ 1 → IsSome result }
 {
     match cells {
         [cell] => Some(*cell),
@@ -85,6 +98,7 @@ impl Brief {
     /// A seat's call of an event that isn't answered yet, if it takes no memory of its own. That of a release takes none.
     pub(crate) fn of(seat: u32, event: &Event) -> Option<Brief>
         ensures call { IfSome result (λ brief. call_in brief ≡ unanswered seat event.now) }
+        ensures brief { IsBrief event.now → IsSome result }
         ensures release { may_grow event.now ≡ false → IsSome result }
     {
         match event {
@@ -105,13 +119,33 @@ impl Brief {
                 now: *now,
             }),
             Event::Expire(now) => Some(Brief::Expire { seat, now: *now }),
+            Event::ClearWhere(now, filter) => Brief::of_filter(seat, *now, filter),
             _ => Brief::of_key(seat, event),
+        }
+    }
+
+    /// The same of a clear by a filter.
+    fn of_filter(seat: u32, now: u64, filter: &Filter) -> Option<Brief>
+        ensures call { IfSome result (λ brief. call_in brief ≡ unanswered seat (ClearWhere now filter.now)) }
+        ensures brief { IsBriefFilter filter.now → IsSome result }
+    {
+        match filter {
+            Filter::Everything => Some(Brief::ClearAll { seat, now }),
+            Filter::Compare(field, op, bound) => Some(Brief::ClearBy {
+                seat,
+                field: *field,
+                op: *op,
+                bound: *bound,
+                now,
+            }),
+            _ => None,
         }
     }
 
     /// The same of an event of a key.
     fn of_key(seat: u32, event: &Event) -> Option<Brief>
-        ensures { IfSome result (λ brief. call_in brief ≡ unanswered seat event.now) }
+        ensures call { IfSome result (λ brief. call_in brief ≡ unanswered seat event.now) }
+        ensures brief { IsBriefKey event.now → IsSome result }
     {
         match event {
             Event::Get(now, key) => Some(Brief::Get {
@@ -192,6 +226,8 @@ impl Brief {
             Brief::Release { seat, .. } => *seat,
             Brief::Put { seat, .. } => *seat,
             Brief::Clear { seat, .. } => *seat,
+            Brief::ClearAll { seat, .. } => *seat,
+            Brief::ClearBy { seat, .. } => *seat,
             Brief::Expire { seat, .. } => *seat,
             Brief::Whole { seat, .. } => *seat,
         }
@@ -213,8 +249,8 @@ impl Brief {
         ensures { IfOk result (λ event. event ≡ (call_in self.now).stored.event) }
     {
         match self {
-            Brief::Get { key, now, .. } => Ok(Event::Get(*now, key.key(alloc)?)),
-            Brief::Track { key, now, .. } => Ok(Event::Track(*now, key.key(alloc)?)),
+            Brief::Get { key, now, .. } => Ok(Event::Get(*now, key.key(alloc))),
+            Brief::Track { key, now, .. } => Ok(Event::Track(*now, key.key(alloc))),
             Brief::Look { ticket, now, .. } => Ok(Event::Look(*now, *ticket)),
             Brief::Count {
                 ticket,
@@ -225,9 +261,17 @@ impl Brief {
             Brief::Release { ticket, now, .. } => Ok(Event::Release(*now, *ticket)),
             Brief::Put { key, cell, now, .. } => {
                 let cells = Cells::from_slice(alloc, &[*cell])?;
-                Ok(Event::Put(*now, key.key(alloc)?, cells))
+                Ok(Event::Put(*now, key.key(alloc), cells))
             }
-            Brief::Clear { key, now, .. } => Ok(Event::Clear(*now, key.key(alloc)?)),
+            Brief::Clear { key, now, .. } => Ok(Event::Clear(*now, key.key(alloc))),
+            Brief::ClearAll { now, .. } => Ok(Event::ClearWhere(*now, Filter::Everything)),
+            Brief::ClearBy {
+                field,
+                op,
+                bound,
+                now,
+                ..
+            } => Ok(Event::ClearWhere(*now, Filter::Compare(*field, *op, *bound))),
             Brief::Expire { now, .. } => Ok(Event::Expire(*now)),
             Brief::Whole { event, .. } => Ok(event.copy()?),
         }
@@ -265,6 +309,19 @@ impl Brief {
             (Brief::Clear { key, now, .. }, Event::Clear(moment, asked)) => {
                 moment == now && key.is(asked)
             }
+            (Brief::ClearAll { now, .. }, Event::ClearWhere(moment, Filter::Everything)) => {
+                moment == now
+            }
+            (
+                Brief::ClearBy {
+                    field,
+                    op,
+                    bound,
+                    now,
+                    ..
+                },
+                Event::ClearWhere(moment, Filter::Compare(asked, how, limit)),
+            ) => moment == now && asked == field && how == op && limit == bound,
             (Brief::Expire { now, .. }, Event::Expire(moment)) => moment == now,
             (Brief::Whole { event: kept, .. }, _) => same_event(event, kept),
             _ => false,

@@ -60,9 +60,9 @@ pub trait Keeper {
     /// A plain copy of what a shard is, within the limits and in a legal state. To make it is no event, and changes nothing.
     fn copied(&self, shard: u32) -> Result<PlainTable, NoMemory>
         requires { shard < parts self.now }
-        ensures holds { IfOk result (holds (state self.now) shard) }
-        ensures limits { IfOk result (λ table. IsTableSpec table.spec) }
-        ensures legal { IfOk result (λ table. IsLegal table) };
+        ensures holds { IfOk result (λ table. holds (state self.now) shard table.now) }
+        ensures limits { IfOk result (λ table. IsTableSpec table.now.spec) }
+        ensures legal { IfOk result (λ table. IsLegal table.now) };
 
     /// Asks a shard an event that names no ticket, and of a key only where the key lies on it. A refusal changes nothing.
     fn ask(&mut self, shard: u32, event: Event) -> Result<Reply, Refusal>

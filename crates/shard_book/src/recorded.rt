@@ -18,7 +18,7 @@ use stick_table::{Event, Refusal, Reply, Stored, Table};
 const _: () = prove!(size_of::<Recorded>() <= 48);
 
 /// A call that was answered, and the seat that made it. It takes 48 bytes, and memory of its own only where its key has more
-/// than sixteen bytes, or it is of a filter or of any number of pairs but one.
+/// than sixteen bytes, or it is a listing or a put of any number of pairs but one.
 #[derive(Drop)]
 pub struct Recorded {
     call: Brief,
@@ -35,13 +35,14 @@ impl Model for Recorded {
 }
 
 impl Recorded {
-    ghost use Rattle.std.specs.Prelude.{◌≡◌, ◌↔◌, IsTrue, IfOk, OnErr, true};
+    ghost use Rattle.std.specs.Prelude.{◌≡◌, ◌↔◌, IsTrue, IfOk, IsOk, OnErr, true};
     ghost use Rattle.shard_book.specs.BookState.{may_grow};
-    ghost use Rattle.shard_book.specs.Briefs.{MayTell, unanswered, with_slot};
+    ghost use Rattle.shard_book.specs.Briefs.{IsBrief, MayTell, unanswered, with_slot};
 
     /// A seat's call of an event that isn't answered yet. That of a release takes no memory.
     pub(crate) fn of(alloc: Global, seat: u32, event: &Event) -> Result<Recorded, NoMemory>
         ensures call { IfOk result (λ call. call ≡ unanswered seat event.now) }
+        ensures brief { IsBrief event.now → IsOk result }
         ensures memory { OnErr result (may_grow event.now ≡ true) }
     {
         match Brief::of(seat, event) {
@@ -133,6 +134,7 @@ pub(crate) fn answer<T: Table>(
     ensures lives { OnOk result (has_life (T.state live.old) event.now ≡ true) }
     ensures refused { IfErr result (IsCallRefused (T.state live.old) event.now) }
     ensures err { OnErr result (T.state live.new ≡ T.state live.old) }
+    ensures base { T.base live.new ≡ T.base live.old }
 {
     match reserve_places(calls, out, event) {
         Ok(()) => live.step(event),
@@ -157,6 +159,7 @@ pub(crate) fn answer_twice<T: Table>(
     ensures lives { OnOk result (has_life (T.state live.old) event.now ≡ true) }
     ensures refused { IfErr result (IsCallRefused (T.state live.old) event.now) }
     ensures err { OnErr result (T.state live.new ≡ T.state live.old) }
+    ensures base { T.base live.new ≡ T.base live.old }
 {
     match reserve_places(calls, out, event) {
         Ok(()) => live.step_twice(event),

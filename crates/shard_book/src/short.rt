@@ -1,8 +1,7 @@
 //! A key of at most sixteen bytes, in seventeen; `brief` keeps it, since a `StickKey` takes thirty-two.
 
-ghost use Rattle.std.specs.Prelude.{◌≡◌, ◌↔◌, IsTrue, IfOk, IfSome};
+ghost use Rattle.std.specs.Prelude.{◌≡◌, ◌≤◌, ◌↔◌, IsTrue, IfSome, IsSome, length};
 
-use base_sequence::NoMemory;
 use std::alloc::Global;
 use std::marker::Model;
 use stick_key::{KeyType, Sample, StickKey, convert};
@@ -27,7 +26,8 @@ impl Model for Short {
 impl Short {
     /// A key, if it has at most sixteen bytes.
     pub(crate) fn of(key: &StickKey) -> Option<Short>
-        ensures { IfSome result (λ short. short ≡ key.now) }
+        ensures key { IfSome result (λ short. short ≡ key.now) }
+        ensures short { IsSome result ↔ (length key.now ≤ 16) }
     {
         let bytes = key.bytes();
         if bytes.len() > 16 {
@@ -41,14 +41,14 @@ impl Short {
         })
     }
 
-    /// The key. A binary key of an address of sixteen bytes has the first of these.
-    pub(crate) fn key(&self, alloc: Global) -> Result<StickKey, NoMemory>
-        ensures { IfOk result (λ key. key ≡ self.now) }
+    /// The key, which takes no memory. A binary key of an address of sixteen bytes has the first of these.
+    pub(crate) fn key(&self, alloc: Global) -> StickKey
+        ensures { result ≡ self.now }
     {
         let all = Sample::V6(self.bytes);
         match convert(alloc, &all, KeyType::Binary(u32::from(self.len))) {
-            Ok(Some(key)) => Ok(key),
-            _ => Err(NoMemory),
+            Ok(Some(key)) => key,
+            _ => unreachable!(),
         }
     }
 

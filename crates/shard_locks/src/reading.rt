@@ -24,8 +24,8 @@ impl<T: Table, J: Naming> Shards<T, J> {
     /// changes nothing.
     pub fn copied(&self, rt: &impl Wait, shard: u32) -> Result<PlainTable, NoMemory>
         requires shard { shard < self.now.shards }
-        ensures limits { IfOk result (λ table. IsTableSpec table.spec) }
-        ensures legal { IfOk result (λ table. IsLegal table) }
+        ensures limits { IfOk result (λ table. IsTableSpec table.now.spec) }
+        ensures legal { IfOk result (λ table. IsLegal table.now) }
     {
         let held = self.books[shard as usize].lock(rt);
         held.book().copied()

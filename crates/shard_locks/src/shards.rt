@@ -380,8 +380,8 @@ impl<T: Table, J: Naming> Shards<T, J> {
     }
 
     /// Makes a shard's live state the base of its calls, as `Kept::roll` does, where it has that many calls and no
-    /// receipts are kept; answers whether it did. The whole table is copied while the lock is held, and the base before is
-    /// dropped behind it. Where a growth is refused, nothing changes. The record of all calls stays.
+    /// receipts are kept; answers whether it did. Where the table can't take its base for want of memory, nothing changes. The
+    /// record of all calls stays.
     pub fn roll(&self, rt: &impl Wait, shard: u32, least: u64) -> Result<bool, NoMemory>
         requires shard { shard < self.now.shards }
         ensures kept { self.now.keep ≡ true → result ≡ Ok false }
@@ -390,8 +390,6 @@ impl<T: Table, J: Naming> Shards<T, J> {
             return Ok(false);
         }
         let mut kept = self.books[shard as usize].lock(rt);
-        let base = roll_long(&mut kept, least)?;
-        drop(kept);
-        Ok(base.is_some())
+        roll_long(&mut kept, least)
     }
 }

@@ -1,6 +1,7 @@
 //! Whether books are settled: counts, tickets and, with receipts, records; `settle` calls it.
 
-ghost use Rattle.std.specs.Prelude.{◌≡◌, ◌≤◌, ◌<◌, ℕ, Some, length, slice_get, IfOk, OnOk, IfErr};
+ghost use Rattle.std.specs.Prelude.{◌≡◌, ◌≤◌, ◌<◌, ℕ, Some, length, slice_get, IfOk, OnOk, IfErr, IsTrue, ◌↔◌};
+ghost use Rattle.stick_model.specs.State.{empty_table};
 ghost use Rattle.stick_model.specs.declared.specification.Spec.{Spec};
 ghost use Rattle.shard_book.specs.BookState.{BookState};
 ghost use Rattle.shard_locks.specs.Shared.{seats_of};
@@ -11,6 +12,7 @@ use crate::counts::{adds_up, are_shown, strange_calls, strange_reference};
 use crate::found::found_in;
 use crate::telling::are_told;
 use crate::{Fault, Found, replay};
+use base_sequence::NoMemory;
 use shard_book::Book;
 use shard_locks::{SharedRef, SharedSeat};
 use shard_record::Naming;
@@ -157,7 +159,10 @@ fn check_record<T: Table, J: Naming>(
     if !keep {
         return Ok(());
     }
-    if !book.base().is_new() {
+    let Ok(empty) = begins_empty(book) else {
+        return Err(Fault::Memory);
+    };
+    if !empty {
         return Err(Fault::Mismatch(shard));
     }
     let Ok(replies) = replay(alloc, book) else {
@@ -167,4 +172,14 @@ fn check_record<T: Table, J: Naming>(
         return Err(Fault::Mismatch(shard));
     }
     Ok(())
+}
+
+/// Whether a book's record begins with an empty table. Of one that had counted events by then no copy is made.
+fn begins_empty<T: Table>(book: &Book<T>) -> Result<bool, NoMemory>
+    ensures { IfOk result (λ empty. IsTrue empty ↔ (book.now.base ≡ empty_table book.now.base.spec)) }
+{
+    if book.live().base_events() > 0 {
+        return Ok(false);
+    }
+    Ok(book.base()?.is_new())
 }

@@ -32,7 +32,7 @@ fn step_all<T: Table>(alloc: Global, book: &Book<T>) -> Result<Option<Vec<Reply>
     ensures { IfOk result (λ found. IfSome found (λ replies. StoredRun book.now.base (stored_of book.now.calls) replies.items book.now.live)) }
 {
     let calls = book.calls();
-    let mut table = T::open(alloc, book.base().spec().copy()?)?;
+    let mut table = T::open(alloc, book.live().spec().copy()?)?;
     let mut replies = Vec::new(alloc);
     for call in calls {
         match step_again(alloc, &mut table, call) {
@@ -76,9 +76,9 @@ fn step_again<T: Table>(alloc: Global, table: &mut T, call: &Recorded) -> Result
 /// Makes a recorded call again on a plain table, by the slot that is recorded.
 fn redo_again(alloc: Global, table: &mut PlainTable, call: &Recorded) -> Result<Reply, NoMemory>
     requires event { IsTableEvent call.now.stored.event }
-    requires slot { CanRedo table.old call.now.stored }
-    ensures step { IfOk result (λ reply. Step table.old call.now.stored.event reply table.new) }
-    ensures redone { IfOk result (λ reply. redone table.old call.now.stored ≡ (reply, table.new)) }
+    requires slot { CanRedo table.old.now call.now.stored }
+    ensures step { IfOk result (λ reply. Step table.old.now call.now.stored.event reply table.new.now) }
+    ensures redone { IfOk result (λ reply. redone table.old.now call.now.stored ≡ (reply, table.new.now)) }
 {
     let stored = call.stored(alloc)?;
     match table.redo(&stored) {
@@ -94,7 +94,7 @@ fn redo_all<T: Table>(alloc: Global, book: &Book<T>) -> Result<Vec<Reply>, NoMem
     ensures { IfOk result (λ replies. StoredRun book.now.base (stored_of book.now.calls) replies.items book.now.live) }
 {
     let calls = book.calls();
-    let mut table = PlainTable::open(alloc, book.base().spec().copy()?)?;
+    let mut table = PlainTable::open(alloc, book.live().spec().copy()?)?;
     let mut replies = Vec::new(alloc);
     for call in calls {
         match redo_again(alloc, &mut table, call) {

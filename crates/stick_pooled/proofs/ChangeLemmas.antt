@@ -9,7 +9,7 @@ use Rattle.std.proofs.lemmas.List.{get_or-set_same, get_or-set_other, length-set
 use Rattle.std.proofs.lemmas.Map.Lookups.{exact_bytes}
 use Rattle.stored_data.specs.declared.values.StoredValue.{StoredValue}
 use Rattle.entry_pool.proofs.SlotLemmas.{get_within}
-use Rattle.stick_pooled.specs.Stock.{Held, Stock, IsStock, held_at, with_values}
+use Rattle.stick_pooled.specs.Stock.{Held, Stock, IsStock, held_at, with_values, key_in}
 use Rattle.stick_pooled.specs.declared.entry.Entry.{Entry}
 use Rattle.stick_pooled.specs.Slots.{entries_of}
 use Rattle.stick_pooled.proofs.StockLemmas.{none_some, same_some, revalued}
@@ -22,7 +22,7 @@ use Rattle.stick_model.specs.Step.{with_record}
 use Rattle.stick_model.specs.declared.rows.Ticket.{Ticket}
 use Rattle.stick_model.specs.declared.specification.Spec.{Spec}
 use Rattle.stick_pooled.specs.Shown.{record_of, keyed, records_of, stamp_at, moment_at, IsRising}
-use Rattle.stick_pooled.specs.Table.{key_in, with_key, tickets_of, state_of, IsTable}
+use Rattle.stick_pooled.specs.Table.{with_key, tickets_of, state_of, IsTable}
 use Rattle.stick_pooled.proofs.RecordLemmas.{alone-at, shown-at}
 
 -- an entry but for its data

@@ -71,6 +71,7 @@ module _ (s : Stock) (slot : ℕ) where
     tracked = λ j h there some. get_or-set_other s.slots slot j None None (λ same.
         let one : h ≡ f.held = same_some (sym (left.tracked j h there some) ∙ ap (held_at s) same ∙ f.there) in
         some (ap (λ (x : Held). x.entry.refs) one ∙ f.alone)) ∙ left.tracked j h there some;
+    base = left.base;
   }
 
 -- the filter means nothing in the slots so far

@@ -6,7 +6,7 @@ use Rattle.std.specs.Map.{lookup}
 use Rattle.std.specs.Option.{option_map, option_map_or, option_and_then}
 use Rattle.stored_data.specs.Acts.{acted, answer}
 use Rattle.stored_data.specs.declared.act.Act.{Act}
-use Rattle.stick_pooled.specs.Stock.{Held, Stock, held_at, with_values}
+use Rattle.stick_pooled.specs.Stock.{Held, Stock, held_at, with_values, key_in}
 use Rattle.stick_pooled.proofs.StockLemmas.{none_some, same_some}
 use Rattle.stick_pooled.specs.Tickets.{Tickets, entry_of}
 use Rattle.stick_model.specs.State.{zero_record, same_ticket}
@@ -15,7 +15,7 @@ use Rattle.stick_model.specs.declared.replies.Reply.TheVariants.{Absent, Value}
 use Rattle.stick_model.specs.declared.rows.Ticket.{Ticket}
 use Rattle.stick_model.specs.declared.rows.Record.{Record}
 use Rattle.stick_model.specs.declared.specification.Spec.{Spec}
-use Rattle.stick_pooled.specs.Table.{key_in, with_key, state_of, IsTable}
+use Rattle.stick_pooled.specs.Table.{with_key, state_of, IsTable}
 use Rattle.stick_pooled.proofs.RecordLemmas.{lookup-at}
 use Rattle.stick_pooled.proofs.ChangeLemmas.{values-state}
 

@@ -18,6 +18,8 @@ pub mod ChoiceLemmas
 pub mod SeenLemmas
 pub mod ClearLemmas
 pub mod ListingLemmas
+pub mod OneRowLemmas
+pub mod UsedLemmas
 pub mod LookLemmas
 pub mod TrackedLemmas
 pub mod DispatchLemmas
@@ -32,3 +34,7 @@ pub mod SlotLemmas
 pub mod StoreCountLemmas
 pub mod PlaceLemmas
 pub mod TicketThreads
+pub mod ImageLemmas
+pub mod BaseLemmas
+pub mod KeepLemmas
+pub mod StatesLemmas

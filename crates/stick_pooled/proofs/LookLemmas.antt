@@ -12,7 +12,7 @@ use Rattle.std.specs.Ordering.{is_eq}
 use Rattle.std.specs.declared.cmp.Ordering.{Ordering}
 use Rattle.std.specs.declared.cmp.Ordering.TheVariants.{Less, Equal, Greater}
 use Rattle.std.proofs.lemmas.Map.Lookups.{exact_bytes}
-use Rattle.stick_pooled.specs.Stock.{Held, Stock, held_at}
+use Rattle.stick_pooled.specs.Stock.{Held, Stock, held_at, key_in}
 use Rattle.stick_pooled.proofs.StoreCountLemmas.{all-entries}
 use Rattle.stick_pooled.proofs.StockLemmas.{none_some, same_some}
 use Rattle.stick_pooled.proofs.SlotLemmas.{sorted-entries, missing, level}
@@ -30,7 +30,7 @@ use Rattle.stick_model.proofs.EntryLemmas.{all-filter}
 use Rattle.stick_model.proofs.TestLemmas.{lt-to}
 use Rattle.stick_pooled.specs.Seen.{is_kept, IsGone}
 use Rattle.stick_pooled.specs.Shown.{record_of, keyed, records_of}
-use Rattle.stick_pooled.specs.Table.{key_in, tickets_of, state_of, IsTable}
+use Rattle.stick_pooled.specs.Table.{tickets_of, state_of, IsTable}
 use Rattle.stick_pooled.proofs.CountLemmas.{lookup-keys}
 use Rattle.stick_pooled.proofs.RecordLemmas.{lookup-at, held-from}
 use Rattle.stick_pooled.proofs.ReleaseLemmas.{release-some}

@@ -20,6 +20,7 @@ use Rattle.stick_pooled.specs.Grid.{Grid, with_row, row_at, zero_rows}
 use Rattle.stick_pooled.specs.Stock.{Held, Stock, stock, held_at, held_count, IsAt, IsAbsent, IsStock, with_values, empty}
 use Rattle.stick_pooled.specs.Parts.{held_in, slots_in, shown, AreParts}
 use Rattle.stick_pooled.specs.declared.entry.Entry.{Entry}
+use Rattle.stick_pooled.specs.declared.entry.Kept.{Kept}
 use Rattle.entry_pool.proofs.SlotLemmas.{get_within}
 use Rattle.stick_pooled.proofs.StockLemmas.{none_some, same_some}
 
@@ -88,20 +89,20 @@ pub record IsMade (pool : Contents Entry) (index : Keys) (grid : Grid) (slot : �
   pub in_rows : held.values ≡ get_or grid.rows slot []
   pub inside : slot < pool.capacity
 
-module _ (pool : Contents Entry) (index : Keys) (order : Queue) (grid : Grid) (parts : AreParts pool index order grid) where
+module _ (pool : Contents Entry) (index : Keys) (order : Queue) (grid : Grid) (parts : AreParts pool index order grid) (base : List (Option Kept)) where
   same : length index.slots ≡ length pool.slots
   same = parts.indexed ∙ sym parts.pooled
 
   other : length grid.rows ≡ length pool.slots
   other = parts.rowed ∙ sym parts.pooled
 
-  pub size : length (shown pool index order grid).slots ≡ pool.capacity
+  pub size : length (shown pool index order grid base).slots ≡ pool.capacity
   size = length-slots pool.slots index.slots grid.rows same other ∙ parts.pooled
 
-  pub count : held_count (shown pool index order grid) ≡ count_by is_some pool.slots
+  pub count : held_count (shown pool index order grid base) ≡ count_by is_some pool.slots
   count = count-slots pool.slots index.slots grid.rows same other parts.agree
 
-  pub at : (slot : ℕ) → held_at (shown pool index order grid) slot ≡ held_in (entry_at pool slot) (Indexes.entry_at index slot) (get_or grid.rows slot [])
+  pub at : (slot : ℕ) → held_at (shown pool index order grid base) slot ≡ held_in (entry_at pool slot) (Indexes.entry_at index slot) (get_or grid.rows slot [])
   at slot = slots-get pool.slots index.slots grid.rows slot same other
 
   made-in : (p : P) (k : K) (r : List StoredValue) (h : Held) → pooled_under p ≡ indexed_under k → held_in p k r ≡ Some h
@@ -116,16 +117,16 @@ module _ (pool : Contents Entry) (index : Keys) (order : Queue) (grid : Grid) (p
         ap (λ (x : Held). x.values) (sym parts_of),
       )
 
-  pub made : (slot : ℕ) (h : Held) → held_at (shown pool index order grid) slot ≡ Some h → IsMade pool index grid slot h
+  pub made : (slot : ℕ) (h : Held) → held_at (shown pool index order grid base) slot ≡ Some h → IsMade pool index grid slot h
   made slot h there =
       let m = made-in (entry_at pool slot) (Indexes.entry_at index slot) (get_or grid.rows slot []) h (parts.agree slot) (sym (at slot) ∙ there) in
       record { in_pool = m.0; in_index = m.1; in_rows = m.2; inside = subst (λ n. slot < n) parts.pooled (get_within pool.slots slot _ m.0) }
 
   -- a slot whose key the index has
-  pub from_index : (slot : ℕ) (k : Indexes.Entry) → Indexes.entry_at index slot ≡ Some k → IsAt (shown pool index order grid) k.key (record { slot = slot; generation = k.generation })
+  pub from_index : (slot : ℕ) (k : Indexes.Entry) → Indexes.entry_at index slot ≡ Some k → IsAt (shown pool index order grid base) k.key (record { slot = slot; generation = k.generation })
   from_index slot k is = by_pool (entry_at pool slot) refl (parts.agree slot ∙ ap indexed_under is)
     where
-      by_pool : (p : P) → entry_at pool slot ≡ p → pooled_under (entry_at pool slot) ≡ Some k.generation → IsAt (shown pool index order grid) k.key (record { slot = slot; generation = k.generation })
+      by_pool : (p : P) → entry_at pool slot ≡ p → pooled_under (entry_at pool slot) ≡ Some k.generation → IsAt (shown pool index order grid base) k.key (record { slot = slot; generation = k.generation })
       by_pool None free agree = absurd (none_some (sym (ap pooled_under free) ∙ agree))
       by_pool (Some e) full agree = record {
         held = record { key = k.key; generation = e.generation; entry = e.value; values = get_or grid.rows slot [] };
@@ -134,17 +135,17 @@ module _ (pool : Contents Entry) (index : Keys) (order : Queue) (grid : Grid) (p
         dated = same_some (sym (ap pooled_under full) ∙ agree);
       }
 
-  pub found : (key : List ℕ) (handle : Handle) → Indexes.MapsTo index key handle → IsAt (shown pool index order grid) key handle
+  pub found : (key : List ℕ) (handle : Handle) → Indexes.MapsTo index key handle → IsAt (shown pool index order grid base) key handle
   found key handle is = from_index handle.slot (Indexes.entry key handle.generation) is
 
-  pub absent : (key : List ℕ) → Indexes.IsAbsent index key → IsAbsent (shown pool index order grid) key
+  pub absent : (key : List ℕ) → Indexes.IsAbsent index key → IsAbsent (shown pool index order grid base) key
   absent key none slot h there keyed = let m = made slot h there in none slot (h.generation, m.in_index ∙ ap (λ k. Some (record { key = k; generation = h.generation })) keyed)
 
-  pub absent_back : (key : List ℕ) → IsAbsent (shown pool index order grid) key → Indexes.IsAbsent index key
+  pub absent_back : (key : List ℕ) → IsAbsent (shown pool index order grid base) key → Indexes.IsAbsent index key
   absent_back key none slot has = let f = found key (record { slot = slot; generation = has.0 }) has.1 in none slot f.held f.there f.keyed
 
   -- a slot with nothing
-  pub none_held : (slot : ℕ) → entry_at pool slot ≡ None → held_at (shown pool index order grid) slot ≡ None
+  pub none_held : (slot : ℕ) → entry_at pool slot ≡ None → held_at (shown pool index order grid base) slot ≡ None
   none_held slot free = at slot ∙ ap (λ p. held_in p (Indexes.entry_at index slot) (get_or grid.rows slot [])) free
 
   pub none_indexed : (slot : ℕ) → entry_at pool slot ≡ None → Indexes.entry_at index slot ≡ None
@@ -155,7 +156,7 @@ module _ (pool : Contents Entry) (index : Keys) (order : Queue) (grid : Grid) (p
       by_key (Some k) agree = absurd (none_some agree)
 
   -- the handle of a slot
-  pub handle_is : (slot : ℕ) → Pools.handle_at pool slot ≡ option_map (λ (held : Held). record { slot = slot; generation = held.generation }) (held_at (shown pool index order grid) slot)
+  pub handle_is : (slot : ℕ) → Pools.handle_at pool slot ≡ option_map (λ (held : Held). record { slot = slot; generation = held.generation }) (held_at (shown pool index order grid base) slot)
   handle_is slot = by_slot (entry_at pool slot) (Indexes.entry_at index slot) (parts.agree slot) ∙ sym (ap (option_map (λ (held : Held). record { slot = slot; generation = held.generation })) (at slot))
     where
       by_slot : (p : P) (k : K) → pooled_under p ≡ indexed_under k → Pools.handle_of slot p ≡ option_map (λ (held : Held). record { slot = slot; generation = held.generation }) (held_in p k (get_or grid.rows slot []))
@@ -164,10 +165,10 @@ module _ (pool : Contents Entry) (index : Keys) (order : Queue) (grid : Grid) (p
       by_slot (Some e) (Some k) agree = refl
 
   -- a slot that has an entry has one that can be named
-  pub some_held : (slot : ℕ) → IsSome (held_at (shown pool index order grid) slot) → (h : Held) × (held_at (shown pool index order grid) slot ≡ Some h)
-  some_held slot some = by_slot (held_at (shown pool index order grid) slot) refl some
+  pub some_held : (slot : ℕ) → IsSome (held_at (shown pool index order grid base) slot) → (h : Held) × (held_at (shown pool index order grid base) slot ≡ Some h)
+  some_held slot some = by_slot (held_at (shown pool index order grid base) slot) refl some
     where
-      by_slot : (o : Option Held) → held_at (shown pool index order grid) slot ≡ o → IsSome o → (h : Held) × (held_at (shown pool index order grid) slot ≡ Some h)
+      by_slot : (o : Option Held) → held_at (shown pool index order grid base) slot ≡ o → IsSome o → (h : Held) × (held_at (shown pool index order grid base) slot ≡ Some h)
       by_slot None is some = absurd (true≢false (sym some))
       by_slot (Some h) is some = (h, is)
 
@@ -183,9 +184,9 @@ module _ (pool : Contents Entry) (index : Keys) (order : Queue) (grid : Grid) (p
   }
 
   pub shown_insert : (handle : Handle) (value : Entry) (key : List ℕ) (row : List StoredValue) (queue : List ℕ)
-      → shown (Pools.with_inserted pool handle value) (Indexes.with_key index key handle) (record { capacity = order.capacity; slots = queue }) (with_row grid handle.slot row)
-      ≡ stock grid.columns handle.generation (set (shown pool index order grid).slots handle.slot (Some (record { key = key; generation = handle.generation; entry = value; values = row }))) queue
-  shown_insert handle value key row queue = ap (λ slots. stock grid.columns handle.generation slots queue) (slots-set pool.slots index.slots grid.rows handle.slot _ _ row same other)
+      → shown (Pools.with_inserted pool handle value) (Indexes.with_key index key handle) (record { capacity = order.capacity; slots = queue }) (with_row grid handle.slot row) base
+      ≡ stock grid.columns handle.generation (set (shown pool index order grid base).slots handle.slot (Some (record { key = key; generation = handle.generation; entry = value; values = row }))) queue base
+  shown_insert handle value key row queue = ap (λ slots. stock grid.columns handle.generation slots queue base) (slots-set pool.slots index.slots grid.rows handle.slot _ _ row same other)
 
   pub parts_remove : (handle : Handle) (queue : List ℕ) → AreParts (Pools.without pool handle) (Indexes.without_slot index handle.slot) (record { capacity = order.capacity; slots = queue }) grid
   parts_remove handle queue = record {
@@ -196,13 +197,13 @@ module _ (pool : Contents Entry) (index : Keys) (order : Queue) (grid : Grid) (p
     agree = agree-set pool.slots index.slots handle.slot None None same parts.agree refl;
   }
 
-  pub shown_remove : (handle : Handle) (queue : List ℕ) → shown (Pools.without pool handle) (Indexes.without_slot index handle.slot) (record { capacity = order.capacity; slots = queue }) grid
-      ≡ stock grid.columns pool.newest (set (shown pool index order grid).slots handle.slot None) queue
-  shown_remove handle queue = ap (λ slots. stock grid.columns pool.newest slots queue)
+  pub shown_remove : (handle : Handle) (queue : List ℕ) → shown (Pools.without pool handle) (Indexes.without_slot index handle.slot) (record { capacity = order.capacity; slots = queue }) grid base
+      ≡ stock grid.columns pool.newest (set (shown pool index order grid base).slots handle.slot None) queue base
+  shown_remove handle queue = ap (λ slots. stock grid.columns pool.newest slots queue base)
       (ap (λ rows. slots_in (set pool.slots handle.slot None) (set index.slots handle.slot None) rows) (sym (set-get_or grid.rows handle.slot []))
       ∙ slots-set pool.slots index.slots grid.rows handle.slot None None (get_or grid.rows handle.slot []) same other)
 
-  pub parts_entry : (handle : Handle) (h : Held) (value : Entry) (queue : List ℕ) → held_at (shown pool index order grid) handle.slot ≡ Some h → h.generation ≡ handle.generation
+  pub parts_entry : (handle : Handle) (h : Held) (value : Entry) (queue : List ℕ) → held_at (shown pool index order grid base) handle.slot ≡ Some h → h.generation ≡ handle.generation
       → AreParts (Pools.with_value pool handle value) index (record { capacity = order.capacity; slots = queue }) grid
   parts_entry handle h value queue there dated = record {
     pooled = length-set pool.slots handle.slot _ ∙ parts.pooled;
@@ -215,18 +216,18 @@ module _ (pool : Contents Entry) (index : Keys) (order : Queue) (grid : Grid) (p
         ∙ ap (λ ks. indexed_under (get_or ks slot None)) (set-get_or index.slots handle.slot None);
   }
 
-  pub shown_entry : (handle : Handle) (h : Held) (value : Entry) (queue : List ℕ) → held_at (shown pool index order grid) handle.slot ≡ Some h → h.generation ≡ handle.generation
-      → shown (Pools.with_value pool handle value) index (record { capacity = order.capacity; slots = queue }) grid
-      ≡ stock grid.columns pool.newest (set (shown pool index order grid).slots handle.slot (option_map (λ (held : Held). record held { entry = value }) (held_at (shown pool index order grid) handle.slot))) queue
+  pub shown_entry : (handle : Handle) (h : Held) (value : Entry) (queue : List ℕ) → held_at (shown pool index order grid base) handle.slot ≡ Some h → h.generation ≡ handle.generation
+      → shown (Pools.with_value pool handle value) index (record { capacity = order.capacity; slots = queue }) grid base
+      ≡ stock grid.columns pool.newest (set (shown pool index order grid base).slots handle.slot (option_map (λ (held : Held). record held { entry = value }) (held_at (shown pool index order grid base) handle.slot))) queue base
   shown_entry handle h value queue there dated =
       let m = made handle.slot h there in
       let k : Indexes.Entry = record { key = h.key; generation = h.generation } in
       let new : Option (Pools.Entry Entry) = Some (Pools.entry handle.generation value) in
-      ap (λ slots. stock grid.columns pool.newest slots queue)
+      ap (λ slots. stock grid.columns pool.newest slots queue base)
       (ap (λ rows. slots_in (set pool.slots handle.slot new) index.slots rows) (sym (set-get_or grid.rows handle.slot []))
       ∙ ap (λ ks. slots_in (set pool.slots handle.slot new) ks (set grid.rows handle.slot (get_or grid.rows handle.slot []))) (sym (set-get_or index.slots handle.slot None))
       ∙ slots-set pool.slots index.slots grid.rows handle.slot new (get_or index.slots handle.slot None) (get_or grid.rows handle.slot []) same other
-      ∙ ap (λ o. set (shown pool index order grid).slots handle.slot o)
+      ∙ ap (λ o. set (shown pool index order grid base).slots handle.slot o)
       (ap (λ i. held_in new i (get_or grid.rows handle.slot [])) m.in_index
       ∙ ap (λ g. held_in (Some (Pools.entry g value)) (Some k) (get_or grid.rows handle.slot [])) (sym dated)
       ∙ ap (λ (row : List StoredValue). Some (record h { entry = value; values = row })) (sym m.in_rows)
@@ -241,50 +242,50 @@ module _ (pool : Contents Entry) (index : Keys) (order : Queue) (grid : Grid) (p
     agree = parts.agree;
   }
 
-  pub shown_row : (slot : ℕ) (h : Held) (change : List StoredValue → List StoredValue) → held_at (shown pool index order grid) slot ≡ Some h
-      → shown pool index order (with_row grid slot (change (row_at grid slot))) ≡ with_values (shown pool index order grid) slot change
+  pub shown_row : (slot : ℕ) (h : Held) (change : List StoredValue → List StoredValue) → held_at (shown pool index order grid base) slot ≡ Some h
+      → shown pool index order (with_row grid slot (change (row_at grid slot))) base ≡ with_values (shown pool index order grid base) slot change
   shown_row slot h change there =
       let m = made slot h there in
-      ap (λ slots. stock grid.columns pool.newest slots order.slots)
+      ap (λ slots. stock grid.columns pool.newest slots order.slots base)
       (ap (λ ps. slots_in ps index.slots (set grid.rows slot (change (row_at grid slot)))) (sym (set-get_or pool.slots slot None))
       ∙ ap (λ ks. slots_in (set pool.slots slot (get_or pool.slots slot None)) ks (set grid.rows slot (change (row_at grid slot)))) (sym (set-get_or index.slots slot None))
       ∙ slots-set pool.slots index.slots grid.rows slot (get_or pool.slots slot None) (get_or index.slots slot None) (change (row_at grid slot)) same other
-      ∙ ap (λ o. set (shown pool index order grid).slots slot o)
+      ∙ ap (λ o. set (shown pool index order grid base).slots slot o)
       (ap (λ p. held_in p (get_or index.slots slot None) (change (row_at grid slot))) m.in_pool
       ∙ ap (λ i. held_in (Some (record { generation = h.generation; value = h.entry })) i (change (row_at grid slot))) m.in_index
       ∙ ap (λ (row : List StoredValue). Some (record h { values = change row })) (sym m.in_rows)
       ∙ sym (ap (option_map (λ (held : Held). record held { values = change held.values })) there)))
 
 -- ---- the same of what is seen
-module _ (pool : Contents Entry) (index : Keys) (order : Queue) (grid : Grid) (parts : AreParts pool index order grid) (s : Stock) (is : shown pool index order grid ≡ s) where
-  held : (slot : ℕ) → IsSome (held_at s slot) → (h : Held) × (held_at (shown pool index order grid) slot ≡ Some h)
-  held slot some = some_held pool index order grid parts slot (subst (λ (x : Stock). IsSome (held_at x slot)) (sym is) some)
+module _ (pool : Contents Entry) (index : Keys) (order : Queue) (grid : Grid) (parts : AreParts pool index order grid) (base : List (Option Kept)) (s : Stock) (is : shown pool index order grid base ≡ s) where
+  held : (slot : ℕ) → IsSome (held_at s slot) → (h : Held) × (held_at (shown pool index order grid base) slot ≡ Some h)
+  held slot some = some_held pool index order grid parts base slot (subst (λ (x : Stock). IsSome (held_at x slot)) (sym is) some)
 
-  there_too : (slot : ℕ) (h : Held) → held_at s slot ≡ Some h → held_at (shown pool index order grid) slot ≡ Some h
+  there_too : (slot : ℕ) (h : Held) → held_at s slot ≡ Some h → held_at (shown pool index order grid base) slot ≡ Some h
   there_too slot h there = ap (λ (x : Stock). held_at x slot) is ∙ there
 
   pub indexed_some : (slot : ℕ) → IsSome (held_at s slot) → IsSome (Indexes.entry_at index slot)
-  indexed_some slot some = let h = held slot some in ap is_some (made pool index order grid parts slot h.0 h.1).in_index
+  indexed_some slot some = let h = held slot some in ap is_some (made pool index order grid parts base slot h.0 h.1).in_index
 
   pub in_grid : (slot : ℕ) → IsSome (held_at s slot) → slot < length grid.rows
-  in_grid slot some = let h = held slot some in subst (λ n. slot < n) (sym parts.rowed) (made pool index order grid parts slot h.0 h.1).inside
+  in_grid slot some = let h = held slot some in subst (λ n. slot < n) (sym parts.rowed) (made pool index order grid parts base slot h.0 h.1).inside
 
   pub values_are : (slot : ℕ) (h : Held) → held_at s slot ≡ Some h → row_at grid slot ≡ h.values
-  values_are slot h there = sym (made pool index order grid parts slot h (there_too slot h there)).in_rows
+  values_are slot h there = sym (made pool index order grid parts base slot h (there_too slot h there)).in_rows
 
   pub key_is : (slot : ℕ) (key : List ℕ) → IsSome (held_at s slot) → Indexes.HasKey index slot key → option_map (λ (h : Held). h.key) (held_at s slot) ≡ Some key
   key_is slot key some has =
       let h = held slot some in
-      let m = made pool index order grid parts slot h.0 h.1 in
+      let m = made pool index order grid parts base slot h.0 h.1 in
       let one : h.0.key ≡ key = ap (λ (k : Indexes.Entry). k.key) (same_some (sym m.in_index ∙ has.1)) in
       ap (λ (x : Stock). option_map (λ (h : Held). h.key) (held_at x slot)) (sym is) ∙ ap (option_map (λ (h : Held). h.key)) h.1 ∙ ap Some one
 
-  handle_from : (slot : ℕ) (h : Held) (handle : Handle) → held_at (shown pool index order grid) slot ≡ Some h → Indexes.handle_at index slot ≡ Some handle → record { slot = slot; generation = h.generation } ≡ handle
-  handle_from slot h handle there named = let m = made pool index order grid parts slot h there in same_some (sym (ap (Indexes.handle_in slot) m.in_index) ∙ named)
+  handle_from : (slot : ℕ) (h : Held) (handle : Handle) → held_at (shown pool index order grid base) slot ≡ Some h → Indexes.handle_at index slot ≡ Some handle → record { slot = slot; generation = h.generation } ≡ handle
+  handle_from slot h handle there named = let m = made pool index order grid parts base slot h there in same_some (sym (ap (Indexes.handle_in slot) m.in_index) ∙ named)
 
-  find_from : (slot : ℕ) (h : Held) → held_at (shown pool index order grid) slot ≡ Some h → Pools.find pool (record { slot = slot; generation = h.generation }) ≡ Some h.entry
+  pub find_from : (slot : ℕ) (h : Held) → held_at (shown pool index order grid base) slot ≡ Some h → Pools.find pool (record { slot = slot; generation = h.generation }) ≡ Some h.entry
   find_from slot h there =
-      let m = made pool index order grid parts slot h there in
+      let m = made pool index order grid parts base slot h there in
       ap (Pools.value_of_generation h.generation) m.in_pool ∙ ap (λ b. cond b (Some h.entry) None) (eq-eqb h.generation h.generation refl)
 
   -- the handle that the index has of a slot finds its entry
@@ -321,10 +322,10 @@ empty-parts : (size : ℕ) (columns : List Column) → AreParts (Pools.empty siz
 empty-parts size columns = record { pooled = length-replicate size None; indexed = length-replicate size None; rowed = length-replicate size (zero_of columns); ordered = refl; agree = agree-none size }
 
 module _ (pool : Contents Entry) (index : Keys) (order : Queue) (grid : Grid) (size : ℕ) (columns : List Column) (p : pool ≡ Pools.empty size) (i : index ≡ Indexes.no_keys size) (o : order ≡ queue size []) (g : grid ≡ zero_rows size columns) where
-  pub opened : shown pool index order grid ≡ empty size columns
-  opened = (λ t. shown (p t) (i t) (o t) (g t)) ∙ ap (λ slots. stock columns 0 slots []) (none-slots size (zero_of columns))
+  pub opened : shown pool index order grid (replicate size None) ≡ empty size columns
+  opened = (λ t. shown (p t) (i t) (o t) (g t) (replicate size None)) ∙ ap (λ slots. stock columns 0 slots [] (replicate size None)) (none-slots size (zero_of columns))
 
-  pub opened_parts : AreParts pool index order grid × IsStock (shown pool index order grid)
+  pub opened_parts : AreParts pool index order grid × IsStock (shown pool index order grid (replicate size None))
   opened_parts = (subst (λ (x : Contents Entry × Keys × Queue × Grid). AreParts x.0 x.1 x.2 x.3) (sym (λ t. (p t, i t, o t, g t))) (empty-parts size columns), subst IsStock (sym opened) (stock-empty size columns))
 
 -- a handle that the index has of a slot is of that slot

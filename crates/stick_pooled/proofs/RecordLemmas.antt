@@ -114,6 +114,7 @@ module _ (expire : Option ℕ) (s : Stock) (kept : IsStock s) where
         let f = (kept.queued slot).0 dead.queued in
         let one : h ≡ f.held = same_some (sym (left.tracked j h there some) ∙ ap (held_at s) same ∙ f.there) in
         some (ap (λ (x : Held). x.entry.refs) one ∙ f.alone)) ∙ left.tracked j h there some;
+    base = left.base;
   }
     where
       was : (j : ℕ) (h : Held) → held_at (without_slot s slot) j ≡ Some h → (j ≡ slot) ⊎ (j ≡ slot → ⊥) → held_at s j ≡ Some h
@@ -183,7 +184,8 @@ front-first s (x ∷ xs) front is rising j zero inside at = let same : moment_at
 front-first s (x ∷ xs) front is rising j (suc k) inside at =
     subst (λ y. moment_at s y ≤ moment_at s j) (same_some is) (all-in (λ y. (stamp_at s x < stamp_at s y) × (moment_at s x ≤ moment_at s y)) xs k j (omega (arith, inside)) at rising.0).1
 
-later-alive : (expire : Option ℕ) (clock moment : ℕ) (h : Held) → moment ≤ h.entry.moment → option_map_or (λ life. nat_lt clock (moment + life)) expire true ≡ true → outlives clock (record_of expire h) ≡ true
+-- one that was refreshed later than what is alive is so too
+pub later-alive : (expire : Option ℕ) (clock moment : ℕ) (h : Held) → moment ≤ h.entry.moment → option_map_or (λ life. nat_lt clock (moment + life)) expire true ≡ true → outlives clock (record_of expire h) ≡ true
 later-alive None clock moment h later alive = refl
 later-alive (Some life) clock moment h later alive = grind (arith, nat_tests)
 

@@ -2,7 +2,7 @@
 use Rattle.std.proofs.Common.{◌≡◌, ◌≢◌, ℕ, ◌+◌, ◌-◌, ◌<◌, refl, sym, ◌∙◌, ap, arith, map, filter, set, cond, not, Option, Some, None, unwrap_or}
 use Rattle.std.specs.Option.{option_map, option_map_or}
 use Rattle.std.specs.Map.{set_value}
-use Rattle.stick_pooled.specs.Stock.{Held, Stock, held_at, with_entry}
+use Rattle.stick_pooled.specs.Stock.{Held, Stock, held_at, with_entry, key_in}
 use Rattle.stick_pooled.proofs.StockLemmas.{none_some}
 use Rattle.stick_pooled.specs.Tickets.{Tickets, entry_of, without_ticket}
 use Rattle.stick_model.specs.Key.{Key, same_key}
@@ -15,7 +15,7 @@ use Rattle.stick_model.specs.declared.specification.Spec.{Spec}
 use Rattle.stick_model.proofs.KeyLemmas.{same_key-refl}
 use Rattle.stick_pooled.specs.Shown.{record_of, records_of}
 use Rattle.stick_pooled.specs.Steps.{with_event}
-use Rattle.stick_pooled.specs.Table.{key_in, with_key, tickets_of, state_of, IsTable}
+use Rattle.stick_pooled.specs.Table.{with_key, tickets_of, state_of, IsTable}
 use Rattle.stick_pooled.proofs.RecordLemmas.{lookup-at}
 use Rattle.stick_pooled.proofs.CountLemmas.{lookup-keys}
 use Rattle.stick_pooled.proofs.WriteLemmas.{tickets-written, held-written}

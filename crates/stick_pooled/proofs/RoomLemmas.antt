@@ -254,7 +254,7 @@ module _ (spec : Spec) (s : Stock) (kept : IsStock s) (rising : IsRising s s.que
     records = λ tickets counted. ap (λ b. cond b (Some (records_of spec.expire s)) (cond (spec.nopurge || all_tracked tickets (records_of spec.expire s)) None (Some (purged (purge_of spec) tickets (records_of spec.expire s)))))
         (lower (length (records_of spec.expire s)) spec.size (let same = records-length spec.expire s kept in omega (arith, same, below)));
     space = omega (arith, below, sized);
-    left = record { fewer = λ slot held there. there; tracked = λ slot held there some. there };
+    left = record { fewer = λ slot held there. there; tracked = λ slot held there some. there; base = refl };
     stock = kept;
     rising = rising;
     columns = refl;
@@ -322,7 +322,7 @@ pub none-gone : (s : Stock) → IsStock s → IsRising s s.queue → AreGone 0 s
 none-gone s kept rising = record {
   records = λ expire tickets counted n. ap (λ m. purged m tickets (records_of expire s)) (sum-zero n);
   fewer = inl (refl, refl);
-  left = record { fewer = λ slot held there. there; tracked = λ slot held there some. there };
+  left = record { fewer = λ slot held there. there; tracked = λ slot held there some. there; base = refl };
   stock = kept;
   rising = rising;
   columns = refl;
@@ -343,7 +343,7 @@ module _ (count : ℕ) (old now : Stock) (gone : AreGone count old now) where
             ∙ gone.records expire tickets counted (n + 1)
             ∙ purged-front expire now kept tickets (counted-left old now tickets gone.left counted) gone.rising front first f n;
         fewer = inr (less (one-less kept f stock) gone.fewer);
-        left = record { fewer = λ slot held there. gone.left.fewer slot held (last.fewer slot held there); tracked = λ slot held there some. last.tracked slot held (gone.left.tracked slot held there some) some };
+        left = record { fewer = λ slot held there. gone.left.fewer slot held (last.fewer slot held there); tracked = λ slot held there some. last.tracked slot held (gone.left.tracked slot held there some) some; base = gone.left.base };
         stock = stock;
         rising = rising-without now front now.queue gone.rising;
         columns = gone.columns;

@@ -22,7 +22,7 @@ use Rattle.std.proofs.lemmas.Map.Lookups.{CmpEqualImpliesEq, exact_bytes}
 use Rattle.std.proofs.lemmas.Option.{slice_get-get_or}
 use Rattle.stored_data.specs.declared.stored_set.Column.{Column}
 use Rattle.stick_pooled.specs.Slots.{entries_of, found_in, IsDistinctIn}
-use Rattle.stick_pooled.specs.Stock.{Held, Stock, IsStock, held_at}
+use Rattle.stick_pooled.specs.Stock.{Held, Stock, IsStock, AreDistinct, held_at}
 use Rattle.stick_pooled.proofs.SlotLemmas.{lookup-entries, same-entries, sorted-entries}
 use Rattle.stick_pooled.proofs.StockLemmas.{none_some, same_some}
 use Rattle.stick_model.specs.Key.{Key, key_cmp}
@@ -30,7 +30,8 @@ use Rattle.stick_model.specs.State.{row_of}
 use Rattle.stick_model.specs.declared.filters.Filter.{Filter}
 use Rattle.stick_model.specs.declared.rows.Record.{Record}
 use Rattle.stick_model.specs.declared.rows.Row.{Row}
-use Rattle.stick_pooled.specs.Shown.{keyed, record_of, records_of}
+use Rattle.stick_pooled.specs.Shown.{record_of, kept_keyed, kept_records}
+use Rattle.stick_pooled.specs.declared.entry.Kept.{Kept}
 use Rattle.stick_pooled.specs.Seen.{filled, is_kept, is_meant, listed_entries, listed_in, listed_of, listed_row}
 
 -- ---- the orderings of two keys
@@ -187,18 +188,18 @@ module _ (columns : List Column) (expire : Option ℕ) (clock : ℕ) (choice : F
 
 -- ---- what is copied
 module _ (expire : Option ℕ) where
-  keyed-from : (o : Option Held) (d : Key × Record) → option_map (keyed expire) o ≡ Some d → (h : Held) × (o ≡ Some h) × (h.key ≡ d.0)
-  keyed-from None d is = absurd (none_some is)
-  keyed-from (Some h) d is = (h, refl, ap (λ (e : Key × Record). e.0) (same_some is))
+  kept-from : (o : Option Kept) (d : Key × Record) → option_map (kept_keyed expire) o ≡ Some d → (k : Kept) × (o ≡ Some k) × (k.key ≡ d.0)
+  kept-from None d is = absurd (none_some is)
+  kept-from (Some k) d is = (k, refl, ap (λ (e : Key × Record). e.0) (same_some is))
 
-  distinct-keyed : (s : Stock) → IsStock s → IsDistinctIn key_cmp (map (option_map (keyed expire)) s.slots)
-  distinct-keyed s kept i j d e one other same =
-      let a = keyed-from (held_at s i) d (sym (get_or-map (option_map (keyed expire)) s.slots i None) ∙ one) in
-      let b = keyed-from (held_at s j) e (sym (get_or-map (option_map (keyed expire)) s.slots j None) ∙ other) in
-      kept.distinct i j a.0 b.0 a.1 b.1 (a.2 ∙ exact_bytes d.0 e.0 same ∙ sym b.2)
+  distinct-kept : (slots : List (Option Kept)) → AreDistinct slots → IsDistinctIn key_cmp (map (option_map (kept_keyed expire)) slots)
+  distinct-kept slots apart i j d e one other same =
+      let a = kept-from (get_or slots i None) d (sym (get_or-map (option_map (kept_keyed expire)) slots i None) ∙ one) in
+      let b = kept-from (get_or slots j None) e (sym (get_or-map (option_map (kept_keyed expire)) slots j None) ∙ other) in
+      apart i j a.0 b.0 a.1 b.1 (a.2 ∙ exact_bytes d.0 e.0 same ∙ sym b.2)
 
   -- the records of the slots, in the order of their keys
-  pub records-sorted : (s : Stock) (pairs sorted : List (Key × Record)) → IsStock s → pairs ≡ filled (map (option_map (keyed expire)) s.slots) → IsPermutation pairs sorted
-      → IsSortedBy (λ (a b : Key × Record). is_lt (key_cmp a.0 b.0)) sorted → sorted ≡ records_of expire s
-  records-sorted s pairs sorted kept is moved up =
-      sorted-pairs key_cmp nat_list_cmp_total exact_bytes (map (option_map (keyed expire)) s.slots) sorted (distinct-keyed s kept) (subst (λ all. IsPermutation all sorted) is moved) up
+  pub records-sorted : (slots : List (Option Kept)) (pairs sorted : List (Key × Record)) → AreDistinct slots → pairs ≡ filled (map (option_map (kept_keyed expire)) slots) → IsPermutation pairs sorted
+      → IsSortedBy (λ (a b : Key × Record). is_lt (key_cmp a.0 b.0)) sorted → sorted ≡ kept_records expire slots
+  records-sorted slots pairs sorted apart is moved up =
+      sorted-pairs key_cmp nat_list_cmp_total exact_bytes (map (option_map (kept_keyed expire)) slots) sorted (distinct-kept slots apart) (subst (λ all. IsPermutation all sorted) is moved) up

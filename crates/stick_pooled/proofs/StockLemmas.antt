@@ -10,6 +10,7 @@ use Rattle.stored_data.specs.declared.values.StoredValue.{StoredValue}
 use Rattle.expiry_order.specs.Queue.{without}
 use Rattle.stick_pooled.specs.Stock.{Held, Stock, stock, held_at, IsAbsent, IsFree, IsStock, entered, with_inserted, without_slot, with_entry, with_values}
 use Rattle.stick_pooled.specs.declared.entry.Entry.{Entry}
+use Rattle.stick_pooled.specs.declared.entry.Kept.{Kept}
 use Rattle.stick_pooled.proofs.QueueLemmas.{in_without, without_has, distinct_without, distinct_entered, in_entered, entered_has, entered_others}
 
 pub none_some : {X : Type 0} {x : X} → None ≡ Some x → ⊥
@@ -25,11 +26,11 @@ record IsFreeIn (o : Option Held) : Type 0 where
   alone : held.entry.refs ≡ 0
 
 -- one slot is written, and the queue has it where it is to
-stock-set : (s : Stock) (columns : List Column) (newest slot : ℕ) (o : Option Held) (queue : List ℕ) → IsStock s → slot < length s.slots
+stock-set : (s : Stock) (columns : List Column) (newest slot : ℕ) (o : Option Held) (queue : List ℕ) (base : List (Option Kept)) → IsStock s → slot < length s.slots
     → ((h : Held) (j : ℕ) (e : Held) → o ≡ Some h → held_at s j ≡ Some e → e.key ≡ h.key → j ≡ slot)
     → IsDistinct eqb queue → (Contains queue slot → IsFreeIn o) → (IsFreeIn o → Contains queue slot) → ((j : ℕ) → j ≢ slot → Contains queue j ↔ Contains s.queue j)
-    → IsStock (stock columns newest (set s.slots slot o) queue)
-stock-set s columns newest slot o queue kept inside lone once own_in own_has others = record {
+    → IsStock (stock columns newest (set s.slots slot o) queue base)
+stock-set s columns newest slot o queue base kept inside lone once own_in own_has others = record {
   distinct = λ i j d e at_i at_j same. by_places i j d e at_i at_j same (cases_eq i slot) (cases_eq j slot);
   once = once;
   queued = λ j. by_place j (cases_eq j slot);
@@ -50,7 +51,7 @@ stock-set s columns newest slot o queue kept inside lone once own_in own_has oth
     by_places i j d e at_i at_j same (inr one) (inl other) = lone e i d (at_slot j e other at_j) (sym (there i one) ∙ at_i) same ∙ sym other
     by_places i j d e at_i at_j same (inr one) (inr other) = kept.distinct i j d e (sym (there i one) ∙ at_i) (sym (there j other) ∙ at_j) same
 
-    by_place : (j : ℕ) → (j ≡ slot) ⊎ (j ≢ slot) → Contains queue j ↔ IsFree (stock columns newest (set s.slots slot o) queue) j
+    by_place : (j : ℕ) → (j ≡ slot) ⊎ (j ≢ slot) → Contains queue j ↔ IsFree (stock columns newest (set s.slots slot o) queue base) j
     by_place j (inl same) = (
       (λ h. let f = own_in (subst (Contains queue) same h) in record { held = f.held; there = ap (λ k. get_or (set s.slots slot o) k None) same ∙ here ∙ f.is; alone = f.alone }),
       (λ f. subst (Contains queue) (sym same) (own_has (record { held = f.held; is = at_slot j f.held same f.there; alone = f.alone }))),
@@ -66,7 +67,7 @@ not_queued s slot kept free h = let f = (kept.queued slot).0 h in none_some (sym
 
 pub inserted : (s : Stock) (slot : ℕ) (new : Held) → IsStock s → slot < length s.slots → held_at s slot ≡ None → IsAbsent s new.key → IsStock (with_inserted s slot new)
 inserted s slot new kept inside free absent =
-    stock-set s s.columns new.generation slot (Some new) (entered s.queue slot new.entry.refs) kept inside
+    stock-set s s.columns new.generation slot (Some new) (entered s.queue slot new.entry.refs) s.base kept inside
     (λ h j e is at same. absurd (absent j e at (same ∙ sym (ap (λ (x : Held). x.key) (same_some is)))))
     (distinct_entered s.queue slot new.entry.refs kept.once (not_queued s slot kept free))
     (λ h. record { held = new; is = refl; alone = in_entered s.queue slot new.entry.refs (not_queued s slot kept free) h })
@@ -81,7 +82,7 @@ not_without queue slot h = (in_without queue slot slot h).1 refl
 
 pub removed : (s : Stock) (slot : ℕ) → IsStock s → slot < length s.slots → IsStock (without_slot s slot)
 removed s slot kept inside =
-    stock-set s s.columns s.newest slot None (without s.queue slot) kept inside
+    stock-set s s.columns s.newest slot None (without s.queue slot) s.base kept inside
     (λ h j e is. absurd (none_some is))
     (distinct_without s.queue slot kept.once)
     (λ h. absurd (not_without s.queue slot h))
@@ -91,10 +92,10 @@ removed s slot kept inside =
 -- the entry of a slot is another, of the same key
 rewritten : (s : Stock) (slot : ℕ) (h : Held) (change : Held → Held) (queue : List ℕ) → IsStock s → slot < length s.slots → held_at s slot ≡ Some h → (change h).key ≡ h.key
     → IsDistinct eqb queue → (Contains queue slot → (change h).entry.refs ≡ 0) → ((change h).entry.refs ≡ 0 → Contains queue slot) → ((j : ℕ) → j ≢ slot → Contains queue j ↔ Contains s.queue j)
-    → IsStock (stock s.columns s.newest (set s.slots slot (option_map change (held_at s slot))) queue)
+    → IsStock (stock s.columns s.newest (set s.slots slot (option_map change (held_at s slot))) queue s.base)
 rewritten s slot h change queue kept inside there keyed once own_in own_has others =
     let is : option_map change (held_at s slot) ≡ Some (change h) = ap (option_map change) there in
-    stock-set s s.columns s.newest slot (option_map change (held_at s slot)) queue kept inside
+    stock-set s s.columns s.newest slot (option_map change (held_at s slot)) queue s.base kept inside
     (λ g j e at e_at same. kept.distinct j slot e h e_at there (same ∙ sym (ap (λ (x : Held). x.key) (same_some (sym is ∙ at))) ∙ keyed))
     once
     (λ q. record { held = change h; is = is; alone = own_in q })

@@ -9,7 +9,7 @@ use Rattle.std.proofs.lemmas.List.Sums.{sum_by-cons}
 use Rattle.stored_data.specs.Acts.{zero_of}
 use Rattle.stored_data.specs.declared.values.StoredValue.{StoredValue}
 use Rattle.entry_pool.proofs.SlotLemmas.{get_within}
-use Rattle.stick_pooled.specs.Stock.{Held, Stock, IsStock, IsAbsent, held_at, with_entry, with_values, with_inserted}
+use Rattle.stick_pooled.specs.Stock.{Held, Stock, IsStock, IsAbsent, held_at, with_entry, with_values, with_inserted, key_in}
 use Rattle.stick_pooled.proofs.StockLemmas.{none_some, inserted, not_queued}
 use Rattle.stick_pooled.specs.Tickets.{Tickets}
 use Rattle.stick_model.specs.Key.{Key, key_cmp, same_key}
@@ -22,7 +22,7 @@ use Rattle.stick_model.specs.declared.specification.Spec.{Spec}
 use Rattle.stick_model.proofs.KeyLemmas.{same_key-exact}
 use Rattle.stick_pooled.specs.Shown.{record_of, records_of, stamp_at, moment_at, IsRising}
 use Rattle.stick_pooled.specs.Space.{IsRoomy, IsFull}
-use Rattle.stick_pooled.specs.Table.{key_in, with_key, tickets_of, state_of, IsTable}
+use Rattle.stick_pooled.specs.Table.{with_key, tickets_of, state_of, IsTable}
 use Rattle.stick_pooled.proofs.RecordLemmas.{lookup-at}
 use Rattle.stick_pooled.proofs.TableLemmas.{left-table, left-tickets}
 use Rattle.stick_pooled.proofs.ChangeLemmas.{alike-values, tickets-alike, values-table}

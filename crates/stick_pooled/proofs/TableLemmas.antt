@@ -16,7 +16,7 @@ use Rattle.std.proofs.lemmas.List.{get_or-set_same, get_or-set_other, length-set
 use Rattle.std.proofs.lemmas.Map.Lookups.{exact_bytes}
 use Rattle.entry_pool.specs.declared.slot_handle.Handle.{Handle}
 use Rattle.entry_pool.proofs.SlotLemmas.{get_within}
-use Rattle.stick_pooled.specs.Stock.{IsFree, IsAt, IsAbsent, without_slot}
+use Rattle.stick_pooled.specs.Stock.{IsFree, IsAt, IsAbsent, without_slot, key_in}
 use Rattle.stick_pooled.proofs.StockLemmas.{removed}
 use Rattle.stick_pooled.proofs.SlotLemmas.{lookup-entries, absent}
 use Rattle.stick_model.specs.State.{is_tracked, record_at}
@@ -45,7 +45,7 @@ use Rattle.stick_model.specs.declared.rows.Record.{Record}
 use Rattle.stick_model.specs.declared.specification.Spec.{Spec}
 use Rattle.stick_model.proofs.KeyLemmas.{same_key-refl}
 use Rattle.stick_pooled.specs.Shown.{keyed, records_of, AreCounted, IsRising, IsLeft}
-use Rattle.stick_pooled.specs.Table.{key_in, with_key, number_of, tickets_of, state_of, IsTable}
+use Rattle.stick_pooled.specs.Table.{with_key, number_of, tickets_of, state_of, IsTable}
 
 -- ---- tickets keep their entries
 module _ (old new : Stock) (left : IsLeft old new) (total : Key → ℕ) (counted : (slot : ℕ) (held : Held) → held_at old slot ≡ Some held → held.entry.refs ≡ total held.key) where
@@ -212,6 +212,7 @@ free-left s slot kept f = record {
   tracked = λ j h there some. get_or-set_other s.slots slot j None None (λ same.
       let one : h ≡ f.held = same_some (sym there ∙ ap (held_at s) same ∙ f.there) in
       some (ap (λ (x : Held). x.entry.refs) one ∙ f.alone)) ∙ there;
+  base = refl;
 }
   where
     was : (j : ℕ) (h : Held) → held_at (without_slot s slot) j ≡ Some h → (j ≡ slot) ⊎ (j ≡ slot → ⊥) → held_at s j ≡ Some h

@@ -7,7 +7,7 @@ use Rattle.std.proofs.lemmas.Bool.Decides.{nat_tests}
 use Rattle.std.proofs.lemmas.List.{length-map, map-append}
 use Rattle.std.proofs.lemmas.List.Sums.{sum_by-cons, sum_by-append}
 use Rattle.std.proofs.lemmas.List.Folds.{list_all-map}
-use Rattle.stick_pooled.specs.Stock.{Held, Stock, held_at}
+use Rattle.stick_pooled.specs.Stock.{Held, Stock, held_at, key_in}
 use Rattle.stick_pooled.proofs.StockLemmas.{none_some, same_some}
 use Rattle.stick_pooled.specs.Tickets.{Tickets, entry_of, is_unused, with_ticket, without_ticket}
 use Rattle.stick_table.specs.Invariant.{IsBounded}
@@ -18,7 +18,7 @@ use Rattle.stick_model.specs.declared.rows.Ticket.{Ticket}
 use Rattle.stick_model.specs.declared.specification.Spec.{Spec}
 use Rattle.stick_model.proofs.EntryLemmas.{all-filter, distinct-filter, all-push, distinct-push}
 use Rattle.stick_model.proofs.TestLemmas.{and-left}
-use Rattle.stick_pooled.specs.Table.{key_in, with_key, number_of, tickets_of, IsTable}
+use Rattle.stick_pooled.specs.Table.{with_key, number_of, tickets_of, IsTable}
 use Rattle.stick_pooled.proofs.TableLemmas.{later-numbers}
 use Rattle.stick_pooled.proofs.WriteLemmas.{AreNext}
 

@@ -7,7 +7,7 @@ use Rattle.std.proofs.lemmas.List.Sums.{count_by-le-length}
 use Rattle.stored_data.specs.Acts.{acted}
 use Rattle.stored_data.specs.declared.act.Act.TheVariants.{Connection}
 use Rattle.stored_data.specs.declared.values.StoredValue.{StoredValue}
-use Rattle.stick_pooled.specs.Stock.{Held, Stock, held_at}
+use Rattle.stick_pooled.specs.Stock.{Held, Stock, held_at, key_in}
 use Rattle.stick_pooled.specs.Tickets.{Tickets, is_unused, with_ticket}
 use Rattle.stick_table.specs.References.{entered}
 use Rattle.stick_model.specs.Key.{Key, same_key}
@@ -21,7 +21,7 @@ use Rattle.stick_model.proofs.KeyLemmas.{same_key-refl}
 use Rattle.stick_model.proofs.TestLemmas.{lt-to}
 use Rattle.stick_pooled.specs.Shown.{records_of}
 use Rattle.stick_pooled.specs.Space.{IsRoomy, IsFull}
-use Rattle.stick_pooled.specs.Table.{key_in, with_key, tickets_of, state_of, IsTable}
+use Rattle.stick_pooled.specs.Table.{with_key, tickets_of, state_of, IsTable}
 use Rattle.stick_pooled.proofs.TicketLemmas.{tickets-more, next-more, refs-push, free-place}
 use Rattle.stick_pooled.proofs.StoreLemmas.{changed, new-there, there-tickets, there-held, there-at, there-table, there-stored, full-stored, made, newly, newly-written, newly-tickets, newly-held, newly-table, none-out, new-made, made-tickets, made-table, made-stored}
 

@@ -16,10 +16,10 @@ use Rattle.stick_model.specs.declared.rows.Row.{Row}
 use Rattle.stick_model.specs.declared.specification.Spec.{Spec}
 use Rattle.stick_model.proofs.KeyLemmas.{same_key-refl}
 use Rattle.stick_model.proofs.RecordLemmas.{is-stored, stored-found}
-use Rattle.stick_pooled.specs.Stock.{Held, Stock, held_at}
+use Rattle.stick_pooled.specs.Stock.{Held, Stock, held_at, key_in}
 use Rattle.stick_pooled.specs.Tickets.{Tickets, entry_of}
 use Rattle.stick_pooled.specs.Shown.{record_of, records_of}
-use Rattle.stick_pooled.specs.Table.{key_in, tickets_of, state_of, IsTable}
+use Rattle.stick_pooled.specs.Table.{tickets_of, state_of, IsTable}
 use Rattle.stick_pooled.proofs.StockLemmas.{none_some, same_some}
 use Rattle.stick_pooled.proofs.CountLemmas.{lookup-keys, held-of}
 use Rattle.stick_pooled.proofs.RecordLemmas.{lookup-at}

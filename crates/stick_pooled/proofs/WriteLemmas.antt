@@ -4,7 +4,7 @@ use Rattle.std.specs.Prelude.{nat_eq}
 use Rattle.std.specs.List.{AllByRecursion, IsDistinct}
 use Rattle.std.specs.Option.{option_map_or}
 use Rattle.std.proofs.lemmas.Bool.{cases_eq, true≢false}
-use Rattle.stick_pooled.specs.Stock.{Held, Stock, IsStock, held_at}
+use Rattle.stick_pooled.specs.Stock.{Held, Stock, IsStock, held_at, key_in}
 use Rattle.stick_pooled.proofs.StockLemmas.{same_some}
 use Rattle.stick_pooled.specs.Tickets.{Tickets}
 use Rattle.stick_table.specs.Invariant.{IsBounded}
@@ -13,7 +13,7 @@ use Rattle.stick_model.specs.State.{refs}
 use Rattle.stick_model.specs.declared.rows.Ticket.{Ticket}
 use Rattle.stick_model.specs.declared.specification.Spec.{Spec}
 use Rattle.stick_pooled.specs.Shown.{stamp_at, moment_at, IsRising}
-use Rattle.stick_pooled.specs.Table.{key_in, with_key, number_of, tickets_of, IsTable}
+use Rattle.stick_pooled.specs.Table.{with_key, number_of, tickets_of, IsTable}
 
 -- the tickets that are out once the event is counted: each names an entry, and has a number of its own
 pub record AreNext (spec : Spec) (clock events : ℕ) (new : Stock) (later : Tickets) : Type 0 where

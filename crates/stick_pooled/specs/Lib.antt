@@ -5,6 +5,7 @@ pub mod Space
 pub mod Seen
 pub mod Grid
 pub mod Cut
+pub mod Album
 pub mod Stock
 pub mod Parts
 pub mod Slots

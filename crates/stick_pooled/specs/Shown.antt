@@ -4,6 +4,7 @@ use Rattle.std.specs.Option.{option_map, option_map_or}
 use Rattle.std.specs.List.{AllByRecursion, Contains}
 use Rattle.stick_pooled.specs.Stock.{Held, Stock, held_at}
 use Rattle.stick_pooled.specs.Slots.{entries_of}
+use Rattle.stick_pooled.specs.declared.entry.Kept.{Kept}
 use Rattle.stick_model.specs.Key.{Key, key_cmp}
 use Rattle.stick_model.specs.State.{refs, outlives}
 use Rattle.stick_model.specs.declared.rows.Ticket.{Ticket}
@@ -19,6 +20,17 @@ keyed expire held = (held.key, record_of expire held)
 -- the records, in the order of their keys
 abbrev pub records_of : Option ℕ → Stock → List (Key × Record)
 records_of expire s = entries_of key_cmp (map (option_map (keyed expire)) s.slots)
+
+-- the record of an entry as it was kept
+abbrev pub kept_record : Option ℕ → Kept → Record
+kept_record expire kept = record { stamp = kept.stamp; date = option_map (λ life. kept.moment + life) expire; values = kept.values }
+
+abbrev pub kept_keyed : Option ℕ → Kept → Key × Record
+kept_keyed expire kept = (kept.key, kept_record expire kept)
+
+-- the records of these slots, in the order of their keys
+abbrev pub kept_records : Option ℕ → List (Option Kept) → List (Key × Record)
+kept_records expire slots = entries_of key_cmp (map (option_map (kept_keyed expire)) slots)
 
 -- each entry has as many references as tickets of its key are out
 abbrev pub AreCounted : Stock → List (Ticket × Key) → Type 0
@@ -46,7 +58,9 @@ pub record IsDead (s : Stock) (expire : Option ℕ) (clock slot : ℕ) : Type 0 
 abbrev pub AreAlive : Stock → Option ℕ → ℕ → Type 0
 AreAlive s expire clock = (slot : ℕ) (held : Held) → Contains s.queue slot → held_at s slot ≡ Some held → outlives clock (record_of expire held) ≡ true
 
--- what is left once the clock has come to a moment: entries that were there, each of those that references hold among them
+-- what is left once the clock has come to a moment: entries that were there, each of those that references hold among them,
+-- and the base as it was
 pub record IsLeft (old new : Stock) : Type 0 where
   pub fewer : (slot : ℕ) (held : Held) → held_at new slot ≡ Some held → held_at old slot ≡ Some held
   pub tracked : (slot : ℕ) (held : Held) → held_at old slot ≡ Some held → held.entry.refs ≢ 0 → held_at new slot ≡ Some held
+  pub base : new.base ≡ old.base

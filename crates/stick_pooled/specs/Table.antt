@@ -1,19 +1,15 @@
 -- What a `StickTable` keeps of its parts.
-use Rattle.std.specs.Prelude.{◌≡◌, ℕ, ◌≤◌, nat_eq, List, [], map, length, Option, Some, None, IsSome}
+use Rattle.std.specs.Prelude.{◌≡◌, ℕ, ◌≤◌, nat_eq, List, map, length, get_or, Option, Some, None, IsSome}
 use Rattle.std.specs.List.{AllByRecursion, IsDistinct}
-use Rattle.stick_pooled.specs.Stock.{Held, Stock, IsStock, held_at}
+use Rattle.stick_pooled.specs.Stock.{Held, Stock, IsStock, AreDistinct, held_at, key_in}
 use Rattle.stick_pooled.specs.Tickets.{Tickets}
 use Rattle.stick_table.specs.Invariant.{IsBounded}
 use Rattle.stick_model.specs.Key.{Key}
 use Rattle.stick_model.specs.State.{State}
 use Rattle.stick_model.specs.declared.rows.Ticket.{Ticket}
 use Rattle.stick_model.specs.declared.specification.Spec.{Spec}
-use Rattle.stick_pooled.specs.Shown.{records_of, AreCounted, IsRising}
-
--- the key of a slot's entry
-abbrev pub key_in : Option Held → Key
-key_in None = []
-key_in (Some held) = held.key
+use Rattle.stick_pooled.specs.Shown.{records_of, kept_records, AreCounted, IsRising}
+use Rattle.stick_pooled.specs.declared.entry.Kept.{Kept}
 
 -- a ticket with the key of its entry
 abbrev pub with_key : Stock → Ticket × ℕ → Ticket × Key
@@ -49,3 +45,15 @@ pub record IsTable (spec : Spec) (clock events : ℕ) (s : Stock) (book : Ticket
   pub columns : s.columns ≡ spec.columns
   pub sized : length s.slots ≡ spec.size
   pub capacity : book.capacity ≡ spec.max_refs
+
+-- the state that the parts meant at the base
+abbrev pub base_of : Spec → ℕ → ℕ → List (Option Kept) → List (Ticket × Key) → State
+base_of spec clock events slots tickets = record { spec = spec; clock = clock; events = events; records = kept_records spec.expire slots; tickets = tickets }
+
+-- what a table keeps of its base
+pub record IsBase (spec : Spec) (clock events : ℕ) (slots : List (Option Kept)) (tickets : List (Ticket × Key)) : Type 0 where
+  pub bounded : IsBounded spec clock events tickets
+  pub distinct : AreDistinct slots
+  -- what was refreshed was so at a clock of the past
+  pub past : (slot : ℕ) (kept : Kept) → get_or slots slot None ≡ Some kept → kept.moment ≤ clock
+  pub sized : length slots ≡ spec.size

@@ -54,7 +54,8 @@ impl StickTable {
     /// Removes the entries that a filter means, but for those that references hold, and tells how many went and how
     /// many stayed.
     fn clear_matching(&mut self, choice: &Filter) -> Reply
-        ensures { cleared self.old choice.now ≡ (result, self.new) }
+        ensures now { cleared self.old.now choice.now ≡ (result, self.new.now) }
+        ensures base { self.new.base ≡ self.old.base }
     {
         let kept = count_tracked(&self.store, self.spec.size, self.clock, choice);
         let before = self.store.len();
@@ -68,8 +69,9 @@ impl StickTable {
 
     pub(crate) fn clear_where(&mut self, now: u64, choice: &Filter) -> Reply
         requires moment { now < 2 ^ 62 }
-        requires life { self.old.events + length self.old.tickets < self.old.spec.life }
-        ensures { reply_to_clear_where (begun self.old now) choice.now ≡ (result, self.new) }
+        requires life { self.old.now.events + length self.old.now.tickets < self.old.now.spec.life }
+        ensures now { reply_to_clear_where (begun self.old.now now) choice.now ≡ (result, self.new.now) }
+        ensures base { self.new.base ≡ self.old.base }
     {
         self.begin(now);
         match not_stored(&self.spec.columns, choice) {

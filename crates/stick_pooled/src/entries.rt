@@ -35,8 +35,9 @@ fn touch(store: &mut Store, slot: u32, event: u64, moment: u64)
 impl StickTable {
     pub(crate) fn clear(&mut self, now: u64, key: &StickKey) -> Reply
         requires moment { now < 2 ^ 62 }
-        requires life { self.old.events + length self.old.tickets < self.old.spec.life }
-        ensures { reply_to_clear (begun self.old now) key.now ≡ (result, self.new) }
+        requires life { self.old.now.events + length self.old.now.tickets < self.old.now.spec.life }
+        ensures now { reply_to_clear (begun self.old.now now) key.now ≡ (result, self.new.now) }
+        ensures base { self.new.base ≡ self.old.base }
     {
         self.begin(now);
         let Some(handle) = self.store.find(key) else {
@@ -56,9 +57,10 @@ impl StickTable {
         pairs: &[Cell],
     ) -> Result<Reply, NoMemory>
         requires moment { now < 2 ^ 62 }
-        requires life { self.old.events + length self.old.tickets < self.old.spec.life }
-        ensures ok { IfOk result (λ reply. reply_to_put (begun self.old now) key.now pairs.now ≡ (reply, self.new)) }
+        requires life { self.old.now.events + length self.old.now.tickets < self.old.now.spec.life }
+        ensures ok { IfOk result (λ reply. reply_to_put (begun self.old.now now) key.now pairs.now ≡ (reply, self.new.now)) }
         ensures err { OnErr result (self.new ≡ self.old) }
+        ensures base { self.new.base ≡ self.old.base }
     {
         match put_fault(&self.spec.columns, pairs) {
             Some(fault) => {
@@ -80,9 +82,10 @@ impl StickTable {
         pairs: &[Cell],
     ) -> Reply
         requires moment { now < 2 ^ 62 }
-        requires life { self.old.events + length self.old.tickets < self.old.spec.life }
+        requires life { self.old.now.events + length self.old.now.tickets < self.old.now.spec.life }
         requires spare { IsSpare key.now spare }
-        ensures { reply_to_put_allowed (begun self.old now) key.now pairs.now ≡ (result, self.new) }
+        ensures now { reply_to_put_allowed (begun self.old.now now) key.now pairs.now ≡ (result, self.new.now) }
+        ensures base { self.new.base ≡ self.old.base }
     {
         self.advance(now);
         if self.put_there(key, pairs) {
@@ -93,10 +96,11 @@ impl StickTable {
 
     /// Puts data into the entry of a key, where it has one.
     fn put_there(&mut self, key: &StickKey, pairs: &[Cell]) -> bool
-        requires life { self.old.events + length self.old.tickets < self.old.spec.life }
-        ensures there { OnTrue result (reply_to_put_allowed (with_event self.old) key.now pairs.now ≡ (Written false, self.new)) }
-        ensures absent { OnFalse result (record_at key.now self.old.records ≡ None) }
+        requires life { self.old.now.events + length self.old.now.tickets < self.old.now.spec.life }
+        ensures there { OnTrue result (reply_to_put_allowed (with_event self.old.now) key.now pairs.now ≡ (Written false, self.new.now)) }
+        ensures absent { OnFalse result (record_at key.now self.old.now.records ≡ None) }
         ensures kept { OnFalse result (self.new ≡ self.old) }
+        ensures base { self.new.base ≡ self.old.base }
     {
         let Some(handle) = self.store.find(key) else {
             return false;
@@ -109,9 +113,10 @@ impl StickTable {
 
     /// Puts data into a new entry of a key that has none, where there is room.
     fn put_new(&mut self, key: StickKey, pairs: &[Cell]) -> Reply
-        requires life { self.old.events + length self.old.tickets < self.old.spec.life }
-        requires absent { record_at key self.old.records ≡ None }
-        ensures { reply_to_put_allowed (with_event self.old) key pairs.now ≡ (result, self.new) }
+        requires life { self.old.now.events + length self.old.now.tickets < self.old.now.spec.life }
+        requires absent { record_at key self.old.now.records ≡ None }
+        ensures now { reply_to_put_allowed (with_event self.old.now) key pairs.now ≡ (result, self.new.now) }
+        ensures base { self.new.base ≡ self.old.base }
     {
         self.events += 1;
         if !make_room(&mut self.store, &self.spec) {

@@ -1,11 +1,22 @@
 //! The entries of a table: pool, index, order and rows as one map from keys, with one queue; all parts of `StickTable` use it.
 
-ghost use Rattle.std.specs.Prelude.{◌≡◌, ◌<◌, ◌≤◌, ◌==◌, if◌then◌else◌, ◌≢◌, IsSome, IfOk, slice_get, length};
+ghost use Rattle.std.specs.Prelude.{◌≡◌, ◌<◌, ◌≤◌, ◌==◌, if◌then◌else◌, ◌≢◌, ℕ, List, Option, Some, None, IsSome, IfOk, slice_get, length};
 ghost use Rattle.std.specs.List.{Contains};
+ghost use Rattle.std.specs.Option.{option_map};
+ghost use Rattle.key_index.specs.Keys.{Entry as Keyed};
+ghost use Rattle.stick_pooled.specs.Stock.{Held, entered};
+ghost use Rattle.stick_pooled.specs.declared.entry.Entry.{Entry as AnEntry};
 ghost use Rattle.entry_pool.specs.Contents.{find as find_in_pool, with_value as with_pool_value};
-ghost use Rattle.expiry_order.specs.Queue.{queue as order_of, without};
+ghost use Rattle.expiry_order.specs.Queue.{queue as order_of, slot_after, without};
+ghost use Rattle.key_index.specs.Keys.{entry_at as key_at, handle_at as handle_in_index};
+ghost use Rattle.stored_data.specs.Words.{width};
+ghost use Rattle.stick_pooled.specs.Album.{HasPicture, Picture, picture_at};
+ghost use Rattle.stick_pooled.specs.Grid.{row_at};
+ghost use Rattle.stick_pooled.specs.Parts.{IsPictured, base_from};
+ghost use Rattle.entry_pool.specs.declared.slot_handle.Handle.{Handle as AHandle};
 
-use crate::entry::Entry;
+use crate::entry::{Entry, Kept, Point};
+use crate::slot_images::{Image, Images};
 use crate::value_rows::Rows;
 use base_sequence::NoMemory;
 use entry_pool::{Handle, Pool};
@@ -17,13 +28,16 @@ use stick_key::StickKey;
 use stored_data::{Act, Field, StoredSet, Values};
 
 /// The entries of a table by their keys, and the slots of those that no reference holds, in a queue. Contracts see what
-/// each slot has, and the queue. Only `open` and `values` take memory.
+/// each slot has, the queue, and the base: what each slot had when `set_base` was called last. Only `open`, `set_base` and
+/// what copies data take memory.
 #[derive(Drop)]
 pub struct Store {
     entries: Pool<Entry>,
     index: Index,
     order: Order,
     rows: Rows,
+    /// What the slots that have changed since had at the base.
+    images: Images,
     /// How many entries went to make room for others, modulo 2^64. Contracts don't see it.
     purged: u64,
 }
@@ -33,11 +47,12 @@ impl Model for Store {
 
     ghost Value = { Stock };
 
-    ghost use Rattle.stick_pooled.specs.Parts.{shown, AreParts};
+    ghost use Rattle.stick_pooled.specs.Parts.{slots_in, base_shown, shown, AreParts, IsAlbumOf};
 
-    ghost view = { λ s. shown s.entries s.index s.order s.rows };
+    ghost view = { λ s. shown s.entries s.index s.order s.rows (base_shown s.entries s.index s.rows s.images) };
 
-    ghost invariant = { λ s. AreParts s.entries s.index s.order s.rows × IsStock (shown s.entries s.index s.order s.rows) };
+    ghost invariant = { λ s. AreParts s.entries s.index s.order s.rows × (IsStock (shown s.entries s.index s.order s.rows (base_shown s.entries s.index s.rows s.images))
+        × IsAlbumOf s.rows.columns (slots_in s.entries.slots s.index.slots s.rows.rows) s.images) };
 }
 
 // Writes the entry that a handle finds.
@@ -70,14 +85,66 @@ fn enter(order: &mut Order, slot: u32, refs: u32)
     }
 }
 
-ghost use Rattle.stick_pooled.specs.Stock.{entered};
+// Keeps an image of a slot's entry, if nothing was kept of it.
+fn keep_image(images: &mut Images, entries: &Pool<Entry>, index: &Index, rows: &Rows, slot: u32)
+    requires inside { slot < length images.old.places }
+    requires rowed { slot < length rows.now.rows }
+    requires indexed { IsSome (key_at index.now slot) }
+    requires pooled { (handle : AHandle) → handle_in_index index.now slot ≡ Some handle → IsSome (find_in_pool entries.now handle) }
+    requires room { picture_at images.old slot ≡ None → 0 < images.old.room }
+    requires wide { images.old.width ≡ width rows.now.columns }
+    ensures { (handle : AHandle) (entry : AnEntry) → handle_in_index index.now slot ≡ Some handle → find_in_pool entries.now handle ≡ Some entry
+        → IsPictured rows.now.columns (row_at rows.now slot) entry slot images.old images.new }
+{
+    if images.has(slot) {
+        return;
+    }
+    let entry = *entries.value(index.handle_of(slot));
+    let image = Image {
+        stamp: entry.stamp,
+        moment: entry.moment,
+        key: None,
+    };
+    images.keep(slot, image, rows.row(slot));
+}
+
+// The key of a slot's image, or else of the slot.
+fn copy_key(image: &Image, index: &Index, slot: u32) -> Result<StickKey, NoMemory>
+    requires { image.now.key ≡ None → IsSome (key_at index.now slot) }
+    ensures given { (key : List ℕ) → image.now.key ≡ Some key → IfOk result (λ copy. copy ≡ key) }
+    ensures own { (entry : Keyed) → image.now.key ≡ None → key_at index.now slot ≡ Some entry → IfOk result (λ copy. copy ≡ entry.key) }
+{
+    match &image.key {
+        Some(key) => key.copy(),
+        None => index.key_of(slot).copy(),
+    }
+}
+
+// What the image of a slot tells, where there is memory.
+fn copy_image(images: &Images, index: &Index, rows: &Rows, slot: u32) -> Result<Kept, NoMemory>
+    requires there { HasPicture images.now slot }
+    requires keyed { (p : Picture) → picture_at images.now slot ≡ Some (Some p) → p.image.key ≡ None → IsSome (key_at index.now slot) }
+    requires wide { images.now.width ≡ width rows.now.columns }
+    ensures { (p : Picture) (live : Option Held) → picture_at images.now slot ≡ Some (Some p) → option_map (λ (e : Keyed). e.key) (key_at index.now slot) ≡ option_map (λ (held : Held). held.key) live
+        → IfOk result (λ kept. Some kept ≡ base_from rows.now.columns (Some (Some p)) live) }
+{
+    let image = images.image(slot);
+    let key = copy_key(image, index, slot)?;
+    let values = rows.values_in(images.words(slot))?;
+    Ok(Kept {
+        key,
+        stamp: image.stamp,
+        moment: image.moment,
+        values,
+    })
+}
 
 impl Store {
-    ghost use Rattle.std.specs.Prelude.{◌≡◌, ◌<◌, ◌≤◌, ◌^◌, IsSome, IfOk, IfSome, IfNone, Some, None, length, slice_get};
+    ghost use Rattle.std.specs.Prelude.{◌≡◌, ◌<◌, ◌≤◌, ◌^◌, IsSome, IfOk, IfSome, IfNone, OnOk, OnErr, Some, None, length, get_or, slice_get};
     ghost use Rattle.std.specs.Option.{option_map};
     ghost use Rattle.std.specs.List.{Contains};
     ghost use Rattle.stored_data.specs.Acts.{acted, answer, value_at, with_value, zero_of};
-    ghost use Rattle.stick_pooled.specs.Stock.{Held, IsStock, IsAt, IsAbsent, empty, held_at, held_count, with_inserted, without_slot, with_entry, with_values};
+    ghost use Rattle.stick_pooled.specs.Stock.{Held, IsStock, IsAt, IsAbsent, empty, held_at, held_count, kept_at, kept_of, kept_slots, with_base, with_inserted, without_slot, with_entry, with_values};
 
     /// A store of `size` slots, 1 to 2^30, for data of these columns. It takes the memory of them all. The seed changes
     /// nothing that contracts see.
@@ -86,11 +153,14 @@ impl Store {
         requires within { size ≤ 2 ^ 30 }
         ensures { IfOk result (λ store. store ≡ empty size columns) }
     {
+        let rows = Rows::new(alloc, size, columns)?;
+        let images = Images::new(alloc, size, rows.width())?;
         Ok(Store {
             entries: Pool::new(alloc, size)?,
             index: Index::new(alloc, size, seed)?,
             order: Order::new(alloc, size)?,
-            rows: Rows::new(alloc, size, columns)?,
+            rows,
+            images,
             purged: 0,
         })
     }
@@ -117,6 +187,14 @@ impl Store {
         ensures stock { IsStock self.now }
     {
         self.order.front()
+    }
+
+    /// The slot after this one in the queue, or `None` where it is the last.
+    pub fn after(&self, slot: u32) -> Option<u32>
+        requires { Contains self.now.queue slot }
+        ensures { result ≡ slot_after self.now.queue slot }
+    {
+        self.order.after(slot)
     }
 
     /// The handle of a slot's entry, for a walk over the slots.
@@ -171,6 +249,7 @@ impl Store {
     {
         match self.entries.insert(entry, generation) {
             Ok(handle) => {
+                self.images.keep_empty(handle.slot);
                 self.index.insert(key, handle);
                 self.rows.clear(handle.slot);
                 enter(&mut self.order, handle.slot, entry.refs);
@@ -186,9 +265,16 @@ impl Store {
         ensures { self.new ≡ without_slot self.old slot }
     {
         let handle = self.index.handle_of(slot);
+        keep_image(
+            &mut self.images,
+            &self.entries,
+            &self.index,
+            &self.rows,
+            slot,
+        );
         self.order.remove(slot);
         let _gone = self.entries.remove(handle);
-        drop(self.index.remove_slot(slot));
+        self.images.keep_key(slot, self.index.remove_slot(slot));
     }
 
     /// One entry more went to make room for another.
@@ -211,6 +297,13 @@ impl Store {
     {
         let before = self.entry(slot);
         let handle = self.index.handle_of(slot);
+        keep_image(
+            &mut self.images,
+            &self.entries,
+            &self.index,
+            &self.rows,
+            slot,
+        );
         leave(&mut self.order, slot, before.refs);
         write(&mut self.entries, handle, entry);
         enter(&mut self.order, slot, entry.refs);
@@ -222,6 +315,13 @@ impl Store {
         ensures acted { self.new ≡ with_values self.old slot (λ values. acted values now act) }
         ensures answer { (held : Held) → held_at self.old slot ≡ Some held → result ≡ answer held.values now act }
     {
+        keep_image(
+            &mut self.images,
+            &self.entries,
+            &self.index,
+            &self.rows,
+            slot,
+        );
         self.rows.act(slot, now, act)
     }
 
@@ -230,6 +330,68 @@ impl Store {
         requires { IsSome (held_at self.old slot) }
         ensures { self.new ≡ with_values self.old slot (λ values. with_value values field value) }
     {
+        keep_image(
+            &mut self.images,
+            &self.entries,
+            &self.index,
+            &self.rows,
+            slot,
+        );
         self.rows.put(slot, field, value);
+    }
+
+    /// Makes what the slots have now the base. Where a growth is refused, nothing changes.
+    pub fn set_base(&mut self, alloc: Global) -> Result<(), NoMemory>
+        requires { length self.old.slots ≤ 2 ^ 30 }
+        ensures ok { OnOk result (self.new ≡ with_base self.old) }
+        ensures err { OnErr result (self.new ≡ self.old) }
+    {
+        let size = self.entries.capacity();
+        self.images.renew(alloc, size)?;
+        Ok(())
+    }
+
+    /// A slot's entry as it would be kept for a base, where there is memory.
+    pub fn current(&self, slot: u32) -> Result<Option<Kept>, NoMemory>
+        ensures { IfOk result (λ kept. kept ≡ option_map kept_of (held_at self.now slot)) }
+    {
+        if self.handle_at(slot).is_none() {
+            return Ok(None);
+        }
+        let key = self.key(slot).copy()?;
+        let entry = self.entry(slot);
+        let values = self.values(slot)?;
+        Ok(Some(Kept {
+            key,
+            stamp: entry.stamp,
+            moment: entry.moment,
+            values,
+        }))
+    }
+
+    /// What a slot had at the base, where there is memory.
+    pub fn kept(&self, slot: u32) -> Result<Option<Kept>, NoMemory>
+        requires { slot < length self.now.slots }
+        ensures { IfOk result (λ kept. kept ≡ kept_at self.now slot) }
+    {
+        if self.images.has_empty(slot) {
+            return Ok(None);
+        }
+        if !self.images.has(slot) {
+            return self.current(slot);
+        }
+        let kept = copy_image(&self.images, &self.index, &self.rows, slot)?;
+        Ok(Some(kept))
+    }
+
+    /// What a slot has, or had at the base, where there is memory.
+    pub fn slot_at(&self, point: Point, slot: u32) -> Result<Option<Kept>, NoMemory>
+        requires { slot < length self.now.slots }
+        ensures { IfOk result (λ kept. kept ≡ get_or (kept_slots point self.now) slot None) }
+    {
+        match point {
+            Point::Now => self.current(slot),
+            Point::Base => self.kept(slot),
+        }
     }
 }

@@ -12,14 +12,14 @@ use stick_model::{Event, Refusal, Reply, Ticket};
 
 impl StickTable {
     fn is_ticket_out(&self, ticket: Ticket) -> bool
-        ensures { result ≡ is_some (key_of ticket self.now.tickets) }
+        ensures { result ≡ is_some (key_of ticket self.now.now.tickets) }
     {
         self.book.find(ticket).is_some()
     }
 
     /// Whether the ticket that an event names is out.
     fn is_out(&self, event: &Event) -> bool
-        ensures { result ≡ is_event_out self.now event.now }
+        ensures { result ≡ is_event_out self.now.now event.now }
     {
         match event {
             Event::Look(_, ticket) | Event::Count(_, ticket, _) | Event::Release(_, ticket) =>
@@ -29,7 +29,7 @@ impl StickTable {
     }
 
     fn has_life(&self, event: &Event) -> bool
-        ensures { result ≡ has_life_for self.now event.now }
+        ensures { result ≡ has_life_for self.now.now event.now }
     {
         let taken = event.life_taken();
         let used = self.events + u64::from(self.book.len());
@@ -38,7 +38,7 @@ impl StickTable {
 
     /// Why an event is refused whatever memory there is.
     pub(crate) fn refusal(&self, event: &Event) -> Option<Refusal>
-        ensures { MatchOption result ((is_event_out self.now event.now ≡ true) × (has_life_for self.now event.now ≡ true)) (IsRefused self.now event.now) }
+        ensures { MatchOption result ((is_event_out self.now.now event.now ≡ true) × (has_life_for self.now.now event.now ≡ true)) (IsRefused self.now.now event.now) }
     {
         if !self.is_out(event) {
             return Some(Refusal::Stale);
@@ -52,12 +52,13 @@ impl StickTable {
     /// The reply to an event whose ticket is out, and for which there is life.
     pub(crate) fn answer(&mut self, event: &Event) -> Result<Reply, NoMemory>
         requires event { IsTableEvent event.now }
-        requires out { is_event_out self.old event.now ≡ true }
-        requires life { has_life_for self.old event.now ≡ true }
-        ensures ok { IfOk result (λ reply. after self.old event.now (unwrap_or (slot_of reply) 0) ≡ (reply, self.new)) }
-        ensures free { IfOk result (λ reply. MayTrack self.old event.now → option_map_or (is_free_slot self.old) (slot_of reply) true ≡ true) }
+        requires out { is_event_out self.old.now event.now ≡ true }
+        requires life { has_life_for self.old.now event.now ≡ true }
+        ensures ok { IfOk result (λ reply. after self.old.now event.now (unwrap_or (slot_of reply) 0) ≡ (reply, self.new.now)) }
+        ensures free { IfOk result (λ reply. MayTrack self.old.now event.now → option_map_or (is_free_slot self.old.now) (slot_of reply) true ≡ true) }
         ensures err { OnErr result (self.new ≡ self.old) }
         ensures memory { takes_memory event.now ≡ false → IsOk result }
+        ensures base { self.new.base ≡ self.old.base }
     {
         match event {
             Event::Get(now, key) => self.get(*now, key),
@@ -76,13 +77,14 @@ impl StickTable {
     /// The same, the reply given twice. Memory for both is taken before anything changes.
     pub(crate) fn answer_twice(&mut self, event: &Event) -> Result<(Reply, Reply), NoMemory>
         requires event { IsTableEvent event.now }
-        requires out { is_event_out self.old event.now ≡ true }
-        requires life { has_life_for self.old event.now ≡ true }
-        ensures ok { IfOk result (λ replies. after self.old event.now (unwrap_or (slot_of replies.0) 0) ≡ (replies.0, self.new)) }
-        ensures free { IfOk result (λ replies. MayTrack self.old event.now → option_map_or (is_free_slot self.old) (slot_of replies.0) true ≡ true) }
+        requires out { is_event_out self.old.now event.now ≡ true }
+        requires life { has_life_for self.old.now event.now ≡ true }
+        ensures ok { IfOk result (λ replies. after self.old.now event.now (unwrap_or (slot_of replies.0) 0) ≡ (replies.0, self.new.now)) }
+        ensures free { IfOk result (λ replies. MayTrack self.old.now event.now → option_map_or (is_free_slot self.old.now) (slot_of replies.0) true ≡ true) }
         ensures twice { IfOk result (λ replies. replies.1 ≡ replies.0) }
         ensures err { OnErr result (self.new ≡ self.old) }
         ensures memory { takes_memory event.now ≡ false → IsOk result }
+        ensures base { self.new.base ≡ self.old.base }
     {
         match event {
             Event::Get(now, key) => self.get_twice(*now, key),
@@ -96,14 +98,15 @@ impl StickTable {
     /// The reply to an event that asks for no rows, twice.
     fn change_twice(&mut self, event: &Event) -> Result<(Reply, Reply), NoMemory>
         requires event { IsTableEvent event.now }
-        requires out { is_event_out self.old event.now ≡ true }
-        requires life { has_life_for self.old event.now ≡ true }
+        requires out { is_event_out self.old.now event.now ≡ true }
+        requires life { has_life_for self.old.now event.now ≡ true }
         requires rows { asks_rows event.now ≡ false }
-        ensures ok { IfOk result (λ replies. after self.old event.now (unwrap_or (slot_of replies.0) 0) ≡ (replies.0, self.new)) }
-        ensures free { IfOk result (λ replies. MayTrack self.old event.now → option_map_or (is_free_slot self.old) (slot_of replies.0) true ≡ true) }
+        ensures ok { IfOk result (λ replies. after self.old.now event.now (unwrap_or (slot_of replies.0) 0) ≡ (replies.0, self.new.now)) }
+        ensures free { IfOk result (λ replies. MayTrack self.old.now event.now → option_map_or (is_free_slot self.old.now) (slot_of replies.0) true ≡ true) }
         ensures twice { IfOk result (λ replies. replies.1 ≡ replies.0) }
         ensures err { OnErr result (self.new ≡ self.old) }
         ensures memory { takes_memory event.now ≡ false → IsOk result }
+        ensures base { self.new.base ≡ self.old.base }
     {
         let reply = self.answer(event)?;
         match reply.copy(self.alloc) {

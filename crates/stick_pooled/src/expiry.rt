@@ -59,7 +59,8 @@ impl StickTable {
     /// The moment of an event has come.
     pub(crate) fn advance(&mut self, now: u64)
         requires { now < 2 ^ 62 }
-        ensures { self.new ≡ advanced self.old now }
+        ensures now { self.new.now ≡ advanced self.old.now now }
+        ensures base { self.new.base ≡ self.old.base }
     {
         let clock = self.clock.max(now);
         drop_dead(&mut self.store, self.spec.expire, clock);
@@ -69,8 +70,9 @@ impl StickTable {
     /// The moment of an event has come, and it is counted.
     pub(crate) fn begin(&mut self, now: u64)
         requires moment { now < 2 ^ 62 }
-        requires life { self.old.events + length self.old.tickets < self.old.spec.life }
-        ensures { self.new ≡ begun self.old now }
+        requires life { self.old.now.events + length self.old.now.tickets < self.old.now.spec.life }
+        ensures now { self.new.now ≡ begun self.old.now now }
+        ensures base { self.new.base ≡ self.old.base }
     {
         self.advance(now);
         self.events += 1;
@@ -78,8 +80,9 @@ impl StickTable {
 
     pub(crate) fn expire(&mut self, now: u64) -> Reply
         requires moment { now < 2 ^ 62 }
-        requires life { self.old.events + length self.old.tickets < self.old.spec.life }
-        ensures { reply_to_expire self.old (begun self.old now) ≡ (result, self.new) }
+        requires life { self.old.now.events + length self.old.now.tickets < self.old.now.spec.life }
+        ensures now { reply_to_expire self.old.now (begun self.old.now now) ≡ (result, self.new.now) }
+        ensures base { self.new.base ≡ self.old.base }
     {
         let before = self.store.len();
         self.begin(now);

@@ -83,7 +83,7 @@ fn stays(store: &Store, expire: Option<u32>, clock: u64, slot: u32) -> bool
 }
 
 /// Whether a slot has an entry that is there when the clock has come to this moment.
-pub(crate) fn is_live(store: &Store, expire: Option<u32>, clock: u64, slot: u32) -> bool
+fn is_live(store: &Store, expire: Option<u32>, clock: u64, slot: u32) -> bool
     requires { clock < 2 ^ 62 }
     ensures { result ≡ option_map_or (is_kept clock expire) (held_at store.now slot) false }
 {

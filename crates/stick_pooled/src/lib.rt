@@ -16,6 +16,7 @@ mod plain_copy;
 mod references;
 mod room;
 mod rows;
+mod slot_images;
 mod spare_keys;
 mod ticket_book;
 mod tracked;
@@ -26,12 +27,13 @@ use base_sequence::NoMemory;
 use entry_store::Store;
 use std::alloc::Global;
 use std::marker::Model;
-use stick_model::{Event, Refusal, Reply, Spec};
+use stick_key::StickKey;
+use stick_model::{Event, Refusal, Reply, Spec, Ticket};
 use stick_table::{PlainTable, Table};
 use ticket_book::TicketBook;
 
 /// A table in which an event of one key costs the same whatever its size. `open` takes the memory of its whole size;
-/// after it only replies and keys take some.
+/// after it only replies, keys and `set_base` take some. What it was at its base is kept slot by slot, as slots change.
 #[derive(Drop)]
 pub struct StickTable {
     alloc: Global,
@@ -40,21 +42,26 @@ pub struct StickTable {
     events: u64,
     store: Store,
     book: TicketBook,
+    base_clock: u64,
+    base_events: u64,
+    base_tickets: Vec<(Ticket, StickKey)>,
 }
 
 impl Model for StickTable {
-    ghost use Rattle.stick_model.specs.State.{State};
-    ghost use Rattle.stick_pooled.specs.Table.{state_of, IsTable};
+    ghost use Rattle.stick_table.specs.TwoStates.{TwoStates};
+    ghost use Rattle.stick_pooled.specs.Table.{state_of, base_of, IsTable, IsBase};
 
-    ghost Value = { State };
+    ghost Value = { TwoStates };
 
-    ghost view = { λ t. state_of t.spec t.clock t.events t.store t.book };
+    ghost view = { λ t. record { now = state_of t.spec t.clock t.events t.store t.book; base = base_of t.spec t.base_clock t.base_events t.store.base t.base_tickets.items } };
 
-    ghost invariant = { λ t. IsTable t.spec t.clock t.events t.store t.book };
+    ghost invariant = { λ t. IsTable t.spec t.clock t.events t.store t.book × IsBase t.spec t.base_clock t.base_events t.store.base t.base_tickets.items };
 }
 
 impl Table for StickTable {
-    ghost state = { λ table. table };
+    ghost state = { λ table. table.now };
+
+    ghost base = { λ table. table.base };
 
     fn open(alloc: Global, spec: Spec) -> Result<Self, NoMemory> {
         let columns = spec.columns.copy()?;
@@ -67,6 +74,9 @@ impl Table for StickTable {
             events: 0,
             store,
             book,
+            base_clock: 0,
+            base_events: 0,
+            base_tickets: Vec::new(alloc),
         })
     }
 
@@ -100,6 +110,18 @@ impl Table for StickTable {
 
     fn purged(&self) -> u64 {
         self.store.purged()
+    }
+
+    fn set_base(&mut self) -> Result<(), NoMemory> {
+        self.make_base()
+    }
+
+    fn base_events(&self) -> u64 {
+        self.base_events
+    }
+
+    fn base_to_plain(&self) -> Result<PlainTable, NoMemory> {
+        self.copy_base()
     }
 
     fn to_plain(&self) -> Result<PlainTable, NoMemory> {

@@ -5,30 +5,37 @@ ghost use Rattle.std.specs.Option.{option_map_or};
 ghost use Rattle.stick_pooled.specs.Stock.{Held, IsStock, held_at};
 ghost use Rattle.stick_table.specs.Replies.{listed_reply};
 ghost use Rattle.stick_model.specs.Step.{begun, list as reply_to_list};
-ghost use Rattle.stick_pooled.specs.Shown.{moment_at};
+ghost use Rattle.stick_model.specs.declared.filters.Filter.TheVariants.{Key as OneKey};
+ghost use Rattle.stick_pooled.specs.Shown.{moment_at, IsRising};
 ghost use Rattle.stick_pooled.specs.Seen.{is_kept, listed_entries, listed_in, listed_row as row_listed};
 
 use crate::StickTable;
 use crate::entry_store::Store;
-use crate::filters::{is_listed, is_live, not_stored};
+use crate::expiry::is_alive;
+use crate::filters::{is_listed, live_slot, not_stored};
 use crate::rows::show_row;
 use base_sequence::{NoMemory, Sequence};
 use std::alloc::Global;
+use stick_key::StickKey;
 use stick_model::{Filter, Reply, Row, Rows, Spec};
 
-/// How many entries are there when the clock has come to this moment.
-fn count_live(store: &Store, size: u32, expire: Option<u32>, clock: u64) -> u32
+/// How many entries are there when the clock has come to this moment. Those that have reached their date are the first of
+/// the queue, so nothing is asked of the slots but of these.
+fn count_live(store: &Store, expire: Option<u32>, clock: u64) -> u32
     requires clock { clock < 2 ^ 62 }
-    requires size { size ≡ length store.now.slots }
+    requires rising { IsRising store.now store.now.queue }
     ensures { result ≡ count_by (λ (slot : Option Held). option_map_or (is_kept clock expire) slot false) store.now.slots }
 {
-    let mut count = 0;
-    for slot in 0..size {
-        if is_live(store, expire, clock, slot) {
-            count += 1;
+    let mut live = store.len();
+    let mut next = store.front();
+    while let Some(slot) = next {
+        if is_alive(expire, store.entry(slot).moment, clock) {
+            return live;
         }
+        live -= 1;
+        next = store.after(slot);
     }
-    count
+    live
 }
 
 /// The row of a slot's entry, where it has one that is there when the clock has come to this moment, and that a filter
@@ -52,20 +59,21 @@ fn listed_row(
     Ok(Some(row))
 }
 
-/// The rows of what is listed, in the order of the slots.
-fn gather_rows(
+/// The rows of what is listed, in the order of the slots, found by a walk over them all. So many rows have their place first.
+fn walk_rows(
     alloc: Global,
     spec: &Spec,
     store: &Store,
     clock: u64,
     choice: &Filter,
+    room: u32,
 ) -> Result<Vec<Row>, NoMemory>
     requires clock { clock < 2 ^ 62 }
     requires size { spec.now.size ≡ length store.now.slots }
     requires past { (slot : ℕ) → moment_at store.now slot ≤ clock }
     ensures { IfOk result (λ rows. rows.items ≡ listed_in spec.now.columns spec.now.expire clock choice.now store.now.slots) }
 {
-    let mut rows = Vec::new(alloc);
+    let mut rows = Vec::with_capacity(alloc, room as usize)?;
     for slot in 0..spec.size {
         if let Some(row) = listed_row(alloc, spec, store, clock, choice, slot)? {
             rows.push(row)?;
@@ -74,13 +82,60 @@ fn gather_rows(
     Ok(rows)
 }
 
-/// The rows of what is listed, in the order of the keys.
+/// The row of a key's entry, where it has one that is there when the clock has come to this moment.
+fn find_row(
+    alloc: Global,
+    spec: &Spec,
+    store: &Store,
+    clock: u64,
+    key: &StickKey,
+) -> Result<Vec<Row>, NoMemory>
+    requires clock { clock < 2 ^ 62 }
+    requires past { (slot : ℕ) → moment_at store.now slot ≤ clock }
+    requires stock { IsStock store.now }
+    ensures { IfOk result (λ rows. rows.items ≡ listed_in spec.now.columns spec.now.expire clock (OneKey key.now) store.now.slots) }
+{
+    let Some(at) = live_slot(store, spec.expire, clock, key) else {
+        return Ok(Vec::new(alloc));
+    };
+    let row = show_row(alloc, spec, store, clock, at)?;
+    let mut rows = Vec::with_capacity(alloc, 1)?;
+    rows.push(row)?;
+    Ok(rows)
+}
+
+/// The rows of what is listed, in the order of the slots, of which so many are used. Only a filter that may mean any entry
+/// costs a walk over the slots: a table is locked meanwhile.
+fn gather_rows(
+    alloc: Global,
+    spec: &Spec,
+    store: &Store,
+    clock: u64,
+    choice: &Filter,
+    used: u32,
+) -> Result<Vec<Row>, NoMemory>
+    requires clock { clock < 2 ^ 62 }
+    requires size { spec.now.size ≡ length store.now.slots }
+    requires past { (slot : ℕ) → moment_at store.now slot ≤ clock }
+    requires stock { IsStock store.now }
+    ensures { IfOk result (λ rows. rows.items ≡ listed_in spec.now.columns spec.now.expire clock choice.now store.now.slots) }
+{
+    match choice {
+        Filter::Everything => walk_rows(alloc, spec, store, clock, choice, used),
+        Filter::Nothing => Ok(Vec::new(alloc)),
+        Filter::Key(key) => find_row(alloc, spec, store, clock, key),
+        Filter::Compare(_, _, _) => walk_rows(alloc, spec, store, clock, choice, 0),
+    }
+}
+
+/// The rows of what is listed, in the order of the keys, of a table of which so many slots are used.
 fn list_rows(
     alloc: Global,
     spec: &Spec,
     store: &Store,
     clock: u64,
     choice: &Filter,
+    used: u32,
 ) -> Result<Rows, NoMemory>
     requires clock { clock < 2 ^ 62 }
     requires size { spec.now.size ≡ length store.now.slots }
@@ -88,7 +143,7 @@ fn list_rows(
     requires stock { IsStock store.now }
     ensures { IfOk result (λ rows. rows ≡ values_of (listed_entries spec.now.columns spec.now.expire clock choice.now store.now.slots)) }
 {
-    let mut rows = gather_rows(alloc, spec, store, clock, choice)?;
+    let mut rows = gather_rows(alloc, spec, store, clock, choice, used)?;
     rows.sort_unstable_by(|a: &Row, b: &Row| a.key.cmp(&b.key));
     Ok(Sequence::from_vec(rows))
 }
@@ -96,15 +151,15 @@ fn list_rows(
 impl StickTable {
     /// What a listing is answered, once the clock has come to this moment.
     fn list_reply(&self, clock: u64, choice: &Filter) -> Result<Reply, NoMemory>
-        requires past { self.now.clock ≤ clock }
+        requires past { self.now.now.clock ≤ clock }
         requires limit { clock < 2 ^ 62 }
-        ensures { IfOk result (λ reply. reply ≡ listed_reply self.now clock choice.now) }
+        ensures { IfOk result (λ reply. reply ≡ listed_reply self.now.now clock choice.now) }
     {
         match not_stored(&self.spec.columns, choice) {
             Some(field) => Ok(Reply::NotStored(field)),
             None => {
-                let used = count_live(&self.store, self.spec.size, self.spec.expire, clock);
-                let rows = list_rows(self.alloc, &self.spec, &self.store, clock, choice)?;
+                let used = count_live(&self.store, self.spec.expire, clock);
+                let rows = list_rows(self.alloc, &self.spec, &self.store, clock, choice, used)?;
                 Ok(Reply::Rows {
                     used: u64::from(used),
                     rows,
@@ -115,9 +170,10 @@ impl StickTable {
 
     pub(crate) fn list(&mut self, now: u64, choice: &Filter) -> Result<Reply, NoMemory>
         requires moment { now < 2 ^ 62 }
-        requires life { self.old.events + length self.old.tickets < self.old.spec.life }
-        ensures ok { IfOk result (λ reply. reply_to_list (begun self.old now) choice.now ≡ (reply, self.new)) }
+        requires life { self.old.now.events + length self.old.now.tickets < self.old.now.spec.life }
+        ensures ok { IfOk result (λ reply. reply_to_list (begun self.old.now now) choice.now ≡ (reply, self.new.now)) }
         ensures err { OnErr result (self.new ≡ self.old) }
+        ensures base { self.new.base ≡ self.old.base }
     {
         let clock = self.clock.max(now);
         let reply = self.list_reply(clock, choice)?;
@@ -131,10 +187,11 @@ impl StickTable {
         choice: &Filter,
     ) -> Result<(Reply, Reply), NoMemory>
         requires moment { now < 2 ^ 62 }
-        requires life { self.old.events + length self.old.tickets < self.old.spec.life }
-        ensures ok { IfOk result (λ replies. reply_to_list (begun self.old now) choice.now ≡ (replies.0, self.new)) }
+        requires life { self.old.now.events + length self.old.now.tickets < self.old.now.spec.life }
+        ensures ok { IfOk result (λ replies. reply_to_list (begun self.old.now now) choice.now ≡ (replies.0, self.new.now)) }
         ensures twice { IfOk result (λ replies. replies.1 ≡ replies.0) }
         ensures err { OnErr result (self.new ≡ self.old) }
+        ensures base { self.new.base ≡ self.old.base }
     {
         let clock = self.clock.max(now);
         let first = self.list_reply(clock, choice)?;

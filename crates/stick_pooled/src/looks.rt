@@ -15,9 +15,9 @@ impl StickTable {
     /// What a look at a key is answered, once the clock has come to this moment.
     #[inline(always)]
     fn row_reply(&self, clock: u64, key: &StickKey) -> Result<Reply, NoMemory>
-        requires past { self.now.clock ≤ clock }
+        requires past { self.now.now.clock ≤ clock }
         requires limit { clock < 2 ^ 62 }
-        ensures { IfOk result (λ reply. reply ≡ shown_reply self.now clock key.now) }
+        ensures { IfOk result (λ reply. reply ≡ shown_reply self.now.now clock key.now) }
     {
         let Some(at) = live_slot(&self.store, self.spec.expire, clock, key) else {
             return Ok(Reply::Absent);
@@ -29,9 +29,9 @@ impl StickTable {
     /// What a look at a ticket is answered, once the clock has come to this moment.
     #[inline(always)]
     fn look_reply(&self, clock: u64, ticket: Ticket) -> Result<Reply, NoMemory>
-        requires past { self.now.clock ≤ clock }
-        requires out { key_of ticket self.now.tickets ≢ None }
-        ensures { IfOk result (λ reply. reply ≡ looked_reply self.now clock ticket) }
+        requires past { self.now.now.clock ≤ clock }
+        requires out { key_of ticket self.now.now.tickets ≢ None }
+        ensures { IfOk result (λ reply. reply ≡ looked_reply self.now.now clock ticket) }
     {
         let slot = self.book.entry(ticket);
         let row = show_row(self.alloc, &self.spec, &self.store, clock, slot)?;
@@ -40,9 +40,10 @@ impl StickTable {
 
     pub(crate) fn get(&mut self, now: u64, key: &StickKey) -> Result<Reply, NoMemory>
         requires moment { now < 2 ^ 62 }
-        requires life { self.old.events + length self.old.tickets < self.old.spec.life }
-        ensures ok { IfOk result (λ reply. reply_to_get (begun self.old now) key.now ≡ (reply, self.new)) }
+        requires life { self.old.now.events + length self.old.now.tickets < self.old.now.spec.life }
+        ensures ok { IfOk result (λ reply. reply_to_get (begun self.old.now now) key.now ≡ (reply, self.new.now)) }
         ensures err { OnErr result (self.new ≡ self.old) }
+        ensures base { self.new.base ≡ self.old.base }
     {
         let clock = self.clock.max(now);
         let reply = self.row_reply(clock, key)?;
@@ -52,10 +53,11 @@ impl StickTable {
 
     pub(crate) fn look(&mut self, now: u64, ticket: Ticket) -> Result<Reply, NoMemory>
         requires moment { now < 2 ^ 62 }
-        requires out { key_of ticket self.old.tickets ≢ None }
-        requires life { self.old.events + length self.old.tickets < self.old.spec.life }
-        ensures ok { IfOk result (λ reply. reply_to_look (begun self.old now) ticket ≡ (reply, self.new)) }
+        requires out { key_of ticket self.old.now.tickets ≢ None }
+        requires life { self.old.now.events + length self.old.now.tickets < self.old.now.spec.life }
+        ensures ok { IfOk result (λ reply. reply_to_look (begun self.old.now now) ticket ≡ (reply, self.new.now)) }
         ensures err { OnErr result (self.new ≡ self.old) }
+        ensures base { self.new.base ≡ self.old.base }
     {
         let clock = self.clock.max(now);
         let reply = self.look_reply(clock, ticket)?;
@@ -65,10 +67,11 @@ impl StickTable {
 
     pub(crate) fn get_twice(&mut self, now: u64, key: &StickKey) -> Result<(Reply, Reply), NoMemory>
         requires moment { now < 2 ^ 62 }
-        requires life { self.old.events + length self.old.tickets < self.old.spec.life }
-        ensures ok { IfOk result (λ replies. reply_to_get (begun self.old now) key.now ≡ (replies.0, self.new)) }
+        requires life { self.old.now.events + length self.old.now.tickets < self.old.now.spec.life }
+        ensures ok { IfOk result (λ replies. reply_to_get (begun self.old.now now) key.now ≡ (replies.0, self.new.now)) }
         ensures twice { IfOk result (λ replies. replies.1 ≡ replies.0) }
         ensures err { OnErr result (self.new ≡ self.old) }
+        ensures base { self.new.base ≡ self.old.base }
     {
         let clock = self.clock.max(now);
         let first = self.row_reply(clock, key)?;
@@ -83,11 +86,12 @@ impl StickTable {
         ticket: Ticket,
     ) -> Result<(Reply, Reply), NoMemory>
         requires moment { now < 2 ^ 62 }
-        requires out { key_of ticket self.old.tickets ≢ None }
-        requires life { self.old.events + length self.old.tickets < self.old.spec.life }
-        ensures ok { IfOk result (λ replies. reply_to_look (begun self.old now) ticket ≡ (replies.0, self.new)) }
+        requires out { key_of ticket self.old.now.tickets ≢ None }
+        requires life { self.old.now.events + length self.old.now.tickets < self.old.now.spec.life }
+        ensures ok { IfOk result (λ replies. reply_to_look (begun self.old.now now) ticket ≡ (replies.0, self.new.now)) }
         ensures twice { IfOk result (λ replies. replies.1 ≡ replies.0) }
         ensures err { OnErr result (self.new ≡ self.old) }
+        ensures base { self.new.base ≡ self.old.base }
     {
         let clock = self.clock.max(now);
         let first = self.look_reply(clock, ticket)?;

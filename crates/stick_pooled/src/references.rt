@@ -29,8 +29,9 @@ fn let_go(store: &mut Store, slot: u32, event: u64, moment: u64)
 impl StickTable {
     pub(crate) fn count(&mut self, now: u64, ticket: Ticket, act: Act) -> Reply
         requires moment { now < 2 ^ 62 }
-        requires life { self.old.events + length self.old.tickets < self.old.spec.life }
-        ensures { reply_to_count (begun self.old now) ticket act ≡ (result, self.new) }
+        requires life { self.old.now.events + length self.old.now.tickets < self.old.now.spec.life }
+        ensures now { reply_to_count (begun self.old.now now) ticket act ≡ (result, self.new.now) }
+        ensures base { self.new.base ≡ self.old.base }
     {
         self.begin(now);
         let Some(slot) = self.book.find(ticket) else {
@@ -41,8 +42,9 @@ impl StickTable {
 
     pub(crate) fn release(&mut self, now: u64, ticket: Ticket) -> Reply
         requires moment { now < 2 ^ 62 }
-        requires out { key_of ticket self.old.tickets ≢ None }
-        ensures { reply_to_release (begun self.old now) ticket ≡ (result, self.new) }
+        requires out { key_of ticket self.old.now.tickets ≢ None }
+        ensures now { reply_to_release (begun self.old.now now) ticket ≡ (result, self.new.now) }
+        ensures base { self.new.base ≡ self.old.base }
     {
         self.advance(now);
         let Some(slot) = self.book.remove(ticket) else {

@@ -17,10 +17,10 @@ impl StickTable {
     /// The row of a reference that is out, to this key, in memory that was taken before.
     #[inline(always)]
     fn tracked_row(&self, ticket: Ticket, key: StickKey, cells: Vec<Cell>) -> Row
-        requires out { key_of ticket self.now.tickets ≡ Some key }
+        requires out { key_of ticket self.now.now.tickets ≡ Some key }
         requires empty { cells.items ≡ [] }
-        requires room { length (fields_of self.now.spec.columns) ≤ vec_capacity cells }
-        ensures { (found : Record) → record_at key self.now.records ≡ Some found → result ≡ row self.now key found }
+        requires room { length (fields_of self.now.now.spec.columns) ≤ vec_capacity cells }
+        ensures { (found : Record) → record_at key self.now.now.records ≡ Some found → result ≡ row self.now.now key found }
     {
         let slot = self.book.entry(ticket);
         fill_row(&self.spec, &self.store, self.clock, slot, key, cells)
@@ -29,10 +29,11 @@ impl StickTable {
     /// The memory comes first: from there on nothing can be refused, so that the row is that of the entry as it is then.
     pub(crate) fn track(&mut self, now: u64, key: &StickKey) -> Result<Reply, NoMemory>
         requires moment { now < 2 ^ 62 }
-        requires life { self.old.events + length self.old.tickets + 2 ≤ self.old.spec.life }
-        ensures ok { IfOk result (λ reply. reply_to_track (begun self.old now) key.now (unwrap_or (slot_of reply) 0) ≡ (reply, self.new)) }
-        ensures free { IfOk result (λ reply. option_map_or (is_free_slot self.old) (slot_of reply) true ≡ true) }
+        requires life { self.old.now.events + length self.old.now.tickets + 2 ≤ self.old.now.spec.life }
+        ensures ok { IfOk result (λ reply. reply_to_track (begun self.old.now now) key.now (unwrap_or (slot_of reply) 0) ≡ (reply, self.new.now)) }
+        ensures free { IfOk result (λ reply. option_map_or (is_free_slot self.old.now) (slot_of reply) true ≡ true) }
         ensures err { OnErr result (self.new ≡ self.old) }
+        ensures base { self.new.base ≡ self.old.base }
     {
         if self.book.len() >= self.spec.max_refs {
             self.begin(now);
@@ -57,11 +58,12 @@ impl StickTable {
         key: &StickKey,
     ) -> Result<(Reply, Reply), NoMemory>
         requires moment { now < 2 ^ 62 }
-        requires life { self.old.events + length self.old.tickets + 2 ≤ self.old.spec.life }
-        ensures ok { IfOk result (λ replies. reply_to_track (begun self.old now) key.now (unwrap_or (slot_of replies.0) 0) ≡ (replies.0, self.new)) }
-        ensures free { IfOk result (λ replies. option_map_or (is_free_slot self.old) (slot_of replies.0) true ≡ true) }
+        requires life { self.old.now.events + length self.old.now.tickets + 2 ≤ self.old.now.spec.life }
+        ensures ok { IfOk result (λ replies. reply_to_track (begun self.old.now now) key.now (unwrap_or (slot_of replies.0) 0) ≡ (replies.0, self.new.now)) }
+        ensures free { IfOk result (λ replies. option_map_or (is_free_slot self.old.now) (slot_of replies.0) true ≡ true) }
         ensures twice { IfOk result (λ replies. replies.1 ≡ replies.0) }
         ensures err { OnErr result (self.new ≡ self.old) }
+        ensures base { self.new.base ≡ self.old.base }
     {
         if self.book.len() >= self.spec.max_refs {
             self.begin(now);

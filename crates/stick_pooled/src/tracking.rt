@@ -41,11 +41,12 @@ impl StickTable {
         spare: Option<StickKey>,
     ) -> Option<Ticket>
         requires moment { now < 2 ^ 62 }
-        requires life { self.old.events + length self.old.tickets + 2 ≤ self.old.spec.life }
-        requires left { length self.old.tickets < self.old.spec.max_refs }
+        requires life { self.old.now.events + length self.old.now.tickets + 2 ≤ self.old.now.spec.life }
+        requires left { length self.old.now.tickets < self.old.now.spec.max_refs }
         requires spare { IsSpare key.now spare }
-        ensures entered { entered (begun self.old now) key.now (slot_made result) (connected (begun self.old now) key.now) ≡ (result, self.new) }
-        ensures free { IfSome result (λ ticket. is_free_slot self.old ticket.slot ≡ true) }
+        ensures entered { entered (begun self.old.now now) key.now (slot_made result) (connected (begun self.old.now now) key.now) ≡ (result, self.new.now) }
+        ensures free { IfSome result (λ ticket. is_free_slot self.old.now ticket.slot ≡ true) }
+        ensures base { self.new.base ≡ self.old.base }
     {
         self.advance(now);
         if let Some(ticket) = self.enter_there(key) {
@@ -57,12 +58,13 @@ impl StickTable {
     /// Makes a reference to the entry of a key, where it has one.
     #[inline(always)]
     fn enter_there(&mut self, key: &StickKey) -> Option<Ticket>
-        requires life { self.old.events + length self.old.tickets + 2 ≤ self.old.spec.life }
-        requires left { length self.old.tickets < self.old.spec.max_refs }
-        ensures entered { IfSome result (λ ticket. entered (with_event self.old) key.now ticket.slot (connected (with_event self.old) key.now) ≡ (Some ticket, self.new)) }
-        ensures free { IfSome result (λ ticket. is_free_slot self.old ticket.slot ≡ true) }
-        ensures absent { IfNone result (record_at key.now self.old.records ≡ None) }
+        requires life { self.old.now.events + length self.old.now.tickets + 2 ≤ self.old.now.spec.life }
+        requires left { length self.old.now.tickets < self.old.now.spec.max_refs }
+        ensures entered { IfSome result (λ ticket. entered (with_event self.old.now) key.now ticket.slot (connected (with_event self.old.now) key.now) ≡ (Some ticket, self.new.now)) }
+        ensures free { IfSome result (λ ticket. is_free_slot self.old.now ticket.slot ≡ true) }
+        ensures absent { IfNone result (record_at key.now self.old.now.records ≡ None) }
         ensures kept { IfNone result (self.new ≡ self.old) }
+        ensures base { self.new.base ≡ self.old.base }
     {
         let Some(handle) = self.store.find(key) else {
             return None;
@@ -77,11 +79,12 @@ impl StickTable {
     /// registers from the few steps of an entry that is there.
     #[inline(never)]
     fn enter_new(&mut self, key: StickKey) -> Option<Ticket>
-        requires life { self.old.events + length self.old.tickets + 2 ≤ self.old.spec.life }
-        requires left { length self.old.tickets < self.old.spec.max_refs }
-        requires absent { record_at key self.old.records ≡ None }
-        ensures entered { entered (with_event self.old) key (slot_made result) (connected (with_event self.old) key) ≡ (result, self.new) }
-        ensures free { IfSome result (λ ticket. is_free_slot self.old ticket.slot ≡ true) }
+        requires life { self.old.now.events + length self.old.now.tickets + 2 ≤ self.old.now.spec.life }
+        requires left { length self.old.now.tickets < self.old.now.spec.max_refs }
+        requires absent { record_at key self.old.now.records ≡ None }
+        ensures entered { entered (with_event self.old.now) key (slot_made result) (connected (with_event self.old.now) key) ≡ (result, self.new.now) }
+        ensures free { IfSome result (λ ticket. is_free_slot self.old.now ticket.slot ≡ true) }
+        ensures base { self.new.base ≡ self.old.base }
     {
         self.events += 1;
         if !make_room(&mut self.store, &self.spec) {

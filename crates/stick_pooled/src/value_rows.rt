@@ -37,8 +37,8 @@ impl Model for Rows {
     ghost invariant = { λ r. (r.width ≡ specified_width r.columns) × (length r.words.items ≡ r.count * r.width) };
 }
 
-// The words of a row.
-fn row_in(words: &[u64], at: usize, width: usize) -> &[u64]
+/// The words of a row.
+pub(crate) fn row_in(words: &[u64], at: usize, width: usize) -> &[u64]
     requires { at * width + width ≤ length words.now }
     ensures row { result.now ≡ words_at words.now at width }
     ensures sized { length result.now ≡ width }
@@ -138,6 +138,30 @@ impl Rows {
         words::get(self.columns.columns(), row, field, now)
     }
 
+    /// How many words a row has.
+    pub fn width(&self) -> usize
+        ensures { result ≡ specified_width self.now.columns }
+    {
+        self.width
+    }
+
+    /// The words of a row.
+    pub fn row(&self, at: u32) -> &[u64]
+        requires { at < length self.now.rows }
+        ensures data { fields_in self.now.columns result.now ≡ row_at self.now at }
+        ensures sized { length result.now ≡ specified_width self.now.columns }
+    {
+        row_in(self.words.as_slice(), at as usize, self.width)
+    }
+
+    /// A copy of the data in the words of a row, where there is memory.
+    pub fn values_in(&self, row: &[u64]) -> Result<Values, NoMemory>
+        requires { length row.now ≡ specified_width self.now.columns }
+        ensures { IfOk result (λ values. values ≡ fields_in self.now.columns row.now) }
+    {
+        words::values(self.alloc, self.columns.columns(), row)
+    }
+
     /// Makes a row that of a new key: numbers are 0, and nothing is counted in a rate.
     pub fn clear(&mut self, at: u32)
         requires { at < length self.old.rows }
@@ -187,7 +211,6 @@ impl Rows {
         requires { at < length self.now.rows }
         ensures { IfOk result (λ values. values ≡ row_at self.now at) }
     {
-        let row = row_in(self.words.as_slice(), at as usize, self.width);
-        words::values(self.alloc, self.columns.columns(), row)
+        self.values_in(self.row(at))
     }
 }

@@ -3,6 +3,7 @@
 //! The plain one goes over all its records at each event. The types and the definitions are those of `stick_model`.
 #![tactic(auto)]
 
+mod contents;
 mod plain;
 mod redoing;
 mod running;

@@ -20,10 +20,11 @@ pub fn redo_all(
     calls: &[Stored],
 ) -> Result<Sequence<Reply>, Refusal>
     requires events { All (λ (call : Stored). IsTableEvent call.event) calls.now }
-    requires slots { CanRedoAll table.old calls.now }
-    ensures ok { IfOk result (λ replies. redone_all table.old calls.now ≡ (replies, table.new)) }
-    ensures err { IfErr result (λ refusal. RedoStops table.old calls.now refusal table.new) }
-    ensures memory { (replies : List Reply) (new : State) → LastingRun table.old calls.now replies new → IfErr result (λ refusal. refusal ≡ Refusal.Memory) }
+    requires slots { CanRedoAll table.old.now calls.now }
+    ensures ok { IfOk result (λ replies. redone_all table.old.now calls.now ≡ (replies, table.new.now)) }
+    ensures err { IfErr result (λ refusal. RedoStops table.old.now calls.now refusal table.new.now) }
+    ensures base { table.new.base ≡ table.old.base }
+    ensures memory { (replies : List Reply) (new : State) → LastingRun table.old.now calls.now replies new → IfErr result (λ refusal. refusal ≡ Refusal.Memory) }
 {
     let mut replies = Vec::new(alloc);
     match replies.reserve(calls.len()) {

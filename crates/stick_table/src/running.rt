@@ -1,6 +1,6 @@
 //! A list of events on any table; only tests call it.
 
-ghost use Rattle.std.specs.Prelude.{All, IfOk, IfErr};
+ghost use Rattle.std.specs.Prelude.{◌≡◌, All, IfOk, IfErr};
 ghost use Rattle.stick_model.specs.Run.{Run, RunStops};
 ghost use Rattle.stick_model.specs.Limits.{IsTableEvent};
 
@@ -19,6 +19,7 @@ pub fn run<T: Table>(
     requires { All IsTableEvent events.now }
     ensures ok { IfOk result (λ replies. Run (T.state table.old) events.now replies (T.state table.new)) }
     ensures err { IfErr result (λ refusal. RunStops (T.state table.old) events.now refusal (T.state table.new)) }
+    ensures base { T.base table.new ≡ T.base table.old }
 {
     let mut replies = Vec::new(alloc);
     match replies.reserve(events.len()) {

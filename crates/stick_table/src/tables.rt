@@ -16,10 +16,14 @@ pub trait Table: Drop {
     /// What it is, however it is kept.
     ghost state: { Self → State };
 
+    /// What it was when `set_base` was called last, or else when it was opened.
+    ghost base: { Self → State };
+
     /// An empty table, whose clock is at 0 and which has counted no event.
     fn open(alloc: Global, spec: Spec) -> Result<Self, NoMemory>
         requires { IsTableSpec spec }
-        ensures empty { IfOk result (λ table. state table ≡ empty_table spec) };
+        ensures empty { IfOk result (λ table. state table ≡ empty_table spec) }
+        ensures base { IfOk result (λ table. base table ≡ empty_table spec) };
 
     /// What it was made with.
     fn spec(&self) -> &Spec
@@ -35,7 +39,8 @@ pub trait Table: Drop {
         ensures ok { IfOk result (λ reply. Step (state self.old) event.now reply (state self.new)) }
         ensures lives { OnOk result (has_life (state self.old) event.now ≡ true) }
         ensures refused { IfErr result (IsRefused (state self.old) event.now) }
-        ensures err { OnErr result (state self.new ≡ state self.old) };
+        ensures err { OnErr result (state self.new ≡ state self.old) }
+        ensures base { base self.new ≡ base self.old };
 
     /// One event, its reply given twice, as for a caller and for a record. Memory for both is taken before anything
     /// changes; it is refused as `step` is, and no more often needs memory for it: a reply that shows no row takes none.
@@ -45,7 +50,8 @@ pub trait Table: Drop {
         ensures twice { IfOk result (λ replies. replies.1 ≡ replies.0) }
         ensures lives { OnOk result (has_life (state self.old) event.now ≡ true) }
         ensures refused { IfErr result (IsRefused (state self.old) event.now) }
-        ensures err { OnErr result (state self.new ≡ state self.old) };
+        ensures err { OnErr result (state self.new ≡ state self.old) }
+        ensures base { base self.new ≡ base self.old };
 
     /// How many references are out.
     fn references(&self) -> u32
@@ -54,7 +60,21 @@ pub trait Table: Drop {
     /// How many entries went to make room for others since it was opened, modulo 2^64. No clause says it, as its state doesn't tell.
     fn purged(&self) -> u64;
 
+    /// Makes what it is now its base. Where a growth is refused, nothing changes.
+    fn set_base(&mut self) -> Result<(), NoMemory>
+        ensures stays { state self.new ≡ state self.old }
+        ensures ok { OnOk result (base self.new ≡ state self.old) }
+        ensures err { OnErr result (base self.new ≡ base self.old) };
+
+    /// How many events it had counted at its base.
+    fn base_events(&self) -> u64
+        ensures { result ≡ (base self.now).events };
+
+    /// A plain table in the state of its base.
+    fn base_to_plain(&self) -> Result<PlainTable, NoMemory>
+        ensures { IfOk result (λ table. table.now ≡ base self.now) };
+
     /// A plain table in the same state.
     fn to_plain(&self) -> Result<PlainTable, NoMemory>
-        ensures { IfOk result (λ table. table ≡ state self.now) };
+        ensures { IfOk result (λ table. table.now ≡ state self.now) };
 }

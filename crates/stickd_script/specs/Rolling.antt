@@ -22,7 +22,7 @@ rolled_when_due table = if is_due table then rolled_books table else table
 abbrev pub rolled_named : Named BooksState → Named BooksState
 rolled_named named = record named { keeper = rolled_when_due named.keeper }
 
--- a table that was due, where the copy of a book was refused
+-- a table that was due, where the roll of a book was refused
 abbrev pub RefusesRoll : BooksState → BooksState → Type 0
 RefusesRoll old new = (is_due old ≡ true) × RollsInPart old new
 
@@ -44,7 +44,7 @@ pub record RecordsRoll (said new : ScriptState) : Type 0 where
 
 -- ---- when they are looked at
 
--- so many lines are served before the records are looked at again: 64, and 65,536 where the copy of a book was refused
+-- so many lines are served before the records are looked at again: 64, and 65,536 where the roll of a book was refused
 abbrev pub lines_between : Bool → ℕ
 lines_between false = 64
 lines_between true = 65536

@@ -18,15 +18,15 @@ fn roll_mark(size: u32) -> u64
     u64::from(size.max(FEWEST_CALLS))
 }
 
-/// How many lines are served before the records are looked at again. A look goes over all shards; a roll copies the
-/// table, and one that was refused would be tried, and refused, at each look.
+/// How many lines are served before the records are looked at again. A look goes over all shards; and a roll that was
+/// refused for want of memory would be tried, and refused, at each look.
 pub(crate) fn lines_between(refused: bool) -> u32
     ensures { result ≡ specified_lines refused }
 {
     if refused { 65_536 } else { 64 }
 }
 
-/// Rolls the books of a table, if it is due. Where a copy is refused, what isn't rolled stays as it was.
+/// Rolls the books of a table, if it is due. Where a book is refused, what isn't rolled stays as it was.
 fn roll_table<T: Table>(named: &mut Named<Books<T>>) -> Result<(), NoMemory>
     ensures ok { OnOk result (named.new ≡ rolled_named named.old) }
     ensures name { OnErr result (named.new.name ≡ named.old.name) }
@@ -41,7 +41,7 @@ fn roll_table<T: Table>(named: &mut Named<Books<T>>) -> Result<(), NoMemory>
     }
 }
 
-/// Rolls the books of each table that is due, in order of declaration, up to the first of which a copy is refused.
+/// Rolls the books of each table that is due, in order of declaration, up to the first of which a book is refused.
 pub(crate) fn roll_tables<T: Table>(tables: &mut Vec<Named<Books<T>>>) -> Result<(), NoMemory>
     ensures ok { OnOk result (tables.new.items ≡ map rolled_named tables.old.items) }
     ensures rolls { TablesRoll (table_states tables.old.items) (table_states tables.new.items) }

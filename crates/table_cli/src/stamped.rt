@@ -45,9 +45,9 @@ fn beside(
 /// The rows of a table at a moment, beside their stamps, in the order of their keys.
 fn rows_of(alloc: Global, table: &mut PlainTable, moment: u64) -> Result<Vec<Stamped>, Refusal>
     requires { moment < 2 ^ 62 }
-    ensures ok { IfOk result (λ rows. rows.items ≡ map (spec.stamped (advance table.old moment)) (advance table.old moment).records) }
-    ensures lives { OnOk result (has_life table.old (ListRows moment Everything) ≡ true) }
-    ensures err { IfErr result (IsRefused table.old (ListRows moment Everything)) }
+    ensures ok { IfOk result (λ rows. rows.items ≡ map (spec.stamped (advance table.old.now moment)) (advance table.old.now moment).records) }
+    ensures lives { OnOk result (has_life table.old.now (ListRows moment Everything) ≡ true) }
+    ensures err { IfErr result (IsRefused table.old.now (ListRows moment Everything)) }
 {
     let reply = table.step(&Event::List(moment, Filter::Everything))?;
     let Reply::Rows { used: _, rows } = reply else {
@@ -66,8 +66,8 @@ pub(crate) fn oldest_first(
     moment: u64,
 ) -> Result<Vec<Stamped>, Refusal>
     requires { moment < 2 ^ 62 }
-    ensures ok { IfOk result (λ rows. IsOldestFirst moment table.old rows.items) }
-    ensures err { IfErr result (IsRefused table.old (ListRows moment Everything)) }
+    ensures ok { IfOk result (λ rows. IsOldestFirst moment table.old.now rows.items) }
+    ensures err { IfErr result (IsRefused table.old.now (ListRows moment Everything)) }
 {
     let mut rows = match rows_of(alloc, table, moment) {
         Ok(rows) => rows,

@@ -104,7 +104,7 @@ fn tells<A: Asked>(
 
 /// Whether a book has recorded so many events, and each of them since it was made.
 fn has_recorded_all(book: &Book<PlainTable>, events: u64) -> bool {
-    is_base_new(book) && live_events(book) == events && recorded(book) as u64 == events
+    is_base_new(book) == Ok(true) && live_events(book) == events && recorded(book) as u64 == events
 }
 
 /// An empty plain table, and an empty book of one.

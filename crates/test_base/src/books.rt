@@ -79,7 +79,9 @@ fn is_released(
 
 /// Whether a book's base has counted so many events and holds so many references, and its record has so many calls.
 fn is_recorded(book: &Book<PlainTable>, events: u64, references: usize, calls: usize) -> bool {
-    base_events(book) == events && base_references(book) == references && recorded(book) == calls
+    base_events(book) == events
+        && base_references(book) == Ok(references)
+        && recorded(book) == calls
 }
 
 /// Two references that are made, where they are recorded.

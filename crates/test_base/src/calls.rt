@@ -49,7 +49,7 @@ pub fn step_twice<T: Table>(table: &mut T, event: &Event) -> Answers
 
 /// A plain copy of a table.
 pub fn copied<T: Table>(table: &T) -> Result<PlainTable, NoMemory>
-    ensures { IfOk result (λ copy. copy ≡ T.state table.now) }
+    ensures { IfOk result (λ copy. copy.now ≡ T.state table.now) }
 {
     table.to_plain()
 }
@@ -69,7 +69,7 @@ pub fn step_stored<T: Table>(table: &mut T, event: Event) -> Result<(Stored, Rep
 /// What a plain table answers a call that is made again.
 fn redo(table: &mut PlainTable, stored: &Stored) -> Answer
     requires event { IsTableEvent stored.now.event }
-    requires slot { CanRedo table.old stored.now }
+    requires slot { CanRedo table.old.now stored.now }
 {
     table.redo(stored)
 }
@@ -107,7 +107,7 @@ pub fn redo_run(
     calls: &[Stored],
 ) -> Result<Sequence<Reply>, Refusal>
     requires events { All (λ (call : ItsStored). IsTableEvent call.event) calls.now }
-    requires slots { CanRedoAll table.old calls.now }
+    requires slots { CanRedoAll table.old.now calls.now }
 {
     redo_all(alloc, table, calls)
 }
@@ -138,10 +138,7 @@ pub fn call_twice(book: &mut Book<PlainTable>, event: Event) -> Answers
 
 /// The record of a book begins again at its live state.
 pub fn roll(book: &mut Book<PlainTable>) -> Result<(), NoMemory> {
-    match book.roll() {
-        Ok(_base) => Ok(()),
-        Err(error) => Err(error),
-    }
+    book.roll()
 }
 
 /// Whether a book has counted so many events.
@@ -155,18 +152,18 @@ pub fn live_events(book: &Book<PlainTable>) -> u64 {
 }
 
 /// Whether the base of a book is an empty table.
-pub fn is_base_new(book: &Book<PlainTable>) -> bool {
-    book.base().is_new()
+pub fn is_base_new(book: &Book<PlainTable>) -> Result<bool, NoMemory> {
+    Ok(book.base()?.is_new())
 }
 
 /// How many events the base of a book has counted.
 pub fn base_events(book: &Book<PlainTable>) -> u64 {
-    book.base().events()
+    book.live().base_events()
 }
 
 /// How many references are out at the base of a book.
-pub fn base_references(book: &Book<PlainTable>) -> usize {
-    book.base().tickets().len()
+pub fn base_references(book: &Book<PlainTable>) -> Result<usize, NoMemory> {
+    Ok(book.base()?.tickets().len())
 }
 
 /// How many calls a book has recorded since its base.

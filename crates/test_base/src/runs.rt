@@ -60,7 +60,7 @@ fn a_run_of_events_is_answered(rt: HostRuntime) -> Result<(), Fail> {
 
 /// The call that asks what a row asks, made on a table, and its reply.
 fn told_call(alloc: Global, table: &mut PlainTable, row: Told) -> Result<(Stored, Reply), Refusal>
-    ensures step { IfOk result (λ told. Step table.old told.0.event told.1 table.new) }
+    ensures step { IfOk result (λ told. Step table.old.now told.0.event told.1 table.new.now) }
     ensures slot { IfOk result (λ told. told.0.slot ≡ slot_of told.1) }
     ensures event { IfOk result (λ told. IsTableEvent told.0.event) }
 {
@@ -76,7 +76,7 @@ fn told_calls(
     base: &PlainTable,
     rows: &[Told],
 ) -> Result<(Vec<Stored>, Vec<Reply>), Refusal>
-    ensures run { IfOk result (λ told. (new : State) × StoredRun base.now told.0.items told.1.items new) }
+    ensures run { IfOk result (λ told. (new : State) × StoredRun base.now.now told.0.items told.1.items new) }
     ensures events { IfOk result (λ told. All (λ (call : ItsStored). IsTableEvent call.event) told.0.items) }
 {
     let mut table = copied(base)?;
@@ -113,7 +113,7 @@ fn are_told_again(
     rows: &[Told],
 ) -> Result<bool, Refusal>
     requires events { All (λ (call : ItsStored). IsTableEvent call.event) calls.now }
-    requires slots { CanRedoAll base.old calls.now }
+    requires slots { CanRedoAll base.old.now calls.now }
 {
     let redone = redo_run(alloc, base, calls)?;
     Ok(are_told(redone.as_slice(), rows))

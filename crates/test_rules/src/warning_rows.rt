@@ -163,7 +163,7 @@ pub(crate) const ROWS: [Row; 24] = [
         connections: 4,
         shards: 1,
         text: "stick-table type ip size 102401\n",
-        said: "A shard of table t has 102401 places, and may be locked for long as its record begins again. Give --shards 2 or more: then none has more than 102400.\n",
+        said: "A shard of table t has 102401 places, and may be locked for long by a listing. Give --shards 2 or more: then none has more than 102400.\n",
     },
     Row {
         connections: 4,
@@ -175,6 +175,6 @@ pub(crate) const ROWS: [Row; 24] = [
         connections: 4,
         shards: 64,
         text: "stick-table type ip size 6553601\n",
-        said: "A shard of table t has 102401 places, and may be locked for long as its record begins again. Give --shards 64, and a size of 6400k or less: then none has more than 102400.\n",
+        said: "A shard of table t has 102401 places, and may be locked for long by a listing. Give --shards 64, and a size of 6400k or less: then none has more than 102400.\n",
     },
 ];

@@ -28,14 +28,22 @@ pub fn events_of(book: &Book<PlainTable>) -> u64 {
 }
 
 /// What a book holds.
-fn sums_of(book: &Book<PlainTable>) -> Sums {
-    let base = book.base();
-    Sums {
+fn sums_of(book: &Book<PlainTable>) -> Result<Sums, NoMemory> {
+    let base = book.base()?;
+    Ok(Sums {
         sizes: (book.live().spec().size, base.spec().size),
         events: (book.events(), base.events()),
         calls: book.calls().len(),
         references: base.tickets().len(),
         is_new: base.is_new(),
+    })
+}
+
+/// Whether a book holds that.
+fn is_held(book: &Book<PlainTable>, wanted: Sums) -> bool {
+    match sums_of(book) {
+        Ok(sums) => sums == wanted,
+        Err(_) => false,
     }
 }
 
@@ -45,7 +53,7 @@ fn hold(books: &[Book<PlainTable>], wanted: &[Sums]) -> bool {
         return false;
     }
     for index in 0..books.len() {
-        if sums_of(&books[index]) != wanted[index] {
+        if !is_held(&books[index], wanted[index]) {
             return false;
         }
     }
@@ -73,7 +81,7 @@ pub fn holds<J: Naming>(desk: Desk<J>, wanted: &[Sums]) -> bool {
 
 /// What is listed of the base of a book.
 fn listed(book: &Book<PlainTable>) -> Result<Reply, Refusal> {
-    let mut base = book.base().to_plain()?;
+    let mut base = book.base()?;
     base.step(&Event::List(0, Filter::Everything))
 }
 
@@ -83,7 +91,7 @@ fn lists(books: &[Book<PlainTable>], wanted: Sums, entries: u64) -> bool {
         return false;
     };
     match listed(book) {
-        Ok(reply) => said_of(reply) == Said::Listed(entries) && sums_of(book) == wanted,
+        Ok(reply) => said_of(reply) == Said::Listed(entries) && is_held(book, wanted),
         Err(_) => false,
     }
 }

@@ -23,7 +23,7 @@ fn stored_calls(alloc: Global, calls: &[Recorded]) -> Result<Vec<Stored>, NoMemo
 /// The replies to the calls of a book's record, made again on a plain copy of its base.
 pub fn replies_of(alloc: Global, book: &Book<PlainTable>) -> Result<Sequence<Reply>, Refusal> {
     let calls = stored_calls(alloc, book.calls())?;
-    let mut base = book.base().to_plain()?;
+    let mut base = book.base()?;
     redo_all(alloc, &mut base, &calls)
 }
 

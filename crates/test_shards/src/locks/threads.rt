@@ -111,10 +111,11 @@ fn agrees<J: Naming>(
 {
     let (first, second) = noted;
     let replies = replies_of(alloc, book)?;
+    let base = book.base()?;
     Ok(
         is_agreed(book, &replies, shard, first)
             && is_agreed(book, &replies, shard, second)
-            && book.base().is_new()
+            && base.is_new()
             && events_of(book) == both_calls(noted, shard),
     )
 }

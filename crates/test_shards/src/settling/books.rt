@@ -66,7 +66,7 @@ fn lists_put(book: &Book<PlainTable>) -> bool {
 
 /// Whether a book has so many events in its base, and since then one call, of the first seat.
 fn is_recorded(book: &Book<PlainTable>, events: u64) -> bool {
-    book.base().events() == events && matches!(book.calls(), [call] if call.seat() == 0)
+    book.live().base_events() == events && matches!(book.calls(), [call] if call.seat() == 0)
 }
 
 /// Whether the books are those of an entry that was put, of a roll of the first book, and of a listing then.

@@ -52,7 +52,8 @@ pub fn is_counted<J: Naming>(
 
 /// The replies to a book's record, made again from the empty table.
 fn replies_of(alloc: Global, book: &Book<PlainTable>) -> Option<Vec<Reply>> {
-    if book.base().is_new() {
+    let base = book.base().ok()?;
+    if base.is_new() {
         replay(alloc, book).ok()
     } else {
         None

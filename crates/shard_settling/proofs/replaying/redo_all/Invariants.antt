@@ -7,6 +7,6 @@ use Rattle.shard_settling.proofs.replaying.redo_all.Given as goal
 abbrev pub invariant-loop-call : goal.invariant-loop-call
 invariant-loop-call g l = record {
   calls : l.calls ≡ l.book.calls;
-  done : StoredRun l.book.base (stored_of (take l.call-index l.calls)) l.replies.items l.table;
-  rest : LeadsOn l.table (drop l.call-index l.calls) l.book.live;
+  done : StoredRun l.book.base (stored_of (take l.call-index l.calls)) l.replies.items l.table.now;
+  rest : LeadsOn l.table.now (drop l.call-index l.calls) l.book.live;
 }

@@ -4,6 +4,7 @@ use Rattle.stick_model.specs.Run.{StoredRun}
 use Rattle.stick_model.specs.declared.replies.Reply.{Reply}
 use Rattle.shard_book.specs.declared.recorded.Recorded.{Recorded}
 use Rattle.shard_book.specs.BookState.{BookState, stored_of}
+use Rattle.shard_book.proofs.BookLemmas.{live_spec}
 use Rattle.shard_settling.proofs.ReplayLemmas.{LeadsOn, leads-begin, leads-more, made-more}
 use Rattle.shard_settling.proofs.replaying.step_all.Goals as goal
 
@@ -11,8 +12,8 @@ pub loop-call-init : goal.loop-call-init
 loop-call-init g c =
     let book : BookState = c.args.book.now in
     let table : State = g.T.Table.state c.in_ok-table.table in
-    let spec : c.in_ok-copy.field-0 ≡ book.base.spec = c.in_ok-copy.ensures ∙ c.spec.ensures.spec ∙ ap (λ (s : State). s.spec) c.base.ensures.base in
-    let begins = leads-begin book table c.base.ensures.book c.requires (c.in_ok-table.ensures.empty ∙ ap empty_table spec) in
+    let spec : c.in_ok-copy.field-0 ≡ book.base.spec = c.in_ok-copy.ensures ∙ c.spec.ensures.spec ∙ ap (λ (s : State). s.spec) c.live.ensures.live ∙ live_spec book c.live.ensures.book in
+    let begins = leads-begin book table c.live.ensures.book c.requires (c.in_ok-table.ensures.empty ∙ ap empty_table spec) in
     record {
       calls = c.calls-calls.ensures.calls;
       done = subst (λ (rs : List Reply). StoredRun book.base [] rs table) (sym c.new-replies.ensures.items) begins.0;

@@ -6,5 +6,5 @@ use Rattle.stick_pooled.proofs.StickTable.change_twice.Goals as goal
 
 pub unreachable-requires : goal.unreachable-requires
 unreachable-requires c =
-    let none : shows_rows c.in_ok-reply.reply ≡ false = sym (ap (λ (o : Outcome). shows_rows o.0) c.in_ok-reply.ensures.ok) ∙ rows_told c.args.self.now c.args.event.now (unwrap_or (slot_of c.in_ok-reply.reply) 0) c.requires.rows in
+    let none : shows_rows c.in_ok-reply.reply ≡ false = sym (ap (λ (o : Outcome). shows_rows o.0) c.in_ok-reply.ensures.ok) ∙ rows_told c.args.self.now.now c.args.event.now (unwrap_or (slot_of c.in_ok-reply.reply) 0) c.requires.rows in
     false≢true (c.in-Err.ensures.memory none)

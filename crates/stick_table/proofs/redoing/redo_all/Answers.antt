@@ -31,19 +31,19 @@ refused-next old calls i call replies middle next refusal below is so_far refuse
 
 pub returns-in_err-reply-clause-err : goal.returns-in_err-reply-clause-err
 returns-in_err-reply-clause-err c =
-    let stops = refused-next c.args.table.now c.args.calls.now c.loop-call.call-index c.call-item.result c.loop-call.replies.items c.loop-call.table c.redo.new.self c.in_err-reply.field-0.0
+    let stops = refused-next c.args.table.now.now c.args.calls.now c.loop-call.call-index c.call-item.result c.loop-call.replies.items c.loop-call.table.now c.redo.new.self.now c.in_err-reply.field-0.0
     c.loop-call-test.true c.call-item.is c.loop-call.invariant.done c.in_err-reply.ensures.refused c.in_err-reply.ensures.err in
     search rules
 
 pub loop-call-preserved : goal.loop-call-preserved
 loop-call-preserved c =
-    let old : State = c.args.table.now in
+    let old : State = c.args.table.now.now in
     let calls : List Stored = c.args.calls.now in
     let i : ℕ = c.loop-call.call-index in
     let call : Stored = c.call-item.result in
-    let middle : State = c.loop-call.table in
+    let middle : State = c.loop-call.table.now in
     let reply : Reply = c.in_ok-reply.reply in
-    let next : State = c.redo.new.self in
+    let next : State = c.redo.new.self.now in
     let one : redone middle call ≡ (reply, next) = c.in_ok-reply.ensures.redone in
     let rest : drop i calls ≡ call ∷ drop (i + 1) calls = left calls i call c.loop-call-test.true c.call-item.is in
     record {
@@ -53,6 +53,7 @@ loop-call-preserved c =
       lasts = λ replies end run.
           let lasting = c.loop-call.invariant.lasts replies end run in
           lasting-rest middle call (drop (i + 1) calls) lasting.0 end reply next (subst (λ (cs : List Stored). LastingRun middle cs lasting.0 end) rest lasting.1) one;
+      base = c.redo.ensures.base ∙ c.loop-call.invariant.base;
       used = omega (arith, c.push_reserved.ensures.len, c.loop-call.invariant.used);
       room = omega (arith, c.push_reserved.ensures.capacity, c.loop-call.invariant.room);
     }

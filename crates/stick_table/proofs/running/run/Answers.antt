@@ -43,6 +43,7 @@ loop-event-preserved g c =
       run = subst (λ (rs : List Reply). Run (state c.args.table.now) (take (c.loop-event.event-index + 1) c.args.events.now) rs (state c.step.new.self)) (sym c.push_reserved.ensures.items)
           (answered-more (state c.args.table.now) c.args.events.now c.loop-event.event-index c.event-item.result c.loop-event.replies.items (state c.loop-event.table) c.in_ok-reply.reply (state c.step.new.self)
           c.loop-event-test.true c.event-item.is c.loop-event.invariant.run c.in_ok-reply.ensures.ok);
+      base = c.step.ensures.base ∙ c.loop-event.invariant.base;
       used = omega (arith, c.push_reserved.ensures.len, c.loop-event.invariant.used);
       room = omega (arith, c.push_reserved.ensures.capacity, c.loop-event.invariant.room);
     }

@@ -6,4 +6,4 @@ use Rattle.test_base.proofs.runs.told_calls.Given as goal
 
 -- the calls so far are those of a run from the base to the table
 abbrev pub invariant-loop-row : goal.invariant-loop-row
-invariant-loop-row l = StoredRun l.base l.calls.items l.replies.items l.table × All (λ (call : Stored). IsTableEvent call.event) l.calls.items
+invariant-loop-row l = StoredRun l.base.now l.calls.items l.replies.items l.table.now × All (λ (call : Stored). IsTableEvent call.event) l.calls.items

@@ -17,7 +17,7 @@ invariant_of-self-2 g c =
     let live : State = g.T.Table.state c.self.inside.live in
     let next : State = g.T.Table.state c.answer.new.live in
     let place : vec_len c.answer.new.calls + c.self.inside.out + life_taken c.args.event.now ≤ vec_capacity c.answer.new.calls = c.in_ok-reply.ensures.place in (
-      recorded_more c.self.inside.base live c.self.inside.calls.items c.answer.new.calls.items c.push_reserved.new.self.items c.record_of.result c.args.seat c.args.event.now reply next c.push_reserved.ensures.items c.answer.ensures.items (recorded_so c.in-Ok.call c.record_of.result c.args.seat c.args.event.now c.in_ok-reply.reply c.in-Ok.ensures.call c.record_of.ensures) c.self.invariant.0 c.requires c.in_ok-reply.ensures.lives c.in_ok-reply.ensures.ok,
+      recorded_more (g.T.Table.base c.self.inside.live) (g.T.Table.base c.answer.new.live) live c.self.inside.calls.items c.answer.new.calls.items c.push_reserved.new.self.items c.record_of.result c.args.seat c.args.event.now reply next c.answer.ensures.base c.push_reserved.ensures.items c.answer.ensures.items (recorded_so c.in-Ok.call c.record_of.result c.args.seat c.args.event.now c.in_ok-reply.reply c.in-Ok.ensures.call c.record_of.ensures) c.self.invariant.0 c.requires c.in_ok-reply.ensures.lives c.in_ok-reply.ensures.ok,
       places-recorded live c.args.event.now reply next (vec_len c.answer.new.calls) (vec_capacity c.answer.new.calls) c.self.inside.out (vec_len c.push_reserved.new.self) (vec_capacity c.push_reserved.new.self) c.out_after-self-inside.result c.self.invariant.0.live_legal c.in_ok-reply.ensures.ok c.self.invariant.1.counted place c.push_reserved.ensures.len c.push_reserved.ensures.capacity c.out_after-self-inside.ensures,
     )
 
@@ -25,7 +25,7 @@ pub returns-clause-book : goal.returns-clause-book
 returns-clause-book g c =
     let live : State = g.T.Table.state c.self.inside.live in
     let next : State = g.T.Table.state c.answer.new.live in
-    recorded_more c.self.inside.base live c.self.inside.calls.items c.answer.new.calls.items c.push_reserved.new.self.items c.record_of.result c.args.seat c.args.event.now c.in_ok-reply.reply next c.push_reserved.ensures.items c.answer.ensures.items (recorded_so c.in-Ok.call c.record_of.result c.args.seat c.args.event.now c.in_ok-reply.reply c.in-Ok.ensures.call c.record_of.ensures) c.self.invariant.0 c.requires c.in_ok-reply.ensures.lives c.in_ok-reply.ensures.ok
+    recorded_more (g.T.Table.base c.self.inside.live) (g.T.Table.base c.answer.new.live) live c.self.inside.calls.items c.answer.new.calls.items c.push_reserved.new.self.items c.record_of.result c.args.seat c.args.event.now c.in_ok-reply.reply next c.answer.ensures.base c.push_reserved.ensures.items c.answer.ensures.items (recorded_so c.in-Ok.call c.record_of.result c.args.seat c.args.event.now c.in_ok-reply.reply c.in-Ok.ensures.call c.record_of.ensures) c.self.invariant.0 c.requires c.in_ok-reply.ensures.lives c.in_ok-reply.ensures.ok
 
 pub record_of-requires : goal.record_of-requires
 record_of-requires g c =

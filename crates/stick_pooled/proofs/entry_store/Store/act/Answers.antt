@@ -1,18 +1,39 @@
-use Rattle.std.proofs.Common.{List, ap, ◌∙◌}
-use Rattle.stored_data.specs.Acts.{acted, answer}
 use Rattle.stored_data.specs.declared.values.StoredValue.{StoredValue}
-use Rattle.stick_pooled.proofs.PartLemmas.{in_grid, values_are}
-use Rattle.stick_pooled.proofs.CallLemmas.{change_shown, change_kept}
+use Rattle.std.proofs.Common.{List, IsSome, sym, ap, subst, ◌∙◌}
+use Rattle.stick_pooled.specs.Stock.{held_at}
+use Rattle.stick_pooled.specs.Parts.{base_shown}
+use Rattle.stick_pooled.proofs.StockLemmas.{some_entry}
+use Rattle.stick_pooled.proofs.PartLemmas.{in_grid, indexed_some, handle_finds, values_are}
+use Rattle.stored_data.specs.Acts.{acted, answer}
+use Rattle.stick_pooled.proofs.KeepLemmas.{album_inside, album_room, change_shown_base, change_kept_base}
 use Rattle.stick_pooled.proofs.entry_store.Store.act.Goals as goal
 
+pub keep_image-requires-clause-inside : goal.keep_image-requires-clause-inside
+keep_image-requires-clause-inside c = album_inside c.self.inside.entries c.self.inside.index c.self.inside.order c.self.inside.rows c.self.inside.images c.self.invariant.0 c.self.invariant.1 c.args.self.now c.self.view_is c.args.slot c.requires
+
+pub keep_image-requires-clause-rowed : goal.keep_image-requires-clause-rowed
+keep_image-requires-clause-rowed c = in_grid c.self.inside.entries c.self.inside.index c.self.inside.order c.self.inside.rows c.self.invariant.0 (base_shown c.self.inside.entries c.self.inside.index c.self.inside.rows c.self.inside.images) c.args.self.now c.self.view_is c.args.slot c.requires
+
+pub keep_image-requires-clause-indexed : goal.keep_image-requires-clause-indexed
+keep_image-requires-clause-indexed c = indexed_some c.self.inside.entries c.self.inside.index c.self.inside.order c.self.inside.rows c.self.invariant.0 (base_shown c.self.inside.entries c.self.inside.index c.self.inside.rows c.self.inside.images) c.args.self.now c.self.view_is c.args.slot c.requires
+
+pub keep_image-requires-clause-pooled : goal.keep_image-requires-clause-pooled
+keep_image-requires-clause-pooled c handle named = subst IsSome (sym (handle_finds c.self.inside.entries c.self.inside.index c.self.inside.order c.self.inside.rows c.self.invariant.0 (base_shown c.self.inside.entries c.self.inside.index c.self.inside.rows c.self.inside.images) c.args.self.now c.self.view_is c.args.slot handle c.requires named)) (some_entry (held_at c.args.self.now c.args.slot) c.requires)
+
+pub keep_image-requires-clause-room : goal.keep_image-requires-clause-room
+keep_image-requires-clause-room c none = album_room c.self.inside.entries c.self.inside.index c.self.inside.order c.self.inside.rows c.self.inside.images c.self.invariant.0 c.self.invariant.1 c.args.self.now c.self.view_is c.args.slot c.requires none
+
+pub keep_image-requires-clause-wide : goal.keep_image-requires-clause-wide
+keep_image-requires-clause-wide c = c.self.invariant.1.1.wide
+
 pub act-requires : goal.act-requires
-act-requires c = in_grid c.self.inside.entries c.self.inside.index c.self.inside.order c.self.inside.rows c.self.invariant.0 c.args.self.now c.self.view_is c.args.slot c.requires
+act-requires c = in_grid c.self.inside.entries c.self.inside.index c.self.inside.order c.self.inside.rows c.self.invariant.0 (base_shown c.self.inside.entries c.self.inside.index c.self.inside.rows c.self.inside.images) c.args.self.now c.self.view_is c.args.slot c.requires
 
 pub invariant_of-self : goal.invariant_of-self
-invariant_of-self c = change_kept c.self.inside.entries c.self.inside.index c.self.inside.order c.self.inside.rows c.self.invariant.0 c.self.invariant.1 c.args.self.now c.self.view_is c.args.slot (λ values. acted values c.args.now c.args.act) c.requires c.act.new.self c.act.ensures.row
+invariant_of-self c = change_kept_base c.self.inside.entries c.self.inside.index c.self.inside.order c.self.inside.rows c.self.inside.images c.self.invariant.0 c.self.invariant.1 c.args.self.now c.self.view_is c.args.slot c.requires c.keep_image.new.images c.keep_image.ensures (λ values. acted values c.args.now c.args.act) c.act.new.self c.act.ensures.row
 
 pub returns-clause-acted : goal.returns-clause-acted
-returns-clause-acted c = change_shown c.self.inside.entries c.self.inside.index c.self.inside.order c.self.inside.rows c.self.invariant.0 c.self.invariant.1 c.args.self.now c.self.view_is c.args.slot (λ values. acted values c.args.now c.args.act) c.requires c.act.new.self c.act.ensures.row
+returns-clause-acted c = change_shown_base c.self.inside.entries c.self.inside.index c.self.inside.order c.self.inside.rows c.self.inside.images c.self.invariant.0 c.self.invariant.1 c.args.self.now c.self.view_is c.args.slot c.requires c.keep_image.new.images c.keep_image.ensures (λ values. acted values c.args.now c.args.act) c.act.new.self c.act.ensures.row
 
 pub returns-clause-answer : goal.returns-clause-answer
-returns-clause-answer c held there = c.act.ensures.answer ∙ ap (λ (fields : List StoredValue). answer fields c.args.now c.args.act) (values_are c.self.inside.entries c.self.inside.index c.self.inside.order c.self.inside.rows c.self.invariant.0 c.args.self.now c.self.view_is c.args.slot held there)
+returns-clause-answer c held there = c.act.ensures.answer ∙ ap (λ (fields : List StoredValue). answer fields c.args.now c.args.act) (values_are c.self.inside.entries c.self.inside.index c.self.inside.order c.self.inside.rows c.self.invariant.0 (base_shown c.self.inside.entries c.self.inside.index c.self.inside.rows c.self.inside.images) c.args.self.now c.self.view_is c.args.slot held there)
