@@ -168,10 +168,11 @@ fn check_record<T: Table, J: Naming>(
     let Ok(replies) = replay(alloc, book) else {
         return Err(Fault::Memory);
     };
-    if !are_told(seats, shard, book.calls(), replies.as_slice()) {
-        return Err(Fault::Mismatch(shard));
+    match are_told(seats, shard, book.calls(), replies.as_slice()) {
+        Ok(true) => Ok(()),
+        Ok(false) => Err(Fault::Mismatch(shard)),
+        Err(_) => Err(Fault::Memory),
     }
-    Ok(())
 }
 
 /// Whether a book's record begins with an empty table. Of one that had counted events by then no copy is made.

@@ -17,6 +17,7 @@ pub mod RowLemmas
 pub mod ChoiceLemmas
 pub mod SeenLemmas
 pub mod ClearLemmas
+pub mod GatherLemmas
 pub mod ListingLemmas
 pub mod OneRowLemmas
 pub mod UsedLemmas
