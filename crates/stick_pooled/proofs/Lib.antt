@@ -17,6 +17,8 @@ pub mod RowLemmas
 pub mod ChoiceLemmas
 pub mod SeenLemmas
 pub mod ClearLemmas
+pub mod FirstLemmas
+pub mod GatherLemmas
 pub mod ListingLemmas
 pub mod OneRowLemmas
 pub mod UsedLemmas

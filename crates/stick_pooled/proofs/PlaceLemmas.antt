@@ -38,7 +38,7 @@ same_some : {X : Type 0} {x y : X} → Some x ≡ Some y → x ≡ y
 same_some e = cc
 
 -- ---- places with their numbers
-numbered-get : (n : ℕ) (ps : List P) (i : ℕ) → get_or (numbered n ps) i None ≡ option_map (placed (n + i)) (get_or ps i None)
+pub numbered-get : (n : ℕ) (ps : List P) (i : ℕ) → get_or (numbered n ps) i None ≡ option_map (placed (n + i)) (get_or ps i None)
 numbered-get n [] i = refl
 numbered-get n (p ∷ ps) zero = let same : n ≡ n + 0 = omega arith in ap (λ m. option_map (placed m) p) same
 numbered-get n (p ∷ ps) (suc i) = let same : n + 1 + i ≡ n + suc i = omega arith in numbered-get (n + 1) ps i ∙ ap (λ m. option_map (placed m) (get_or ps i None)) same
@@ -48,7 +48,7 @@ numbered-set n [] i p = refl
 numbered-set n (q ∷ ps) zero p = let same : n ≡ n + 0 = omega arith in ap (λ m. option_map (placed m) p ∷ numbered (n + 1) ps) same
 numbered-set n (q ∷ ps) (suc i) p = let same : n + 1 + i ≡ n + suc i = omega arith in ap (λ rest. option_map (placed n) q ∷ rest) (numbered-set (n + 1) ps i p ∙ ap (λ m. set (numbered (n + 1) ps) i (option_map (placed m) p)) same)
 
-length-numbered : (n : ℕ) (ps : List P) → length (numbered n ps) ≡ length ps
+pub length-numbered : (n : ℕ) (ps : List P) → length (numbered n ps) ≡ length ps
 length-numbered n [] = refl
 length-numbered n (p ∷ ps) = let rest = length-numbered (n + 1) ps in omega (arith, rest)
 
@@ -56,7 +56,7 @@ some-placed : (n : ℕ) (p : P) → is_some (option_map (placed n) p) ≡ is_som
 some-placed n None = refl
 some-placed n (Some e) = refl
 
-count-numbered : (n : ℕ) (ps : List P) → count_by is_some (numbered n ps) ≡ count_by is_some ps
+pub count-numbered : (n : ℕ) (ps : List P) → count_by is_some (numbered n ps) ≡ count_by is_some ps
 count-numbered n [] = refl
 count-numbered n (p ∷ ps) =
     let rest = count-numbered (n + 1) ps in
