@@ -68,6 +68,7 @@ impl<'a, R> Conn<'a, R> {
     ghost use Rattle.admit_core.specs.Conn.{judged_by, needed, progress_of, rules_left, Stands, wanted};
 
     /// A connection that has just come. This takes no memory.
+    #[inline(always)]
     pub fn new(setup: &'a Setup, samples: Samples) -> Self
         ensures stands { Stands result (arrived setup.now samples) }
         ensures given { is_some (progress_of result).given ≡ false }
@@ -361,6 +362,7 @@ impl<'a, R> Conn<'a, R> {
     }
 
     /// What it still holds by each slot, with the number of its table.
+    #[inline(always)]
     pub fn end(self) -> (Option<(u32, R)>, Option<(u32, R)>, Option<(u32, R)>)
         ensures sc0 { result.0 ≡ held_at (progress_of self.entry).held Sc0 }
         ensures sc1 { result.1 ≡ held_at (progress_of self.entry).held Sc1 }

@@ -34,6 +34,7 @@ fn empty<R>(place: &mut Option<(u32, R)>) -> (u32, R)
 }
 
 impl<R> Held<R> {
+    #[inline(always)]
     pub(crate) fn new() -> Self
         ensures { result ≡ nothing_held }
     {
@@ -117,6 +118,7 @@ impl<R> Held<R> {
     }
 
     /// What it holds.
+    #[inline(always)]
     pub(crate) fn end(self) -> (Option<(u32, R)>, Option<(u32, R)>, Option<(u32, R)>)
         ensures { result ≡ (self.sc0, self.sc1, self.sc2) }
     {

@@ -115,6 +115,7 @@ impl<'a> Eval<'a> {
 
     /// An evaluation that has no answer yet. This takes no memory.
     #[tactic(auto, unfolding(crate::specs::Eval::left, crate::specs::Eval::remaining, crate::specs::Eval::setup_of, crate::specs::Eval::slots_in))]
+    #[inline(always)]
     pub fn new(setup: &'a Setup, samples: Samples) -> Self
         ensures stands { Stands result setup.now samples [] }
         ensures slots { slots_in result ≡ no_slots }

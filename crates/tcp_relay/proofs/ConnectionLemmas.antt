@@ -20,7 +20,7 @@ use Rattle.admit_core.specs.declared.conn.Conn.{Conn}
 use Rattle.admit_core.specs.declared.held.Held.{Held}
 use Rattle.admit_port.proofs.CommonLemmas.{setup_same}
 use Rattle.admit_port.specs.DriveCode.{CanGoOn, IsConnection}
-use Rattle.admit_port.specs.Ports.{ArePorts, HoldsOf, parts_of}
+use Rattle.admit_port.specs.Ports.{HoldsOf, parts_of}
 use Rattle.tcp_relay.specs.Connections.{IsVisitor}
 use Rattle.tcp_relay.specs.Passed.{HasPassedLimits, HavePassedStill}
 use Rattle.tcp_relay.specs.Seating.{AreIn, StoreAs}

@@ -1,6 +1,6 @@
 //! What a connection still holds when it leaves; `visiting` lets it go, and `worker` takes what is left.
 
-ghost use Rattle.std.specs.Prelude.{◌≡◌, ◌≤◌, ◌<◌, ◌+◌, ◌*◌, ℕ, false, IfNone, IfSome, None, length, map, option_map, vec_len};
+ghost use Rattle.std.specs.Prelude.{◌≡◌, ◌≤◌, ◌<◌, ◌+◌, ◌*◌, ℕ, false, IfSome, None, length, map, option_map, vec_len};
 ghost use Rattle.rule_model.specs.declared.actions.Slot.TheVariants.{Sc0, Sc1, Sc2};
 ghost use Rattle.admit_core.specs.Conn.{progress_of};
 ghost use Rattle.admit_core.specs.Held.{held_at};
@@ -19,7 +19,7 @@ use shard_record::Naming;
 pub(crate) const MOST_HELD: usize = 3;
 
 /// Whether a connection holds a reference.
-fn holds<J: Naming>(conn: &Conn<'_, SharedRef<J>>) -> bool
+pub(crate) fn holds<J: Naming>(conn: &Conn<'_, SharedRef<J>>) -> bool
     ensures sc0 { result ≡ false → held_at (progress_of conn.now).held Sc0 ≡ None }
     ensures sc1 { result ≡ false → held_at (progress_of conn.now).held Sc1 ≡ None }
     ensures sc2 { result ≡ false → held_at (progress_of conn.now).held Sc2 ≡ None }
@@ -29,18 +29,15 @@ fn holds<J: Naming>(conn: &Conn<'_, SharedRef<J>>) -> bool
         || conn.held(Slot::Sc2).is_some()
 }
 
-/// Lets a connection go that holds nothing. One that holds a reference is still there.
-pub(crate) fn let_go<'a, J: Naming>(conn: Conn<'a, SharedRef<J>>) -> Option<Conn<'a, SharedRef<J>>>
-    ensures kept { IfSome result (λ kept. kept ≡ conn.entry) }
-    ensures sc0 { IfNone result (held_at (progress_of conn.entry).held Sc0 ≡ None) }
-    ensures sc1 { IfNone result (held_at (progress_of conn.entry).held Sc1 ≡ None) }
-    ensures sc2 { IfNone result (held_at (progress_of conn.entry).held Sc2 ≡ None) }
+/// Lets a connection go that holds nothing.
+#[inline(always)]
+pub(crate) fn let_go<J: Naming>(conn: Conn<'_, SharedRef<J>>)
+    requires sc0 { held_at (progress_of conn).held Sc0 ≡ None }
+    requires sc1 { held_at (progress_of conn).held Sc1 ≡ None }
+    requires sc2 { held_at (progress_of conn).held Sc2 ≡ None }
 {
-    if holds(&conn) {
-        return Some(conn);
-    }
     match conn.end() {
-        (None, None, None) => None,
+        (None, None, None) => {}
         (_first, _second, _third) => unreachable!(),
     }
 }

@@ -1,6 +1,10 @@
 //! A worker's connections, each in its turn; `serving` calls `turn_all` in each worker's loop.
 
 ghost use Rattle.std.specs.Prelude.{◌≡◌, Some, None, slice_get};
+ghost use Rattle.admit_core.specs.Conn.{needed};
+ghost use Rattle.admit_core.specs.declared.need.Need.TheVariants.{Rest};
+ghost use Rattle.tcp_relay.specs.Connections.{IsVisitor};
+ghost use Rattle.tcp_relay.specs.Passed.{HasPassedIn};
 
 use crate::accept_errors::{AcceptFault, Shortage, shortage_of};
 use crate::acceptor::Acceptor;
@@ -14,13 +18,15 @@ use crate::listeners::Accepted;
 use crate::met::{count_met, met_by};
 use crate::shared::Shared;
 use crate::sweep::Sweep;
-use crate::visiting::{end_admitted, end_at, judge_one};
+use crate::visiting::{arrive, end_admitted, end_at, judge_one};
 use crate::watch::{LISTENER, Watch};
 use crate::width::Width;
 use crate::worker::Worker;
 use crate::{Gate, ServeRuntime};
+use admit_core::Conn;
 use base_clock::{Clock, RunningClock};
 use mio::{Events, net};
+use shard_locks::SharedRef;
 use shard_record::Naming;
 use std::thread;
 use std::time::Duration;
@@ -59,17 +65,37 @@ fn take_in<'a, T: Table, J: Naming, R: ServeRuntime, G: Gate, W: Width>(
     requires free { slice_get worker.old.places.held.items place ≡ Some None }
 {
     let peer = accepted.peer;
-    let seated = &mut worker.seated;
     let samples = samples(peer, accepted.port);
-    let (conn, is_admitted) = judge_one(shared, seated, &mut event_loop.clock, number, samples);
+    let mut conn = arrive(shared, samples);
+    let seated = &mut worker.seated;
+    let is_admitted = judge_one(shared, seated, &mut event_loop.clock, number, &mut conn);
     worker.counted.count_verdict(is_admitted);
-    if !is_admitted {
-        shared.control.note_rejected(peer);
-        // First its references: a client that hears of the reset may come again at once.
-        end_at(shared, worker, &mut event_loop.clock, place, conn, false);
-        reset(shared.rt, net::TcpStream::from_std(accepted.client));
+    if is_admitted {
+        carry(shared, worker, event_loop, buffer, place, accepted, conn);
         return;
     }
+    shared.control.note_rejected(peer);
+    // First its references: a client that hears of the reset may come again at once.
+    end_at(shared, worker, &mut event_loop.clock, place, conn, false);
+    reset(shared.rt, net::TcpStream::from_std(accepted.client));
+}
+
+/// Carries an admitted client to its server. It stands apart from what a rejected one goes through, which needs none of its memory.
+#[inline(never)]
+fn carry<'a, T: Table, J: Naming, R: ServeRuntime, G, W: Width>(
+    shared: &Shared<'a, R, G, W>,
+    worker: &mut Worker<'a, T, J, R, W>,
+    event_loop: &mut EventLoop<'_, R>,
+    buffer: &mut Buffer,
+    place: usize,
+    accepted: Accepted,
+    conn: Conn<'a, SharedRef<J>>,
+)
+    requires connection { IsVisitor W.tables W.shards conn }
+    requires rests { needed conn ≡ Rest }
+    requires passed { HasPassedIn W.setup worker.old.seated.items conn }
+    requires free { slice_get worker.old.places.held.items place ≡ Some None }
+{
     shared.control.gauge.enter();
     let moment = event_loop.sweep.shows(event_loop.clock.now());
     match begin(shared, event_loop, buffer, place, accepted, moment) {

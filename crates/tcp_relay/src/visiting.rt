@@ -1,15 +1,16 @@
 //! One connection, from its acceptance to the release of its references; `turning` judges, closes and ends by it.
 
-ghost use Rattle.std.specs.Prelude.{◌≡◌, true, IfSome, Some, None, slice_get, vec_len};
-ghost use Rattle.admit_core.specs.Conn.{needed, progress_of};
-ghost use Rattle.admit_core.specs.Connection.{closed_of};
+ghost use Rattle.std.specs.Prelude.{◌≡◌, true, Some, None, slice_get, vec_len};
+ghost use Rattle.rule_eval.specs.declared.wants.Samples.{Samples};
+ghost use Rattle.admit_core.specs.Conn.{needed, progress_of, Stands};
+ghost use Rattle.admit_core.specs.Connection.{arrived, closed_of};
 ghost use Rattle.admit_core.specs.declared.need.Need.TheVariants.{Rest};
 ghost use Rattle.tcp_relay.specs.Connections.{IsVisitor};
 ghost use Rattle.tcp_relay.specs.Passed.{HasPassedLimits, HavePassedStill, IsOf};
 ghost use Rattle.tcp_relay.specs.Seating.{AreIn, StoreAs};
 
 use crate::fates::Ended;
-use crate::leaving::let_go;
+use crate::leaving::{holds, let_go};
 use crate::shared::Shared;
 use crate::width::Width;
 use crate::worker::Worker;
@@ -22,6 +23,18 @@ use shard_locks::{Seated, SharedRef};
 use shard_record::Naming;
 use stick_table::Table;
 
+/// A connection that has just come, with these samples.
+#[inline(always)]
+pub(crate) fn arrive<'a, J: Naming, R, G, W: Width>(
+    shared: &Shared<'a, R, G, W>,
+    samples: Samples,
+) -> Conn<'a, SharedRef<J>>
+    ensures stands { Stands result (arrived shared.now.setup.now samples) }
+    ensures connection { IsVisitor W.tables W.shards result }
+{
+    Conn::new(shared.setup, samples)
+}
+
 /// Has a connection judged by the rules, all at the moment at which they begin, and passes it through the gate. Whether it is
 /// admitted: then its source has passed the limit that the rules begin with, by the records that the seats know.
 pub(crate) fn judge_one<'a, T: Table, J: Naming, R: ServeRuntime, G: Gate, W: Width>(
@@ -29,26 +42,28 @@ pub(crate) fn judge_one<'a, T: Table, J: Naming, R: ServeRuntime, G: Gate, W: Wi
     seated: &mut Vec<Seated<'a, T, J, R>>,
     clock: &mut RunningClock<'_, R>,
     number: u64,
-    samples: Samples,
-) -> (Conn<'a, SharedRef<J>>, bool)
+    conn: &mut Conn<'a, SharedRef<J>>,
+) -> bool
     requires count { vec_len seated.old ≡ W.tables }
     requires shards { AreIn (λ one. one.table.shards) W.shards seated.old.items }
     requires current { StoreAs (λ one. one.table.spec) W.current seated.old.items }
+    requires connection { IsVisitor W.tables W.shards conn.old }
     ensures count { vec_len seated.new ≡ W.tables }
     ensures shards { AreIn (λ one. one.table.shards) W.shards seated.new.items }
     ensures current { StoreAs (λ one. one.table.spec) W.current seated.new.items }
-    ensures connection { IsVisitor W.tables W.shards result.0 }
-    ensures rests { result.1 ≡ true → needed result.0 ≡ Rest }
-    ensures of { IsOf shared.now.setup.now samples result.0 }
-    ensures passed { result.1 ≡ true → HasPassedLimits shared.now.setup.now samples seated.new.items result.0 }
+    ensures connection { IsVisitor W.tables W.shards conn.new }
+    ensures rests { result ≡ true → needed conn.new ≡ Rest }
     ensures still { HavePassedStill seated.old.items seated.new.items }
+
+    // Of one that has just come.
+    ensures of { (samples : Samples) → Stands conn.old (arrived shared.now.setup.now samples) → IsOf shared.now.setup.now samples conn.new }
+    ensures passed { (samples : Samples) → Stands conn.old (arrived shared.now.setup.now samples) → result ≡ true → HasPassedLimits shared.now.setup.now samples seated.new.items conn.new }
 {
-    let mut conn = Conn::new(shared.setup, samples);
     let mut stopped = StoppedClock::at(clock.now());
     let ports = seated.as_mut_slice();
-    let is_admitted = judge(shared.alloc, ports, &mut conn, &mut stopped);
+    let is_admitted = judge(shared.alloc, ports, conn, &mut stopped);
     shared.gate.pass(number);
-    (conn, is_admitted)
+    is_admitted
 }
 
 /// Closes an admitted connection, after so many bytes came in and went out.
@@ -67,50 +82,51 @@ fn closed<'a, J: Naming, W: Width>(
 }
 
 /// Ends a connection that was rejected or closed: what is left to be counted is counted, and its references go back, all at one
-/// moment. One whose references can't be given back still holds them, and is still there.
+/// moment. One whose references can't be given back still holds them.
 fn leave<'a, T: Table, J: Naming, R: ServeRuntime, G, W: Width>(
     shared: &Shared<'a, R, G, W>,
     seated: &mut Vec<Seated<'a, T, J, R>>,
     clock: &mut RunningClock<'_, R>,
-    mut conn: Conn<'a, SharedRef<J>>,
-) -> Option<Conn<'a, SharedRef<J>>>
+    conn: &mut Conn<'a, SharedRef<J>>,
+)
     requires count { vec_len seated.old ≡ W.tables }
     requires shards { AreIn (λ one. one.table.shards) W.shards seated.old.items }
     requires current { StoreAs (λ one. one.table.spec) W.current seated.old.items }
-    requires connection { IsVisitor W.tables W.shards conn }
+    requires connection { IsVisitor W.tables W.shards conn.old }
     ensures count { vec_len seated.new ≡ W.tables }
     ensures shards { AreIn (λ one. one.table.shards) W.shards seated.new.items }
     ensures current { StoreAs (λ one. one.table.spec) W.current seated.new.items }
-    ensures connection { IfSome result (IsVisitor W.tables W.shards) }
+    ensures connection { IsVisitor W.tables W.shards conn.new }
     ensures still { HavePassedStill seated.old.items seated.new.items }
 {
     let mut stopped = StoppedClock::at(clock.now());
     let ports = seated.as_mut_slice();
     // A reference whose release is refused is still held.
-    let _rested = finish(shared.alloc, ports, &mut conn, &mut stopped);
-    let_go(conn)
+    let _rested = finish(shared.alloc, ports, conn, &mut stopped);
 }
 
-/// Ends the connection of a place that is claimed, and counts it.
+/// Ends the connection of a place that is claimed, and counts it. One that still holds references keeps the place.
+#[inline(always)]
 pub(crate) fn end_at<'a, T: Table, J: Naming, R: ServeRuntime, G, W: Width>(
     shared: &Shared<'a, R, G, W>,
     worker: &mut Worker<'a, T, J, R, W>,
     clock: &mut RunningClock<'_, R>,
     place: usize,
-    conn: Conn<'a, SharedRef<J>>,
+    mut conn: Conn<'a, SharedRef<J>>,
     is_admitted: bool,
 )
     requires connection { IsVisitor W.tables W.shards conn }
     requires free { slice_get worker.old.places.held.items place ≡ Some None }
 {
     worker.tally.count(is_admitted);
-    match leave(shared, &mut worker.seated, clock, conn) {
-        None => worker.places.free(place),
-        Some(kept) => {
-            worker.keeps = true;
-            worker.places.put_kept(place, kept);
-        }
+    leave(shared, &mut worker.seated, clock, &mut conn);
+    if holds(&conn) {
+        worker.keeps = true;
+        worker.places.put_kept(place, conn);
+        return;
     }
+    let_go(conn);
+    worker.places.free(place);
 }
 
 /// Ends an admitted connection of a place that is claimed, and counts how.

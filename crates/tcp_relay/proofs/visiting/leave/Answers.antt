@@ -1,20 +1,11 @@
-use Rattle.std.proofs.Common.{◌≡◌, ℕ, sym, subst, Option, Some, None}
-use Rattle.std.specs.Prelude.{IfSome}
-use Rattle.shard_book.specs.SeatState.{RefState}
-use Rattle.admit_core.specs.declared.conn.Conn.{Conn}
-use Rattle.tcp_relay.specs.Connections.{IsVisitor}
 use Rattle.tcp_relay.proofs.ConnectionLemmas.{each_still, lent_store, ports_of, ready, still_passed, stored_still, visitor_still}
 use Rattle.tcp_relay.proofs.PassedStays.{rests_keep, rests_store}
 use Rattle.tcp_relay.proofs.visiting.leave.Goals as goal
 
-kept_is : (tables shards : ℕ) (conn : Conn RefState) (left : Option (Conn RefState)) → IsVisitor tables shards conn → IfSome left (λ kept. kept ≡ conn) → IfSome left (IsVisitor tables shards)
-kept_is tables shards conn None is same = tt
-kept_is tables shards conn (Some kept) is same = subst (IsVisitor tables shards) (sym same) is
-
 pub finish-rested-requires-clause-ready : goal.finish-rested-requires-clause-ready
 finish-rested-requires-clause-ready g c =
     let lent = c.as_mut_slice-ports in
-    ready g.W.Width.tables g.W.Width.shards c.args.seated.now lent.result.now lent.ensures.value lent.ensures.len c.requires.count c.requires.shards c.args.conn c.requires.connection
+    ready g.W.Width.tables g.W.Width.shards c.args.seated.now lent.result.now lent.ensures.value lent.ensures.len c.requires.count c.requires.shards c.args.conn.now c.requires.connection
 
 pub returns-clause-shards : goal.returns-clause-shards
 returns-clause-shards g c =
@@ -27,19 +18,18 @@ returns-clause-current g c =
     let lent = c.as_mut_slice-ports in
     let rested = c.finish-rested in
     stored_still g.W.Width.tables g.W.Width.shards c.args.seated.now lent.result.now lent.ensures.value lent.ensures.len c.requires.count c.requires.shards rested.new.ports rested.ensures.parts g.W.Width.current
-    (rests_store _ (ports_of lent.result.now) (ports_of rested.new.ports) c.args.conn rested.new.conn _ _ rested.result g.W.Width.current c.requires.connection.living rested.ensures.rested
+    (rests_store _ (ports_of lent.result.now) (ports_of rested.new.ports) c.args.conn.now rested.new.conn _ _ rested.result g.W.Width.current c.requires.connection.living rested.ensures.rested
     (lent_store g.W.Width.tables g.W.Width.shards c.args.seated.now lent.result.now lent.ensures.value lent.ensures.len c.requires.count c.requires.shards g.W.Width.current c.requires.current))
 
 pub returns-clause-connection : goal.returns-clause-connection
 returns-clause-connection g c =
     let lent = c.as_mut_slice-ports in
     let rested = c.finish-rested in
-    kept_is g.W.Width.tables g.W.Width.shards rested.new.conn c.let_go.result
-    (visitor_still g.W.Width.tables g.W.Width.shards c.args.seated.now lent.result.now lent.ensures.value lent.ensures.len c.requires.count c.requires.shards rested.new.ports rested.ensures.parts rested.new.conn rested.ensures.living rested.ensures.ready) c.let_go.ensures.kept
+    visitor_still g.W.Width.tables g.W.Width.shards c.args.seated.now lent.result.now lent.ensures.value lent.ensures.len c.requires.count c.requires.shards rested.new.ports rested.ensures.parts rested.new.conn rested.ensures.living rested.ensures.ready
 
 pub returns-clause-still : goal.returns-clause-still
 returns-clause-still g c =
     let lent = c.as_mut_slice-ports in
     let rested = c.finish-rested in
     still_passed g.W.Width.tables g.W.Width.shards c.args.seated.now lent.result.now lent.ensures.value lent.ensures.len c.requires.count c.requires.shards rested.new.ports rested.ensures.parts
-    (rests_keep _ (ports_of lent.result.now) (ports_of rested.new.ports) c.args.conn rested.new.conn _ _ rested.result c.requires.connection.living rested.ensures.rested)
+    (rests_keep _ (ports_of lent.result.now) (ports_of rested.new.ports) c.args.conn.now rested.new.conn _ _ rested.result c.requires.connection.living rested.ensures.rested)
