@@ -12,11 +12,11 @@ use stick_model::{Reply, Rows};
 fn joined_rows(rows: Rows, others: Rows) -> Result<Rows, NoMemory>
     ensures { IfOk result (λ all. all ≡ rows ++ others) }
 {
-    let mut all = rows;
-    for row in others.into_vec() {
+    let mut all = rows.into_sequence()?;
+    for row in others.into_sequence()?.into_vec() {
         all.push(row)?;
     }
-    Ok(all)
+    Ok(Rows::from(all))
 }
 
 /// The replies of two shards together.

@@ -11,9 +11,9 @@ use stick_model::{Reply, Row, Rows};
 fn sort_rows(rows: Rows) -> Result<Rows, NoMemory>
     ensures { IfOk result (IsInKeyOrder rows) }
 {
-    let mut all = rows.into_vec();
+    let mut all = rows.into_sequence()?.into_vec();
     all.sort_by(|a: &Row, b: &Row| a.key.cmp(&b.key))?;
-    Ok(Sequence::from_vec(all))
+    Ok(Rows::from(Sequence::from_vec(all)))
 }
 
 /// The reply with its rows in the order of their keys. Only rows want memory.

@@ -168,7 +168,10 @@ fn check_record<T: Table, J: Naming>(
     let Ok(replies) = replay(alloc, book) else {
         return Err(Fault::Memory);
     };
-    if !are_told(seats, shard, book.calls(), replies.as_slice()) {
+    let Ok(told) = are_told(seats, shard, book.calls(), replies.as_slice()) else {
+        return Err(Fault::Memory);
+    };
+    if !told {
         return Err(Fault::Mismatch(shard));
     }
     Ok(())

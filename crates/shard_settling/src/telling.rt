@@ -1,11 +1,12 @@
 //! What seats were told by a record, against the receipts that they keep; `check` calls it.
 
-ghost use Rattle.std.specs.Prelude.{◌≡◌, ◌≤◌, ◌↔◌, IsTrue, Some, length, drop, slice_get};
+ghost use Rattle.std.specs.Prelude.{◌≡◌, ◌≤◌, ◌↔◌, IsTrue, IfOk, Some, length, drop, slice_get};
 ghost use Rattle.shard_book.specs.SeatState.{receipts_at};
 ghost use Rattle.shard_book.specs.declared.receipt.Receipt.{Receipt};
 ghost use Rattle.shard_locks.specs.Shared.{seats_of};
 ghost use Rattle.shard_settling.specs.Settled.{AreTold, told_to};
 
+use base_sequence::NoMemory;
 use shard_book::{Receipt, Recorded};
 use shard_locks::SharedSeat;
 use shard_record::Naming;
@@ -19,32 +20,34 @@ pub fn is_told(
     receipts: &[Receipt],
     calls: &[Recorded],
     replies: &[Reply],
-) -> bool
+) -> Result<bool, NoMemory>
     requires { length replies.now ≡ length calls.now }
-    ensures { IsTrue result ↔ (told_to shard seat calls.now replies.now ≡ receipts_at shard receipts.now) }
+    ensures { IfOk result (λ told. IsTrue told ↔ (told_to shard seat calls.now replies.now ≡ receipts_at shard receipts.now)) }
 {
     let mut next = next_at(receipts, shard, 0);
     for i in 0..calls.len() {
         let call = &calls[i];
         if call.seat() == seat {
             if next >= receipts.len() {
-                return false;
+                return Ok(false);
             }
             let receipt = &receipts[next];
-            if !is_of(receipt, call, &replies[i]) {
-                return false;
+            let is_same = is_of(receipt, call, &replies[i])?;
+            if !is_same {
+                return Ok(false);
             }
             next = next_at(receipts, shard, next + 1);
         }
     }
-    next >= receipts.len()
+    Ok(next >= receipts.len())
 }
 
 /// Whether a receipt is of a call and its reply.
-fn is_of(receipt: &Receipt, call: &Recorded, reply: &Reply) -> bool
-    ensures { IsTrue result ↔ ((receipt.now.event ≡ call.now.stored.event) × (receipt.now.reply ≡ reply.now)) }
+fn is_of(receipt: &Receipt, call: &Recorded, reply: &Reply) -> Result<bool, NoMemory>
+    ensures { IfOk result (λ same. IsTrue same ↔ ((receipt.now.event ≡ call.now.stored.event) × (receipt.now.reply ≡ reply.now))) }
 {
-    call.is_of(&receipt.event) && same_reply(&receipt.reply, reply)
+    let is_answered = same_reply(&receipt.reply, reply)?;
+    Ok(call.is_of(&receipt.event) && is_answered)
 }
 
 /// The place of the next receipt of a shard, or the number of receipts.
@@ -68,20 +71,21 @@ pub(crate) fn are_told<J: Naming>(
     shard: u32,
     calls: &[Recorded],
     replies: &[Reply],
-) -> bool
+) -> Result<bool, NoMemory>
     requires { length replies.now ≡ length calls.now }
-    ensures { IsTrue result ↔ AreTold shard (seats_of seats.now) calls.now replies.now }
+    ensures { IfOk result (λ told. IsTrue told ↔ AreTold shard (seats_of seats.now) calls.now replies.now) }
 {
     for seat in seats {
-        if !is_told(
+        let told = is_told(
             seat.seat().number(),
             shard,
             seat.seat().receipts(),
             calls,
             replies,
-        ) {
-            return false;
+        )?;
+        if !told {
+            return Ok(false);
         }
     }
-    true
+    Ok(true)
 }

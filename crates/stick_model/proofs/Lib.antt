@@ -1,6 +1,8 @@
 pub mod TestLemmas
 pub mod KeyLemmas
 pub mod EntryLemmas
+pub mod OrderLemmas
+pub mod GatheredLemmas
 pub mod RoomLemmas
 pub mod StepCases
 pub mod StepLemmas

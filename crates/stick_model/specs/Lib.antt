@@ -1,5 +1,8 @@
 pub mod Key
 pub mod State
+pub mod Gathered
+pub mod Listed
+pub mod Reading
 pub mod Room
 pub mod Filters
 pub mod Step

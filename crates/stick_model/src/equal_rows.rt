@@ -1,8 +1,10 @@
-//! Whether two rows, or two lists of rows, are the same; `same_reply` calls it.
-ghost use Rattle.std.specs.Prelude.{◌≡◌, ◌↔◌, IsTrue};
+//! Whether two rows, or the rows of two listings, are the same; `same_reply` calls it.
+ghost use Rattle.std.specs.Prelude.{◌≡◌, ◌↔◌, IsTrue, IfOk};
 
 use crate::equal_cells::same_cells;
+use crate::listed_rows::Rows;
 use crate::rows::Row;
+use base_sequence::NoMemory;
 
 /// Whether two rows show the same.
 pub fn same_row(row: &Row, other: &Row) -> bool
@@ -15,7 +17,7 @@ pub fn same_row(row: &Row, other: &Row) -> bool
 }
 
 /// Whether two lists of rows are the same, row by row.
-pub fn same_rows(rows: &[Row], others: &[Row]) -> bool
+fn are_same(rows: &[Row], others: &[Row]) -> bool
     ensures { IsTrue result ↔ (rows.now ≡ others.now) }
 {
     if rows.len() != others.len() {
@@ -27,4 +29,17 @@ pub fn same_rows(rows: &[Row], others: &[Row]) -> bool
         }
     }
     true
+}
+
+/// Whether two listings show the same rows. Only rows that a table gathered take memory.
+pub fn same_rows(rows: &Rows, others: &Rows) -> Result<bool, NoMemory>
+    ensures { IfOk result (λ same. IsTrue same ↔ (rows.now ≡ others.now)) }
+{
+    let Ok(some) = rows.read() else {
+        return Err(NoMemory);
+    };
+    let Ok(other) = others.read() else {
+        return Err(NoMemory);
+    };
+    Ok(are_same(some.as_slice(), other.as_slice()))
 }

@@ -3,7 +3,6 @@ ghost use Rattle.std.specs.Prelude.{◌≡◌, IfOk, IsOk, false};
 ghost use Rattle.stick_model.specs.Step.{shows_rows, slot_of};
 ghost use Rattle.stick_model.specs.declared.replies.Refusal.TheVariants.{Memory};
 
-use crate::rows::copy_rows;
 use crate::{Row, Rows, Ticket};
 use base_sequence::NoMemory;
 use std::alloc::{AllocFailed, Global};
@@ -80,7 +79,7 @@ impl Reply {
             }),
             Reply::Rows { used, rows } => Ok(Reply::Rows {
                 used: *used,
-                rows: copy_rows(alloc, rows.as_slice())?,
+                rows: rows.copy(alloc)?,
             }),
             Reply::Expired(count) => Ok(Reply::Expired(*count)),
         }

@@ -2,7 +2,6 @@
 ghost use Rattle.std.specs.Prelude.{◌≡◌, IfOk};
 
 use base_sequence::{NoMemory, Sequence};
-use std::alloc::Global;
 use stick_key::StickKey;
 use stored_data::{Field, Values};
 
@@ -67,18 +66,4 @@ impl Row {
             cells: self.cells.copy()?,
         })
     }
-}
-
-/// Rows in the order of their keys.
-pub type Rows = Sequence<Row>;
-
-/// Equal rows.
-pub fn copy_rows(alloc: Global, rows: &[Row]) -> Result<Rows, NoMemory>
-    ensures { IfOk result (λ copy. copy ≡ rows.now) }
-{
-    let mut copy = Vec::new(alloc);
-    for row in rows {
-        copy.push(row.copy()?)?;
-    }
-    Ok(Sequence::from_vec(copy))
 }

@@ -1,5 +1,5 @@
 -- What the calls that change a store leave of its base, which is as it was.
-use Rattle.std.proofs.Common.{◌≡◌, ◌≢◌, ℕ, ◌<◌, ◌≤◌, ◌^◌, List, [], length, get_or, set, map, replicate, Option, Some, None, is_some, IsSome, true, false, count_by, sym, ap, subst, refl, ◌∙◌, arith}
+use Rattle.std.proofs.Common.{◌≡◌, ℕ, ◌<◌, ◌≤◌, ◌^◌, List, [], length, get_or, set, map, replicate, Option, Some, None, is_some, IsSome, true, false, count_by, sym, ap, subst, refl, ◌∙◌, arith}
 use Rattle.std.specs.Option.{option_map}
 use Rattle.entry_pool.specs.declared.slot_handle.Handle.{Handle}
 use Rattle.stored_data.specs.Acts.{zero_of}

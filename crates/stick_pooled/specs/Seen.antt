@@ -8,6 +8,7 @@ use Rattle.stored_data.specs.declared.stored_set.Column.{Column}
 use Rattle.stored_data.specs.declared.values.StoredValue.{StoredValue}
 use Rattle.stick_pooled.specs.Stock.{Held, Stock, held_at}
 use Rattle.stick_model.specs.Filters.{compares}
+use Rattle.stick_model.specs.Gathered.{Gathered, with_row}
 use Rattle.stick_pooled.specs.Slots.{entries_of}
 use Rattle.stick_model.specs.Key.{Key, key_cmp, same_key}
 use Rattle.stick_model.specs.State.{outlives, row_of}
@@ -65,6 +66,11 @@ abbrev pub filled : {X : Type 0} → List (Option X) → List X
 filled [] = []
 filled (None ∷ slots) = filled slots
 filled (Some x ∷ slots) = x ∷ filled slots
+
+-- what is gathered, with the row of one slot more, if it shows one
+abbrev pub with_listed : Gathered → Option Row → Gathered
+with_listed g None = g
+with_listed g (Some row) = with_row g row
 
 -- the rows that a listing shows of these slots, in the order of the slots
 abbrev pub listed_in : List Column → Option ℕ → ℕ → Filter → List (Option Held) → List Row

@@ -144,6 +144,7 @@ impl Store {
     ghost use Rattle.std.specs.Option.{option_map};
     ghost use Rattle.std.specs.List.{Contains};
     ghost use Rattle.stored_data.specs.Acts.{acted, answer, value_at, with_value, zero_of};
+    ghost use Rattle.stored_data.specs.Words.{fields_in, width};
     ghost use Rattle.stick_pooled.specs.Stock.{Held, IsStock, IsAt, IsAbsent, empty, held_at, held_count, kept_at, kept_of, kept_slots, with_base, with_inserted, without_slot, with_entry, with_values};
 
     /// A store of `size` slots, 1 to 2^30, for data of these columns. It takes the memory of them all. The seed changes
@@ -226,6 +227,15 @@ impl Store {
         ensures { (held : Held) → held_at self.now slot ≡ Some held → result ≡ value_at held.values field now }
     {
         self.rows.get(slot, field, now)
+    }
+
+    /// The words of the data of a slot's entry.
+    pub fn words(&self, slot: u32) -> &[u64]
+        requires { IsSome (held_at self.now slot) }
+        ensures data { (held : Held) → held_at self.now slot ≡ Some held → fields_in self.now.columns result.now ≡ held.values }
+        ensures sized { length result.now ≡ width self.now.columns }
+    {
+        self.rows.row(slot)
     }
 
     /// A copy of the data of a slot's entry, where there is memory.

@@ -1,23 +1,25 @@
 //! What a table lists; `events` calls it for `List`.
-ghost use Rattle.std.specs.Prelude.{◌≡◌, ℕ, ◌+◌, ◌<◌, ◌≤◌, ◌^◌, false, IfOk, OnErr, Option, count_by, length};
+ghost use Rattle.std.specs.Prelude.{◌≡◌, ℕ, ◌+◌, ◌<◌, ◌≤◌, ◌^◌, Some, false, IfOk, IsSome, OnOk, OnErr, Option, count_by, length};
 ghost use Rattle.std.specs.Map.{values_of};
 ghost use Rattle.std.specs.Option.{option_map_or};
 ghost use Rattle.stick_pooled.specs.Stock.{Held, IsStock, held_at};
 ghost use Rattle.stick_table.specs.Replies.{listed_reply};
+ghost use Rattle.stick_model.specs.Gathered.{with_row};
+ghost use Rattle.stick_model.specs.State.{row_of};
 ghost use Rattle.stick_model.specs.Step.{begun, list as reply_to_list};
 ghost use Rattle.stick_model.specs.declared.filters.Filter.TheVariants.{Key as OneKey};
-ghost use Rattle.stick_pooled.specs.Shown.{moment_at, IsRising};
-ghost use Rattle.stick_pooled.specs.Seen.{is_kept, listed_entries, listed_in, listed_row as row_listed};
+ghost use Rattle.stick_pooled.specs.Shown.{moment_at, record_of, IsRising};
+ghost use Rattle.stick_pooled.specs.Seen.{is_kept, listed_entries, listed_in, listed_row as row_listed, with_listed};
 
 use crate::StickTable;
 use crate::entry_store::Store;
 use crate::expiry::is_alive;
 use crate::filters::{is_listed, live_slot, not_stored};
-use crate::rows::show_row;
-use base_sequence::{NoMemory, Sequence};
+use crate::rows::left_at;
+use base_sequence::NoMemory;
 use std::alloc::Global;
 use stick_key::StickKey;
-use stick_model::{Filter, Reply, Row, Rows, Spec};
+use stick_model::{Filter, Gathering, Reply, Rows, Spec};
 
 /// How many entries are there when the clock has come to this moment. Those that have reached their date are the first of
 /// the queue, so nothing is asked of the slots but of these.
@@ -38,25 +40,53 @@ fn count_live(store: &Store, expire: Option<u32>, clock: u64) -> u32
     live
 }
 
-/// The row of a slot's entry, where it has one that is there when the clock has come to this moment, and that a filter
-/// means.
-fn listed_row(
-    alloc: Global,
-    spec: &Spec,
+/// Adds the row of a slot's entry.
+#[inline(always)]
+fn gather_row(
+    expire: Option<u32>,
+    store: &Store,
+    clock: u64,
+    slot: u32,
+    rows: &mut Gathering,
+) -> Result<(), NoMemory>
+    requires there { IsSome (held_at store.now slot) }
+    requires past { moment_at store.now slot ≤ clock }
+    requires columns { rows.old.columns ≡ store.now.columns }
+    requires clock { rows.old.clock ≡ clock }
+    ensures { OnOk result ((held : Held) → held_at store.now slot ≡ Some held → rows.new
+        ≡ with_row rows.old (row_of rows.old.columns clock held.entry.refs held.key (record_of expire held))) }
+{
+    let entry = store.entry(slot);
+    let left = left_at(expire, entry.moment, clock);
+    match rows.push(store.key(slot), entry.refs, left, store.words(slot)) {
+        Ok(()) => Ok(()),
+        Err(refused) => Err(refused),
+    }
+}
+
+/// Adds the row of a slot's entry, where it has one that is there when the clock has come to this moment, and that a filter means.
+#[inline(always)]
+fn gather_slot(
+    expire: Option<u32>,
     store: &Store,
     clock: u64,
     choice: &Filter,
     slot: u32,
-) -> Result<Option<Row>, NoMemory>
-    requires clock { clock < 2 ^ 62 }
+    rows: &mut Gathering,
+) -> Result<(), NoMemory>
+    requires limit { clock < 2 ^ 62 }
     requires past { moment_at store.now slot ≤ clock }
-    ensures { IfOk result (λ row. row ≡ row_listed spec.now.columns spec.now.expire clock choice.now (held_at store.now slot)) }
+    requires columns { rows.old.columns ≡ store.now.columns }
+    requires clock { rows.old.clock ≡ clock }
+    ensures { OnOk result (rows.new ≡ with_listed rows.old (row_listed rows.old.columns expire clock choice.now (held_at store.now slot))) }
 {
-    if !is_listed(store, spec.expire, clock, choice, slot) {
-        return Ok(None);
+    if !is_listed(store, expire, clock, choice, slot) {
+        return Ok(());
     }
-    let row = show_row(alloc, spec, store, clock, slot)?;
-    Ok(Some(row))
+    match gather_row(expire, store, clock, slot, rows) {
+        Ok(()) => Ok(()),
+        Err(refused) => Err(refused),
+    }
 }
 
 /// The rows of what is listed, in the order of the slots, found by a walk over them all. So many rows have their place first.
@@ -67,17 +97,16 @@ fn walk_rows(
     clock: u64,
     choice: &Filter,
     room: u32,
-) -> Result<Vec<Row>, NoMemory>
+) -> Result<Gathering, NoMemory>
     requires clock { clock < 2 ^ 62 }
     requires size { spec.now.size ≡ length store.now.slots }
+    requires columns { store.now.columns ≡ spec.now.columns }
     requires past { (slot : ℕ) → moment_at store.now slot ≤ clock }
-    ensures { IfOk result (λ rows. rows.items ≡ listed_in spec.now.columns spec.now.expire clock choice.now store.now.slots) }
+    ensures { IfOk result (λ rows. rows.rows ≡ listed_in spec.now.columns spec.now.expire clock choice.now store.now.slots) }
 {
-    let mut rows = Vec::with_capacity(alloc, room as usize)?;
+    let mut rows = Gathering::new(alloc, &spec.columns, clock, room)?;
     for slot in 0..spec.size {
-        if let Some(row) = listed_row(alloc, spec, store, clock, choice, slot)? {
-            rows.push(row)?;
-        }
+        gather_slot(spec.expire, store, clock, choice, slot, &mut rows)?;
     }
     Ok(rows)
 }
@@ -89,18 +118,18 @@ fn find_row(
     store: &Store,
     clock: u64,
     key: &StickKey,
-) -> Result<Vec<Row>, NoMemory>
+) -> Result<Gathering, NoMemory>
     requires clock { clock < 2 ^ 62 }
+    requires columns { store.now.columns ≡ spec.now.columns }
     requires past { (slot : ℕ) → moment_at store.now slot ≤ clock }
     requires stock { IsStock store.now }
-    ensures { IfOk result (λ rows. rows.items ≡ listed_in spec.now.columns spec.now.expire clock (OneKey key.now) store.now.slots) }
+    ensures { IfOk result (λ rows. rows.rows ≡ listed_in spec.now.columns spec.now.expire clock (OneKey key.now) store.now.slots) }
 {
+    let mut rows = Gathering::new(alloc, &spec.columns, clock, 0)?;
     let Some(at) = live_slot(store, spec.expire, clock, key) else {
-        return Ok(Vec::new(alloc));
+        return Ok(rows);
     };
-    let row = show_row(alloc, spec, store, clock, at)?;
-    let mut rows = Vec::with_capacity(alloc, 1)?;
-    rows.push(row)?;
+    gather_row(spec.expire, store, clock, at, &mut rows)?;
     Ok(rows)
 }
 
@@ -113,22 +142,24 @@ fn gather_rows(
     clock: u64,
     choice: &Filter,
     used: u32,
-) -> Result<Vec<Row>, NoMemory>
+) -> Result<Gathering, NoMemory>
     requires clock { clock < 2 ^ 62 }
     requires size { spec.now.size ≡ length store.now.slots }
+    requires columns { store.now.columns ≡ spec.now.columns }
     requires past { (slot : ℕ) → moment_at store.now slot ≤ clock }
     requires stock { IsStock store.now }
-    ensures { IfOk result (λ rows. rows.items ≡ listed_in spec.now.columns spec.now.expire clock choice.now store.now.slots) }
+    ensures { IfOk result (λ rows. rows.rows ≡ listed_in spec.now.columns spec.now.expire clock choice.now store.now.slots) }
 {
     match choice {
         Filter::Everything => walk_rows(alloc, spec, store, clock, choice, used),
-        Filter::Nothing => Ok(Vec::new(alloc)),
+        Filter::Nothing => Gathering::new(alloc, &spec.columns, clock, 0),
         Filter::Key(key) => find_row(alloc, spec, store, clock, key),
         Filter::Compare(_, _, _) => walk_rows(alloc, spec, store, clock, choice, 0),
     }
 }
 
-/// The rows of what is listed, in the order of the keys, of a table of which so many slots are used.
+/// The rows of what is listed, in the order of the keys, of a table of which so many slots are used. They are gathered here; who
+/// reads them makes them and sorts them.
 fn list_rows(
     alloc: Global,
     spec: &Spec,
@@ -139,13 +170,13 @@ fn list_rows(
 ) -> Result<Rows, NoMemory>
     requires clock { clock < 2 ^ 62 }
     requires size { spec.now.size ≡ length store.now.slots }
+    requires columns { store.now.columns ≡ spec.now.columns }
     requires past { (slot : ℕ) → moment_at store.now slot ≤ clock }
     requires stock { IsStock store.now }
     ensures { IfOk result (λ rows. rows ≡ values_of (listed_entries spec.now.columns spec.now.expire clock choice.now store.now.slots)) }
 {
-    let mut rows = gather_rows(alloc, spec, store, clock, choice, used)?;
-    rows.sort_unstable_by(|a: &Row, b: &Row| a.key.cmp(&b.key));
-    Ok(Sequence::from_vec(rows))
+    let rows = gather_rows(alloc, spec, store, clock, choice, used)?;
+    Ok(Rows::from(rows))
 }
 
 impl StickTable {

@@ -18,7 +18,7 @@ use base_sequence::Sequence;
 use byte_ports::{Failed, Sink, write_all};
 use shard_book::{Keeper, Named};
 use std::alloc::Global;
-use stick_model::{Reply, Row};
+use stick_model::{Reply, Row, Rows};
 use table_texts::{Answer, Message};
 
 /// Appends the rows of a shard, those whose entries were refreshed before others first.
@@ -74,7 +74,7 @@ fn show_of<K: Keeper>(alloc: Global, named: &Named<K>, moment: u64) -> Answer
         Err(message) => return Answer::Message(message),
     };
     let used = rows.as_slice().len() as u64;
-    let rows = Sequence::from_vec(rows);
+    let rows = Rows::from(Sequence::from_vec(rows));
     let reply = Reply::Rows { used, rows };
     match Answer::of_reply(alloc, named.name.as_slice(), named.keeper.spec(), &reply) {
         Ok(answer) => answer,

@@ -31,7 +31,7 @@ fn beside(
 {
     let mut all = Vec::new(alloc);
     let mut left = entries;
-    for row in rows.into_vec() {
+    for row in rows.into_sequence()?.into_vec() {
         let Some((entry, more)) = left.split_first() else {
             return Ok(all);
         };

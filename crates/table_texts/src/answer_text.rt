@@ -38,7 +38,10 @@ impl Answer {
         ensures memory { IfErr result (λ _. shows_rows reply.now ≡ true) }
     {
         match reply {
-            Reply::Rows { used, rows } => listing(alloc, table, spec, *used, rows.as_slice()),
+            Reply::Rows { used, rows } => match rows.read() {
+                Ok(reading) => listing(alloc, table, spec, *used, reading.as_slice()),
+                Err(refused) => Err(refused),
+            },
             Reply::NotStored(_) => Ok(Answer::Message(Message::NotStored)),
             Reply::NotSettable(_) => Ok(Answer::Message(Message::NotSettable)),
             Reply::Full => Ok(Answer::Message(Message::TableFull)),

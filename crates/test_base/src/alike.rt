@@ -1,6 +1,6 @@
 //! Whether two tables answered the same.
 
-use stick_table::{Refusal, Reply, Row};
+use stick_table::{Refusal, Reply, Row, Rows};
 
 /// Whether two rows show the same.
 fn is_same_row(a: &Row, b: &Row) -> bool {
@@ -20,6 +20,14 @@ fn are_same_rows(a: &[Row], b: &[Row]) -> bool {
         }
     }
     place == b.len()
+}
+
+/// Whether two listings show the same rows.
+fn are_same_listings(a: &Rows, b: &Rows) -> bool {
+    match (a.read(), b.read()) {
+        (Ok(one), Ok(other)) => are_same_rows(one.as_slice(), other.as_slice()),
+        _ => false,
+    }
 }
 
 /// Whether two replies tell the same. The slot of a reference is its table's own matter.
@@ -56,7 +64,7 @@ pub fn is_same(a: &Reply, b: &Reply) -> bool {
                 used: all,
                 rows: others,
             },
-        ) => used == all && are_same_rows(rows.as_slice(), others.as_slice()),
+        ) => used == all && are_same_listings(rows, others),
         (Reply::Expired(count), Reply::Expired(other)) => count == other,
         _ => false,
     }

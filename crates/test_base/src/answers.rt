@@ -7,7 +7,7 @@ use crate::stored::{
 use std::alloc::AllocError;
 use std::cmp::Ordering;
 use stick_key::StickKey;
-use stick_table::{Cell, Event, Filter, Op, Refusal, Reply, Row, Ticket};
+use stick_table::{Cell, Event, Filter, Op, Refusal, Reply, Row, Rows, Ticket};
 use stored_data::{Act, Datum, Field};
 
 /// The keys are the numbers below this one.
@@ -302,10 +302,18 @@ impl Reckoning {
         }
     }
 
+    /// Whether a listing shows the entries that a filter means, in the order of their keys.
+    fn shows_meant(&self, filter: &Filter, rows: &Rows) -> bool {
+        match rows.read() {
+            Ok(reading) => self.are_rows(filter, reading.as_slice()),
+            Err(_) => false,
+        }
+    }
+
     fn is_listing(&self, filter: &Filter, reply: &Reply) -> bool {
         match reply {
             Reply::Rows { used, rows } => {
-                *used == self.entries.len() as u64 && self.are_rows(filter, rows.as_slice())
+                *used == self.entries.len() as u64 && self.shows_meant(filter, rows)
             }
             _ => false,
         }

@@ -3,7 +3,7 @@
 use crate::calls::{Answer, Answers};
 use crate::worked::{Keys, Shown, Tell, Told, head};
 use stick_key::StickKey;
-use stick_table::{Reply, Row, Ticket};
+use stick_table::{Reply, Row, Rows, Ticket};
 use stored_data::{Datum, Field};
 
 /// Whether a key is that of a host.
@@ -33,6 +33,14 @@ fn are_rows(keys: Keys, rows: &[Row], shown: &[Shown]) -> bool {
     place == shown.len()
 }
 
+/// Whether a listing shows that, row by row.
+fn is_listed(keys: Keys, rows: &Rows, shown: &[Shown]) -> bool {
+    match rows.read() {
+        Ok(reading) => are_rows(keys, reading.as_slice(), shown),
+        Err(_) => false,
+    }
+}
+
 /// Whether a reply tells that.
 pub fn is_told(keys: Keys, reply: &Reply, tell: Tell) -> bool {
     match (reply, tell) {
@@ -44,7 +52,7 @@ pub fn is_told(keys: Keys, reply: &Reply, tell: Tell) -> bool {
         (Reply::Cleared { removed, kept }, Tell::Cleared(gone, left)) => (*removed, *kept)
             == (gone, left),
         (Reply::Rows { used, rows }, Tell::Rows(count, shown)) => *used == count
-            && are_rows(keys, rows.as_slice(), shown),
+            && is_listed(keys, rows, shown),
         (Reply::Expired(count), Tell::Expired(wanted)) => *count == wanted,
         (Reply::Absent, Tell::Absent)
         | (Reply::NoRefs, Tell::NoRefs)

@@ -186,7 +186,7 @@ impl<'a, T: Table, J: Naming> Caller<'a, T, J> {
             .table
             .list(rt, self.alloc, &mut self.seat, now, &filter)
         {
-            Ok(Listing::Rows { rows, .. }) => Ok(rows.as_slice().len()),
+            Ok(Listing::Rows { rows, .. }) => Ok(rows.len()),
             Ok(Listing::NotStored(_)) => Ok(0),
             Err((_, refusal)) => Err(refusal),
         }

@@ -89,7 +89,10 @@ fn references(rows: &[Row]) -> u32 {
 /// How many references a table lists.
 fn listed(table: &mut PlainTable) -> Option<u32> {
     match table.step(&Event::List(0, Filter::Everything)) {
-        Ok(Reply::Rows { rows, .. }) => Some(references(rows.as_slice())),
+        Ok(Reply::Rows { rows, .. }) => match rows.read() {
+            Ok(reading) => Some(references(reading.as_slice())),
+            Err(_) => None,
+        },
         _ => None,
     }
 }

@@ -212,7 +212,7 @@ fn lists<J: Naming>(
     seat: &mut SharedSeat<J>,
 ) -> Result<bool, (u32, Refusal)> {
     match list(rt, alloc, table, seat, &Filter::Everything) {
-        Ok(Listing::Rows { used, rows }) => Ok(used == 1 && rows.as_slice().len() == 1),
+        Ok(Listing::Rows { used, rows }) => Ok(used == 1 && rows.len() == 1),
         Ok(Listing::NotStored(_)) => Ok(false),
         Err(refused) => Err(refused),
     }

@@ -65,5 +65,5 @@ pub(crate) fn list_rows(
         let refs = count_refs(tickets, &entry.0) as u32;
         rows.push(make_row(alloc, columns, clock, refs, &entry.0, &entry.1)?)?;
     }
-    Ok(Sequence::from_vec(rows))
+    Ok(Rows::from(Sequence::from_vec(rows)))
 }

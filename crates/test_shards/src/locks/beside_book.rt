@@ -53,7 +53,7 @@ struct Trial<J: Naming> {
 /// Whether two answers are the same.
 fn is_same(answer: &Result<Reply, Refusal>, other: &Result<Reply, Refusal>) -> bool {
     match (answer, other) {
-        (Ok(reply), Ok(other)) => same_reply(reply, other),
+        (Ok(reply), Ok(other)) => matches!(same_reply(reply, other), Ok(true)),
         (Err(refusal), Err(other)) => refusal == other,
         _ => false,
     }

@@ -6,7 +6,7 @@ ghost use Rattle.shard_book.specs.Total.{IsCounted};
 use base_sequence::Sequence;
 use shard_book::joined;
 use std::alloc::Global;
-use stick_table::Reply;
+use stick_table::{Reply, Rows};
 use stored_data::{Datum, Field};
 
 /// What the replies of two shards come to.
@@ -30,7 +30,7 @@ fn listing(alloc: Global) -> Reply
 {
     Reply::Rows {
         used: 1,
-        rows: Sequence::new(alloc),
+        rows: Rows::from(Sequence::new(alloc)),
     }
 }
 
@@ -44,7 +44,7 @@ fn not_stored() -> Reply
 /// Whether a reply lists no row of so many entries.
 fn lists(reply: &Option<Reply>, count: u64) -> bool {
     match reply {
-        Some(Reply::Rows { used, rows }) => *used == count && rows.as_slice().is_empty(),
+        Some(Reply::Rows { used, rows }) => *used == count && rows.len() == 0,
         _ => false,
     }
 }

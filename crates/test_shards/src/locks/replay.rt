@@ -29,7 +29,9 @@ pub fn replies_of(alloc: Global, book: &Book<PlainTable>) -> Result<Sequence<Rep
 
 /// Whether that is what was noted of a call.
 fn is_noted(note: &Receipt, shard: u32, call: &Recorded, reply: &Reply) -> bool {
-    note.shard == shard && call.is_of(&note.event) && same_reply(&note.reply, reply)
+    note.shard == shard
+        && call.is_of(&note.event)
+        && matches!(same_reply(&note.reply, reply), Ok(true))
 }
 
 /// The place of the next note of a shard, from this one on.

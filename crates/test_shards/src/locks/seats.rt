@@ -59,7 +59,9 @@ fn call(book: &mut Book<PlainTable>, seat: &mut Seat, event: Event) -> Result<Re
 
 /// Whether that is the receipt of a call.
 fn is_receipt(receipt: &Receipt, event: &Event, reply: &Reply) -> bool {
-    receipt.shard == 7 && same_event(&receipt.event, event) && same_reply(&receipt.reply, reply)
+    receipt.shard == 7
+        && same_event(&receipt.event, event)
+        && matches!(same_reply(&receipt.reply, reply), Ok(true))
 }
 
 /// Whether a seat that had so many receipts keeps that of a call behind them, if it keeps any.

@@ -3,13 +3,14 @@
 ghost use Rattle.std.specs.Prelude.{◌≡◌, ◌≤◌, ◌^◌};
 ghost use Rattle.test_calls.specs.Planned.{IsNamed};
 
+use base_sequence::Sequence;
 use shard_book::Book;
 use shard_locks::{Listing, Shards, SharedSeat};
 use shard_record::Naming;
 use std::alloc::Global;
 use std::marker::Brand;
 use std::sync::Wait;
-use stick_table::{Event, Filter, Op, PlainTable, Reply, Row, Rows, Table, Ticket};
+use stick_table::{Event, Filter, Op, PlainTable, Reply, Row, Table, Ticket};
 use stored_data::{Datum, Field};
 use test_calls::{
     Call, Held, OpenPlain, Outcome, Planned, Purse, Records, TWELVE, TablePlan, has, list, make,
@@ -43,15 +44,18 @@ fn plain_of(book: &Book<PlainTable>) -> Option<PlainTable> {
 }
 
 /// How many entries a table lists at 60 ms, and their rows.
-fn rows_of(table: &mut PlainTable) -> Option<(u64, Rows)> {
+fn rows_of(table: &mut PlainTable) -> Option<(u64, Sequence<Row>)> {
     match table.step(&Event::List(60, Filter::Everything)) {
-        Ok(Reply::Rows { used, rows }) => Some((used, rows)),
+        Ok(Reply::Rows { used, rows }) => match rows.into_sequence() {
+            Ok(rows) => Some((used, rows)),
+            Err(_) => None,
+        },
         _ => None,
     }
 }
 
 /// What a book lists at 60 ms.
-pub fn listed(book: &Book<PlainTable>) -> Option<(u64, Rows)> {
+pub fn listed(book: &Book<PlainTable>) -> Option<(u64, Sequence<Row>)> {
     let mut table = plain_of(book)?;
     rows_of(&mut table)
 }

@@ -62,7 +62,7 @@ fn replies_of(alloc: Global, book: &Book<PlainTable>) -> Option<Vec<Reply>> {
 
 /// Whether a caller noted its calls of a shard, and no others.
 fn noted(seat: u32, shard: u32, notes: &[Receipt], calls: &[Recorded], replies: &[Reply]) -> bool {
-    replies.len() == calls.len() && is_told(seat, shard, notes, calls, replies)
+    replies.len() == calls.len() && matches!(is_told(seat, shard, notes, calls, replies), Ok(true))
 }
 
 /// Whether a book's record, made again from the empty table, is what two callers noted of its shard, call by call.

@@ -14,8 +14,8 @@ are_told-requires g c =
     let b : BookState = c.args.book.now in
     ap length c.as_slice.ensures.value ∙ stored_run_length b.base (stored_of b.calls) c.in-Ok-replay.replies.items b.live c.in-Ok-replay.ensures ∙ length-stored_of b.calls ∙ sym (ap length c.calls.ensures.calls)
 
-pub returns-then-not-are_told-clause-err : goal.returns-then-not-are_told-clause-err
-returns-then-not-are_told-clause-err g c = (
+pub returns-then-not-told-clause-err : goal.returns-then-not-told-clause-err
+returns-then-not-told-clause-err g c = (
   refl,
   λ recorded.
       let b : BookState = c.args.book.now in
@@ -23,5 +23,5 @@ returns-then-not-are_told-clause-err g c = (
       let same = run_determined b.base (stored_of b.calls) seen.replies c.in-Ok-replay.replies.items b.live b.live seen.run c.in-Ok-replay.ensures in
       let Told : List Recorded × List Reply → Type 0 = λ p. AreTold c.args.shard (seats_of c.args.seats.now) p.0 p.1 in
       let told = subst Told (λ i. (sym c.calls.ensures.calls i, (same.0 ∙ sym c.as_slice.ensures.value) i)) seen.told in
-      false≢true (sym c.if-not-are_told.true ∙ c.are_told.ensures.1 told),
+      false≢true (sym c.if-not-told.true ∙ c.in-Ok-are_told.ensures.1 told),
 )

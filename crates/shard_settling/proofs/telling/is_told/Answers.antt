@@ -7,7 +7,7 @@ use Rattle.shard_book.specs.declared.receipt.Receipt.{Receipt}
 use Rattle.shard_book.specs.SeatState.{receipts_at}
 use Rattle.shard_settling.proofs.ToldLemmas.{all_told, at_place, heads_are, heads_join, none_left, one_left, some_reply, told-skip}
 use Rattle.shard_settling.proofs.telling.is_told.Goals as goal
-use Rattle.shard_settling.proofs.telling.is_told.Goals.{then-seat+else-next-receipts+else-not-is_of, else-seat}
+use Rattle.shard_settling.proofs.telling.is_told.Goals.{then-seat+else-next-receipts+in_ok-is_same+else-not-is_same, else-seat}
 
 pub returns-then-next-receipts : goal.returns-then-next-receipts
 returns-then-next-receipts c =
@@ -19,13 +19,13 @@ returns-then-next-receipts c =
       λ all. absurd (none_left c.args.shard c.args.seat cs rs c.args.receipts.now i c.loop-i.next c.index-calls-i.result r.0 c.loop-i-test.true c.index-calls-i.is r.1 r.2 (sym c.seat.ensures ∙ c.if-seat.true) c.if-next-receipts.true (c.loop-i.invariant.same.0 all)),
     )
 
-pub returns-then-not-is_of : goal.returns-then-not-is_of
-returns-then-not-is_of c =
+pub returns-then-not-is_same : goal.returns-then-not-is_same
+returns-then-not-is_same c =
     let x = c.index-receipts-next in
     let y = c.index-replies-i in
     let shard = c.loop-i.invariant.here x.result (at_place c.args.receipts.now c.loop-i.next x.result c.if-next-receipts.false x.is) in (
       λ f. absurd (false≢true f),
-      λ all. absurd (false≢true (sym c.if-not-is_of.true ∙ c.is_of.ensures.1 (heads_are c.args.shard c.args.seat c.args.calls.now c.args.replies.now c.args.receipts.now c.loop-i.i c.loop-i.next c.index-calls-i.result y.result x.result c.loop-i-test.true c.index-calls-i.is (omega (arith, c.requires, c.loop-i-test.true)) y.is (sym c.seat.ensures ∙ c.if-seat.true) c.if-next-receipts.false x.is shard (c.loop-i.invariant.same.0 all)).0)),
+      λ all. absurd (false≢true (sym c.if-not-is_same.true ∙ c.in_ok-is_same.ensures.1 (heads_are c.args.shard c.args.seat c.args.calls.now c.args.replies.now c.args.receipts.now c.loop-i.i c.loop-i.next c.index-calls-i.result y.result x.result c.loop-i-test.true c.index-calls-i.is (omega (arith, c.requires, c.loop-i-test.true)) y.is (sym c.seat.ensures ∙ c.if-seat.true) c.if-next-receipts.false x.is shard (c.loop-i.invariant.same.0 all)).0)),
     )
 
 pub loop-i-preserved : goal.loop-i-preserved
@@ -39,11 +39,11 @@ loop-i-preserved c =
     let At = λ (n : ℕ). receipts_at c.args.shard (drop n xs) in
     let was = c.loop-i.invariant in
     elim c.if-seat.branch [
-      | then-seat+else-next-receipts+else-not-is_of w ↦
+      | then-seat+else-next-receipts+in_ok-is_same+else-not-is_same w ↦
           let x = w.index-receipts-next in
           let y = w.index-replies-i in
           let shard = was.here x.result (at_place xs c.loop-i.next x.result w.if-next-receipts.false x.is) in
-          let agreed = w.is_of.ensures.0 (search rules) in
+          let agreed = w.in_ok-is_same.ensures.0 (search rules) in
           let later = w.next_at-next-then-seat.ensures in
           let below : i < length rs = omega (arith, c.requires, c.loop-i-test.true) in
           record {

@@ -1,4 +1,4 @@
-use Rattle.std.proofs.Common.{◌≡◌, None, sym, ap, ◌∙◌}
+use Rattle.std.proofs.Common.{sym, ap, ◌∙◌}
 use Rattle.stick_table.specs.Replies.{looked_reply}
 use Rattle.stick_model.specs.State.{State, key_of}
 use Rattle.stick_pooled.proofs.CountLemmas.{ticket-held, held-of}

@@ -1,10 +1,10 @@
-use Rattle.std.proofs.Common.{◌∙◌, rules}
-use Rattle.std.specs.Ordering.{is_lt}
+use Rattle.std.proofs.Common.{◌∙◌}
 use Rattle.std.specs.Cmp.Lexicographic.{nat_list_cmp_total}
 use Rattle.std.proofs.lemmas.List.MinMax.{ranks_by}
-use Rattle.std.proofs.lemmas.List.Sorted.{answers_always}
-use Rattle.stick_model.specs.Key.{Key, key_cmp}
+use Rattle.stick_model.specs.Gathered.{has_lower_key, in_key_order}
+use Rattle.stick_model.specs.Key.{Key}
 use Rattle.stick_model.specs.declared.rows.Row.{Row}
+use Rattle.stick_model.proofs.OrderLemmas.{order-moves, order-rises}
 use Rattle.stick_pooled.proofs.RowOrderLemmas.{rows-sorted}
 use Rattle.stick_pooled.proofs.listing.list_rows.Goals as goal
 
@@ -12,6 +12,7 @@ pub returns : goal.returns
 returns c =
     let key : Row → Key = λ row. row.key in
     let spec = c.args.spec.now in
-    c.from_vec.ensures
-    ∙ rows-sorted spec.columns spec.expire c.args.clock c.args.choice.now c.args.store.now c.in_ok-rows.rows.items c.sort_unstable_by.new.self.items c.requires.stock c.in_ok-rows.ensures c.sort_unstable_by.ensures.permutation
-    (c.sort_unstable_by.ensures.sorted (λ (a b : Row). is_lt (key_cmp a.key b.key)) (ranks_by nat_list_cmp_total key) (answers_always _ _ _ (λ f a r g h. search rules)))
+    let rows = c.in_ok-rows.rows.rows in
+    c.from.ensures
+    ∙ rows-sorted spec.columns spec.expire c.args.clock c.args.choice.now c.args.store.now rows (in_key_order rows) c.requires.stock c.in_ok-rows.ensures
+    (order-moves has_lower_key rows) (order-rises has_lower_key (ranks_by nat_list_cmp_total key) rows)

@@ -1,5 +1,4 @@
 use Rattle.std.proofs.Common.{◌<◌, ◌≤◌, sym, subst, ◌∙◌, ap, not}
-use Rattle.stick_pooled.specs.Space.{IsRoomy}
 use Rattle.stick_pooled.proofs.RoomLemmas.{roomy-below, full-kept, full-tracked, roomy-purged, none-from, some-from}
 use Rattle.stick_pooled.proofs.room.make_room.Goals as goal
 

@@ -1,5 +1,4 @@
 use Rattle.std.proofs.Common.{◌≡◌, ◌+◌, sym, subst, ◌∙◌, arith}
-use Rattle.stick_pooled.specs.Stock.{Stock}
 use Rattle.stick_pooled.specs.Space.{IsPurged}
 use Rattle.stick_pooled.proofs.RoomLemmas.{AreGone, none-gone, one-gone, purged-all, purged-early}
 use Rattle.stick_pooled.proofs.room.purge_oldest.Goals as goal

@@ -1,6 +1,4 @@
-use Rattle.std.proofs.Common.{◌≡◌, IsSome, subst, sym, ap, ◌∙◌}
-use Rattle.entry_pool.specs.Contents.{find}
-use Rattle.entry_pool.specs.declared.slot_handle.Handle.{Handle}
+use Rattle.std.proofs.Common.{IsSome, subst, sym, ap, ◌∙◌}
 use Rattle.stick_pooled.specs.Tickets.{entry_of}
 use Rattle.stick_pooled.proofs.PlaceLemmas.{find-is}
 use Rattle.stick_pooled.proofs.ticket_book.TicketBook.entry.Goals as goal

@@ -1,5 +1,5 @@
 use Rattle.std.proofs.Common.{◌≡◌, take}
-use Rattle.stick_model.proofs.equal_rows.same_rows.Given as goal
+use Rattle.stick_model.proofs.equal_rows.are_same.Given as goal
 
 abbrev pub invariant-loop-place : goal.invariant-loop-place
 invariant-loop-place l = take l.place l.rows ≡ take l.place l.others

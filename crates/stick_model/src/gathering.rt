@@ -1,0 +1,187 @@
+//! Rows as a table gathers them under its lock: packed, in any order. `listed_rows` makes rows of them, behind the lock.
+
+ghost use Rattle.std.specs.Prelude.{◌≡◌, ◌+◌, ◌≤◌, ◌++◌, length, IfOk, vec_len, vec_capacity};
+ghost use Rattle.stored_data.specs.Words.{fields_in, width as specified_width};
+ghost use Rattle.stick_model.specs.Gathered.{AreCut, row_with, rows_in};
+
+use crate::rows::{Cell, Row};
+use base_sequence::{NoMemory, Sequence};
+use std::alloc::Global;
+use std::marker::Model;
+use stick_key::StickKey;
+use stored_data::{StoredSet, words};
+
+/// What is gathered of an entry beside its key and its data.
+#[derive(Clone, Copy)]
+struct Head {
+    /// How many bytes its key has.
+    size: u32,
+    refs: u32,
+    left: u64,
+}
+
+/// Rows as a table gathers them, in any order: of each entry the key's bytes, the references, the time left, and the words of its
+/// data. What they show is reckoned later. Contracts see the columns, the moment that is shown, and the rows so far.
+#[derive(Drop)]
+pub struct Gathering {
+    columns: StoredSet,
+    clock: u64,
+    heads: Vec<Head>,
+    bytes: Vec<u8>,
+    words: Vec<u64>,
+}
+
+impl Model for Gathering {
+    ghost use Rattle.stored_data.specs.Words.{width as specified_width};
+    ghost use Rattle.stick_model.specs.Gathered.{AreCut, Gathered, gathered, rows_in};
+
+    ghost Value = { Gathered };
+
+    ghost view = { λ g. gathered g.columns g.clock (rows_in g.columns g.clock g.heads.items g.bytes.items g.words.items) };
+
+    ghost invariant = { λ g. AreCut (specified_width g.columns) g.heads.items g.bytes.items g.words.items };
+}
+
+// Adds items for which there is room.
+#[inline(always)]
+fn append<T: Copy>(list: &mut Vec<T>, more: &[T])
+    requires { vec_len list.old + length more.now ≤ vec_capacity list.old }
+    ensures { list.new.items ≡ list.old.items ++ more.now }
+{
+    match list.extend_from_slice(more) {
+        Ok(()) => {}
+        Err(_) => unreachable!(),
+    }
+}
+
+/// The row of a key with these words.
+fn unpack_row(
+    alloc: Global,
+    columns: &StoredSet,
+    clock: u64,
+    head: &Head,
+    key: &[u8],
+    row: &[u64],
+) -> Result<Row, NoMemory>
+    requires { length row.now ≡ specified_width columns.now }
+    ensures { IfOk result (λ made. made ≡ row_with columns.now clock key.now head.now.refs head.now.left (fields_in columns.now row.now)) }
+{
+    let mut cells = Vec::with_capacity(alloc, columns.fields().len())?;
+    for field in columns.fields() {
+        let shown = words::get(columns.columns(), row, *field, clock);
+        cells.push(Cell {
+            field: *field,
+            value: shown.unwrap_or(u64::from(head.refs)),
+        })?;
+    }
+    Ok(Row {
+        key: StickKey::from_bytes(alloc, key)?,
+        refs: head.refs,
+        left: head.left,
+        cells: Sequence::from_vec(cells),
+    })
+}
+
+/// The rows of these heads, in their order.
+fn unpack(
+    alloc: Global,
+    columns: &StoredSet,
+    clock: u64,
+    heads: &[Head],
+    bytes: &[u8],
+    words: &[u64],
+) -> Result<Vec<Row>, NoMemory>
+    requires { AreCut (specified_width columns.now) heads.now bytes.now words.now }
+    ensures { IfOk result (λ rows. rows.items ≡ rows_in columns.now clock heads.now bytes.now words.now) }
+{
+    let wide = words::width(columns.columns());
+    let mut keys_left = bytes;
+    let mut words_left = words;
+    let mut rows = Vec::with_capacity(alloc, heads.len())?;
+    for head in heads {
+        let (key, later_keys) = keys_left.split_at(head.size as usize);
+        let (row, later_words) = words_left.split_at(wide);
+        rows.push(unpack_row(alloc, columns, clock, head, key, row)?)?;
+        keys_left = later_keys;
+        words_left = later_words;
+    }
+    Ok(rows)
+}
+
+impl Gathering {
+    ghost use Rattle.std.specs.Prelude.{◌≡◌, [], length, IfOk, OnOk, OnErr};
+    ghost use Rattle.stored_data.specs.Words.{fields_in, width as specified_width};
+    ghost use Rattle.stick_model.specs.Gathered.{gathered, in_key_order, row_with, with_row};
+
+    /// No row yet, of a table with these columns, as it is at a moment, with room for so many rows.
+    pub fn new(
+        alloc: Global,
+        columns: &StoredSet,
+        clock: u64,
+        room: u32,
+    ) -> Result<Gathering, NoMemory>
+        ensures { IfOk result (λ g. g ≡ gathered columns.now clock []) }
+    {
+        let columns = columns.copy()?;
+        let wide = words::width(columns.columns());
+        let Some(all) = (room as usize).checked_mul(wide) else {
+            return Err(NoMemory);
+        };
+        Ok(Gathering {
+            columns,
+            clock,
+            heads: Vec::with_capacity(alloc, room as usize)?,
+            bytes: Vec::new(alloc),
+            words: Vec::with_capacity(alloc, all)?,
+        })
+    }
+
+    /// Adds the row of a key with so many references, so many ms left, and these words of its data. Where a growth is refused,
+    /// nothing changes.
+    #[inline(always)]
+    pub fn push(
+        &mut self,
+        key: &StickKey,
+        refs: u32,
+        left: u64,
+        words: &[u64],
+    ) -> Result<(), NoMemory>
+        requires { length words.now ≡ specified_width self.old.columns }
+        ensures ok { OnOk result (self.new ≡ with_row self.old (row_with self.old.columns self.old.clock key.now refs left (fields_in self.old.columns words.now))) }
+        ensures err { OnErr result (self.new ≡ self.old) }
+    {
+        let bytes = key.bytes();
+        let Ok(size) = u32::try_from(bytes.len()) else {
+            return Err(NoMemory);
+        };
+        self.bytes.reserve(bytes.len())?;
+        self.words.reserve(words.len())?;
+        self.heads.push(Head { size, refs, left })?;
+        append(&mut self.bytes, bytes);
+        append(&mut self.words, words);
+        Ok(())
+    }
+
+    /// How many rows there are.
+    pub(crate) fn len(&self) -> usize
+        ensures { result ≡ length self.now.rows }
+    {
+        self.heads.as_slice().len()
+    }
+
+    /// The rows as they are shown, in the order of their keys, where there is memory for them all.
+    pub(crate) fn to_sequence(&self) -> Result<Sequence<Row>, NoMemory>
+        ensures { IfOk result (λ rows. rows ≡ in_key_order self.now.rows) }
+    {
+        let mut rows = unpack(
+            *self.bytes.allocator(),
+            &self.columns,
+            self.clock,
+            self.heads.as_slice(),
+            self.bytes.as_slice(),
+            self.words.as_slice(),
+        )?;
+        rows.sort_by(|a: &Row, b: &Row| a.key.cmp(&b.key))?;
+        Ok(Sequence::from_vec(rows))
+    }
+}
