@@ -176,7 +176,8 @@ fn list_rows(
     ensures { IfOk result (λ rows. rows ≡ values_of (listed_entries spec.now.columns spec.now.expire clock choice.now store.now.slots)) }
 {
     let rows = gather_rows(alloc, spec, store, clock, choice, used)?;
-    Ok(Rows::from(rows))
+    let listed = Rows::gathered(alloc, rows)?;
+    Ok(listed)
 }
 
 impl StickTable {
