@@ -1,12 +1,12 @@
 -- Decimal numbers: what `number_of` says in std's words.
-use Rattle.std.proofs.Common.{◌≡◌, ℕ, ◌+◌, ◌-◌, ◌*◌, ◌<◌, ◌≤◌, ◌^◌, Bool, true, false, ◌&&◌, nat_lt, Some, None, List, [], ◌∷◌, length, drop, get_or, arith, refl, sym, ap, ◌∙◌}
+use Rattle.std.proofs.Common.{◌≡◌, ℕ, ◌+◌, ◌-◌, ◌*◌, ◌/◌, ◌%◌, ◌<◌, ◌≤◌, ◌^◌, Bool, true, false, ◌&&◌, nat_lt, Some, None, List, [], ◌∷◌, length, drop, get_or, arith, refl, sym, ap, ◌∙◌, length-append}
 use Rattle.std.specs.Char.{digit_value, is_ascii_digit}
 use Rattle.std.specs.Str.{all_ascii_digits}
 use Rattle.std.specs.Str.Parse.{IsNumeral, AllDigits, digits_value, digits_value_after}
 use Rattle.std.proofs.lemmas.Bool.Decides.{nat_tests}
 use Rattle.std.proofs.lemmas.List.{drop_more, at_drop_all}
 use Rattle.std.specs.Prelude.{MatchOption, if◌then◌else◌, decimal}
-use Rattle.std.proofs.lemmas.Fmt.{decimal_is_IsNumeral}
+use Rattle.std.proofs.lemmas.Fmt.{decimal_is_IsNumeral, decimal_step, length-decimal-le}
 use Rattle.std.proofs.lemmas.Str.Parse.{numerals_by_value, tells_all_ascii_digits}
 use Rattle.base_lines.specs.Words.{is_some_text}
 use Rattle.base_lines.specs.Number.{number_of}
@@ -93,3 +93,11 @@ pub number_of-decimal : (n : ℕ) → n < 2 ^ 64 → number_of (decimal n) ≡ S
 number_of-decimal n fits =
     let numeral = decimal_is_IsNumeral n fits in
     number_of-digits (decimal n) n numeral.0.0 (are_digits (decimal n) numeral.0.1) numeral.1 fits
+
+-- one digit less
+pub tenth_shorter : (n : ℕ) → 10 ≤ n → n < 2 ^ 64 → length (decimal (n / 10)) + 1 ≡ length (decimal n)
+tenth_shorter n big small = let step = ap length (decimal_step n big small) in omega (arith, step, length-append (decimal (n / 10)) ((48 + n % 10) ∷ []))
+
+-- no number of 64 bits has more digits
+pub twenty_digits : (n : ℕ) → n < 2 ^ 64 → length (decimal n) ≤ 20
+twenty_digits n small = length-decimal-le 20 n (omega arith) (omega arith) small

@@ -1,7 +1,7 @@
 //! Decimal numbers, read and printed; readers of configurations, commands and scripts call it, and printers of answers and of
 //! adopted files.
 
-ghost use Rattle.std.specs.Prelude.{◌≡◌, ◌+◌, ◌*◌, ◌<◌, ◌^◌, ◌++◌, OnOk, OnErr, decimal};
+ghost use Rattle.std.specs.Prelude.{◌≡◌, ◌+◌, ◌*◌, ◌<◌, ◌≤◌, ◌^◌, ◌++◌, OnOk, OnErr, decimal, length, vec_len, vec_capacity};
 ghost use Rattle.std.specs.Option.{SomeIff};
 ghost use Rattle.base_lines.specs.Number.{number_of};
 
@@ -33,12 +33,29 @@ pub fn read_number(text: &[u8]) -> Option<u64>
     Some(number)
 }
 
-/// Appends the decimal text of a number, without leading zeros.
+/// The most digits that a number of 64 bits has.
+const MOST_DIGITS: usize = 20;
+
+/// Appends the decimal text of a number, for which there is room.
+fn push_digits(text: &mut Vec<u8>, number: u64)
+    requires { vec_len text.old + length (decimal number) ≤ vec_capacity text.old }
+    ensures items { text.new.items ≡ text.old.items ++ decimal number }
+    ensures room { vec_capacity text.new ≡ vec_capacity text.old }
+{
+    if number < 10 {
+        text.push_reserved(b'0' + number as u8);
+        return;
+    }
+    push_digits(text, number / 10);
+    text.push_reserved(b'0' + (number % 10) as u8);
+}
+
+/// Appends the decimal text of a number, without leading zeros. It takes no other memory than the text's own.
 pub fn push_decimal(text: &mut Vec<u8>, number: u64) -> Result<(), NoMemory>
     ensures ok { OnOk result (text.new.items ≡ text.old.items ++ decimal number) }
     ensures err { OnErr result (text.new.items ≡ text.old.items) }
 {
-    let digits = number.to_string(*text.allocator())?;
-    text.extend_from_slice(digits.as_bytes())?;
+    text.reserve(MOST_DIGITS)?;
+    push_digits(text, number);
     Ok(())
 }
