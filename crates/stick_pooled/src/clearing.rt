@@ -11,7 +11,7 @@ ghost use Rattle.stick_pooled.specs.Seen.{is_meant_as};
 
 use crate::StickTable;
 use crate::entry_store::Store;
-use crate::filters::{matches, not_stored};
+use crate::filters::matches;
 use stick_model::{Filter, Reply};
 
 /// How many entries a filter means of those that references hold.
@@ -74,7 +74,7 @@ impl StickTable {
         ensures base { self.new.base ≡ self.old.base }
     {
         self.begin(now);
-        match not_stored(&self.spec.columns, choice) {
+        match choice.not_stored(&self.spec.columns) {
             Some(field) => Reply::NotStored(field),
             None => self.clear_matching(choice),
         }

@@ -2,44 +2,13 @@
 ghost use Rattle.std.specs.Prelude.{◌≡◌, ◌<◌, ◌^◌, ◌&&◌, Some, IfSome, IfNone, IsSome, false};
 ghost use Rattle.std.specs.Option.{option_map_or};
 ghost use Rattle.stick_pooled.specs.Stock.{Held, held_at};
-ghost use Rattle.stick_model.specs.Filters.{compares as compares_by, not_stored as not_stored_in};
 ghost use Rattle.stick_pooled.specs.Seen.{is_kept, is_meant, is_meant_as, IsLive, IsGone};
 
 use crate::entry_store::Store;
 use crate::expiry::is_alive;
 use std::cmp::Ordering;
 use stick_key::StickKey;
-use stick_model::{Filter, Op};
-use stored_data::{Field, StoredSet};
-
-fn compares(op: Op, a: u64, b: u64) -> bool
-    ensures { result ≡ compares_by op a b }
-{
-    match op {
-        Op::Eq => a == b,
-        Op::Ne => a != b,
-        Op::Le => a <= b,
-        Op::Ge => a >= b,
-        Op::Lt => a < b,
-        Op::Gt => a > b,
-    }
-}
-
-/// The field that a filter compares and the table doesn't store.
-pub(crate) fn not_stored(columns: &StoredSet, choice: &Filter) -> Option<Field>
-    ensures { result ≡ not_stored_in columns.now choice.now }
-{
-    match choice {
-        Filter::Compare(field, _, _) => {
-            if columns.stores(*field) {
-                None
-            } else {
-                Some(*field)
-            }
-        }
-        Filter::Everything | Filter::Nothing | Filter::Key(_) => None,
-    }
-}
+use stick_model::Filter;
 
 /// Whether a filter means the entry of a slot that has one, by the values that its row shows at this moment in ms.
 fn means(store: &Store, clock: u64, choice: &Filter, slot: u32) -> bool
@@ -53,7 +22,7 @@ fn means(store: &Store, clock: u64, choice: &Filter, slot: u32) -> bool
         Filter::Compare(field, op, bound) => {
             let refs = store.entry(slot).refs;
             let value = store.get(slot, *field, clock).unwrap_or(u64::from(refs));
-            compares(*op, value, *bound)
+            op.compares(value, *bound)
         }
     }
 }

@@ -5,7 +5,7 @@ ghost use Rattle.stick_model.specs.Limits.{IsTableEvent};
 ghost use Rattle.stick_model.specs.Refusals.{has_life, takes_memory};
 ghost use Rattle.stick_model.specs.Step.{asks_rows, is_out, after, begun, clear as reply_to_clear, clear_where as reply_to_clear_where, put as reply_to_put, put_allowed as reply_to_put_allowed, expire as reply_to_expire, count as reply_to_count, release as reply_to_release};
 
-use crate::contents::filters::{clear_matching, not_stored};
+use crate::contents::filters::clear_matching;
 use crate::contents::pairs::{put_fault, put_pairs};
 use crate::contents::records::{act_at, drop_dead, find, live_values, remove_record, touch};
 use crate::contents::room::store;
@@ -123,7 +123,7 @@ impl Contents {
         ensures { reply_to_clear_where (begun self.old now) choice.now ≡ (result, self.new) }
     {
         self.begin(now);
-        match not_stored(&self.spec.columns, choice) {
+        match choice.not_stored(&self.spec.columns) {
             Some(field) => Reply::NotStored(field),
             None => clear_matching(&mut self.records, &self.tickets, self.clock, choice),
         }

@@ -1,13 +1,12 @@
 //! Which records a filter means; `changes` clears by it, and `rows` lists.
 ghost use Rattle.std.specs.Prelude.{◌≡◌, ◌<◌, ◌^◌, filter, not, count_by, true, false};
 ghost use Rattle.stick_model.specs.declared.replies.Reply.TheVariants.{Cleared};
-ghost use Rattle.stick_model.specs.Filters.{passes as passes_filter, not_stored as not_stored_in, compares as compares_by, is_matched};
+ghost use Rattle.stick_model.specs.Filters.{passes as passes_filter, is_matched};
 
 use crate::contents::records::is_same;
 use crate::contents::tickets::{count_refs, is_tracked};
 use stick_key::StickKey;
-use stick_model::{Filter, Op, Record, Reply, Ticket};
-use stored_data::{Field, StoredSet};
+use stick_model::{Filter, Record, Reply, Ticket};
 
 /// Whether a filter means an entry, by the values that its row shows at this moment in ms.
 pub(crate) fn passes(
@@ -29,37 +28,8 @@ pub(crate) fn passes(
                 .values
                 .get(*field, clock)
                 .unwrap_or(count_refs(tickets, &entry.0) as u64);
-            compares(*op, value, *bound)
+            op.compares(value, *bound)
         }
-    }
-}
-
-fn compares(op: Op, a: u64, b: u64) -> bool
-    ensures { result ≡ compares_by op a b }
-{
-    match op {
-        Op::Eq => a == b,
-        Op::Ne => a != b,
-        Op::Le => a <= b,
-        Op::Ge => a >= b,
-        Op::Lt => a < b,
-        Op::Gt => a > b,
-    }
-}
-
-/// The field that a filter compares and the table doesn't store.
-pub(crate) fn not_stored(columns: &StoredSet, choice: &Filter) -> Option<Field>
-    ensures { result ≡ not_stored_in columns.now choice.now }
-{
-    match choice {
-        Filter::Compare(field, _, _) => {
-            if columns.stores(*field) {
-                None
-            } else {
-                Some(*field)
-            }
-        }
-        Filter::Everything | Filter::Nothing | Filter::Key(_) => None,
     }
 }
 

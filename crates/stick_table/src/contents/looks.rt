@@ -4,7 +4,6 @@ ghost use Rattle.stick_model.specs.Step.{begun, get as reply_to_get, look as rep
 ghost use Rattle.stick_table.specs.Replies.{shown_reply, looked_reply, listed_reply};
 
 use crate::contents::Contents;
-use crate::contents::filters::not_stored;
 use crate::contents::records::{count_live, find_live};
 use crate::contents::rows::{list_rows, make_row};
 use crate::contents::tickets::{count_refs, find_key};
@@ -44,7 +43,7 @@ impl Contents {
         requires { clock < 2 ^ 62 }
         ensures { IfOk result (λ reply. reply ≡ listed_reply self.now clock choice.now) }
     {
-        match not_stored(&self.spec.columns, choice) {
+        match choice.not_stored(&self.spec.columns) {
             Some(field) => Ok(Reply::NotStored(field)),
             None => {
                 let used = count_live(&self.records, &self.tickets, clock) as u64;
