@@ -8,4 +8,4 @@ use Rattle.stick_model.specs.declared.listed_rows.Form.TheVariants.{Shown, Packe
 -- the rows, in the order in which they are shown
 abbrev pub rows_of : Form → List Row
 rows_of (Shown rows) = rows
-rows_of (Packed g) = in_key_order g.rows
+rows_of (Packed g) = in_key_order g.value.rows

@@ -14,8 +14,8 @@ use std::marker::Model;
 enum Form {
     /// As they are shown.
     Shown(Sequence<Row>),
-    /// As a table gathered them.
-    Packed(Gathering),
+    /// As a table gathered them, in memory of their own: a reply that shows no rows stays small.
+    Packed(Box<Gathering>),
 }
 
 /// The rows of a listing. Contracts see them as they are shown, in their order. Those that a table gathered are seen in the order
@@ -42,16 +42,6 @@ impl From<Sequence<Row>> for Rows {
     fn from(sequence: Sequence<Row>) -> Rows {
         Rows {
             form: Form::Shown(sequence),
-        }
-    }
-}
-
-impl From<Gathering> for Rows {
-    ghost from_gives = { λ g rows. rows ≡ in_key_order g.rows };
-
-    fn from(gathering: Gathering) -> Rows {
-        Rows {
-            form: Form::Packed(gathering),
         }
     }
 }
@@ -92,6 +82,18 @@ impl<'a> Reading<'a> {
 impl Rows {
     ghost use Rattle.std.specs.Prelude.{◌≡◌, length, IfOk};
     ghost use Rattle.stick_model.specs.Reading.{rows_read};
+
+    /// The rows that a table gathered.
+    pub fn gathered(alloc: Global, gathering: Gathering) -> Result<Rows, NoMemory>
+        ensures { IfOk result (λ rows. rows ≡ in_key_order gathering.rows) }
+    {
+        match Box::new(alloc, gathering) {
+            Ok(gathering) => Ok(Rows {
+                form: Form::Packed(gathering),
+            }),
+            Err(_) => Err(NoMemory),
+        }
+    }
 
     /// How many rows there are.
     pub fn len(&self) -> usize

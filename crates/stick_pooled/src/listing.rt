@@ -14,7 +14,7 @@ ghost use Rattle.stick_pooled.specs.Seen.{is_kept, listed_entries, listed_in, li
 use crate::StickTable;
 use crate::entry_store::Store;
 use crate::expiry::is_alive;
-use crate::filters::{is_listed, live_slot, not_stored};
+use crate::filters::{is_listed, live_slot};
 use crate::rows::left_at;
 use base_sequence::NoMemory;
 use std::alloc::Global;
@@ -58,10 +58,7 @@ fn gather_row(
 {
     let entry = store.entry(slot);
     let left = left_at(expire, entry.moment, clock);
-    match rows.push(store.key(slot), entry.refs, left, store.words(slot)) {
-        Ok(()) => Ok(()),
-        Err(refused) => Err(refused),
-    }
+    rows.push(store.key(slot), entry.refs, left, store.words(slot))
 }
 
 /// Adds the row of a slot's entry, where it has one that is there when the clock has come to this moment, and that a filter means.
@@ -83,10 +80,7 @@ fn gather_slot(
     if !is_listed(store, expire, clock, choice, slot) {
         return Ok(());
     }
-    match gather_row(expire, store, clock, slot, rows) {
-        Ok(()) => Ok(()),
-        Err(refused) => Err(refused),
-    }
+    gather_row(expire, store, clock, slot, rows)
 }
 
 /// The rows of what is listed, in the order of the slots, found by a walk over them all. So many rows have their place first.
@@ -176,7 +170,8 @@ fn list_rows(
     ensures { IfOk result (λ rows. rows ≡ values_of (listed_entries spec.now.columns spec.now.expire clock choice.now store.now.slots)) }
 {
     let rows = gather_rows(alloc, spec, store, clock, choice, used)?;
-    Ok(Rows::from(rows))
+    let listed = Rows::gathered(alloc, rows)?;
+    Ok(listed)
 }
 
 impl StickTable {
@@ -186,7 +181,7 @@ impl StickTable {
         requires limit { clock < 2 ^ 62 }
         ensures { IfOk result (λ reply. reply ≡ listed_reply self.now.now clock choice.now) }
     {
-        match not_stored(&self.spec.columns, choice) {
+        match choice.not_stored(&self.spec.columns) {
             Some(field) => Ok(Reply::NotStored(field)),
             None => {
                 let used = count_live(&self.store, self.spec.expire, clock);

@@ -13,6 +13,6 @@ returns c =
     let key : Row → Key = λ row. row.key in
     let spec = c.args.spec.now in
     let rows = c.in_ok-rows.rows.rows in
-    c.from.ensures
+    c.in_ok-listed.ensures
     ∙ rows-sorted spec.columns spec.expire c.args.clock c.args.choice.now c.args.store.now rows (in_key_order rows) c.requires.stock c.in_ok-rows.ensures
     (order-moves has_lower_key rows) (order-rises has_lower_key (ranks_by nat_list_cmp_total key) rows)
