@@ -4,6 +4,7 @@
 mod clearing;
 mod entries;
 mod entry;
+mod entry_images;
 mod entry_store;
 mod events;
 mod expiry;
