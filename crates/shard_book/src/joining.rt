@@ -5,18 +5,17 @@ ghost use Rattle.stick_model.specs.Step.{shows_rows};
 ghost use Rattle.shard_book.specs.Total.{IsCounted, IsShown, both as specified_both, together, total};
 
 use crate::order::in_key_order;
-use base_sequence::NoMemory;
+use base_sequence::{NoMemory, Sequence};
 use stick_model::{Reply, Rows};
 
 /// The rows of two shards.
 fn joined_rows(rows: Rows, others: Rows) -> Result<Rows, NoMemory>
     ensures { IfOk result (λ all. all ≡ rows ++ others) }
 {
-    let mut all = rows.into_sequence()?;
-    for row in others.into_sequence()?.into_vec() {
-        all.push(row)?;
-    }
-    Ok(Rows::from(all))
+    let mut all = rows.into_sequence()?.into_vec();
+    let mut more = others.into_sequence()?.into_vec();
+    all.append(&mut more)?;
+    Ok(Rows::from(Sequence::from_vec(all)))
 }
 
 /// The replies of two shards together.
