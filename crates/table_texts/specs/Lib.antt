@@ -6,3 +6,4 @@ pub mod Seen
 pub mod Bytes
 pub mod Examples
 pub mod Text
+pub mod Labels

@@ -87,7 +87,7 @@ fn listing(
 {
     let mut text = Vec::new(alloc);
     push_header(&mut text, table, spec.kind, u64::from(spec.size), used)?;
-    push_rows(alloc, &mut text, spec.kind, spec.columns.columns(), rows)?;
+    push_rows(alloc, &mut text, spec.kind, &spec.columns, rows)?;
     text.extend_from_slice(b"\n")?;
     Ok(Answer::Listing(text))
 }

@@ -9,6 +9,7 @@ mod answer_text;
 mod field_name;
 mod form;
 mod header;
+mod labels;
 mod message;
 mod request;
 mod rows;

@@ -1,69 +1,49 @@
 //! The rows of a listing, each a line; `answer_text` calls it.
 
-ghost use Rattle.std.specs.Prelude.{◌≡◌, [], ◌∷◌, ◌++◌, OnOk, decimal};
+ghost use Rattle.std.specs.Prelude.{◌≡◌, ◌++◌, All, OnOk};
 ghost use Rattle.std.specs.List.{flat_map};
-ghost use Rattle.table_texts.specs.Text.{period_of as specified_period, field_text, cell_text, row_text};
+ghost use Rattle.stick_key.specs.Dotted.{dotted};
+ghost use Rattle.stick_key.specs.KeyText.{text as key_text};
+ghost use Rattle.table_texts.specs.Labels.{IsLabel};
+ghost use Rattle.table_texts.specs.Text.{row_text};
 
+use crate::labels::{Label, labels_of, push_cells};
 use base_lines::push_decimal;
 use base_sequence::NoMemory;
 use std::alloc::Global;
-use stick_key::{KeyType, write_key};
-use stick_model::{Cell, Row};
-use stored_data::{Column, Datum, Field, name};
+use stick_key::{KeyType, StickKey, write_key};
+use stick_model::Row;
+use stored_data::{Column, StoredSet};
 
-/// The period of a datum's column in ms, 0 where it has none.
-fn period_of(columns: &[Column], datum: Datum) -> u32
-    ensures { result ≡ specified_period columns.now datum }
+/// Appends the text of an IPv4 address.
+fn push_dotted(text: &mut Vec<u8>, address: [u8; 4]) -> Result<(), NoMemory>
+    ensures { OnOk result (text.new.items ≡ text.old.items ++ dotted address) }
 {
-    for column in columns {
-        if column.datum.place() == datum.place() {
-            return column.period;
-        }
-    }
-    0
-}
-
-/// Appends a number in brackets of some kind.
-fn push_enclosed(text: &mut Vec<u8>, opening: u8, number: u32, closing: u8) -> Result<(), NoMemory>
-    ensures { OnOk result (text.new.items ≡ text.old.items ++ opening ∷ decimal number ++ closing ∷ []) }
-{
-    text.push(opening)?;
-    push_decimal(text, u64::from(number))?;
-    text.push(closing)?;
+    let [first, second, third, fourth] = address;
+    push_decimal(text, u64::from(first))?;
+    text.push(b'.')?;
+    push_decimal(text, u64::from(second))?;
+    text.push(b'.')?;
+    push_decimal(text, u64::from(third))?;
+    text.push(b'.')?;
+    push_decimal(text, u64::from(fourth))?;
     Ok(())
 }
 
-/// Appends a field's name: that of a rate with its period, that of an element with its index.
-fn push_field(text: &mut Vec<u8>, columns: &[Column], field: Field) -> Result<(), NoMemory>
-    ensures { OnOk result (text.new.items ≡ text.old.items ++ field_text columns.now field) }
+/// Appends the text of a key. That of an IPv4 address takes no memory of its own.
+fn push_key(
+    alloc: Global,
+    text: &mut Vec<u8>,
+    kind: KeyType,
+    key: &StickKey,
+) -> Result<(), NoMemory>
+    ensures { OnOk result (text.new.items ≡ text.old.items ++ key_text kind key.now) }
 {
-    text.extend_from_slice(name(field.datum).as_bytes())?;
-    if field.datum.is_rate() {
-        return push_enclosed(text, b'(', period_of(columns, field.datum), b')');
+    if let (KeyType::Ip, Some(address)) = (kind, key.bytes().as_array()) {
+        return push_dotted(text, *address);
     }
-    if field.datum.is_array() {
-        return push_enclosed(text, b'[', field.index, b']');
-    }
-    Ok(())
-}
-
-/// Appends a field and its value.
-fn push_cell(text: &mut Vec<u8>, columns: &[Column], cell: &Cell) -> Result<(), NoMemory>
-    ensures { OnOk result (text.new.items ≡ text.old.items ++ cell_text columns.now cell.now) }
-{
-    text.extend_from_slice(b" ")?;
-    push_field(text, columns, cell.field)?;
-    text.extend_from_slice(b"=")?;
-    push_decimal(text, cell.value)?;
-    Ok(())
-}
-
-fn push_cells(text: &mut Vec<u8>, columns: &[Column], cells: &[Cell]) -> Result<(), NoMemory>
-    ensures { OnOk result (text.new.items ≡ text.old.items ++ flat_map (cell_text columns.now) cells.now) }
-{
-    for cell in cells {
-        push_cell(text, columns, cell)?;
-    }
+    let printed = write_key(alloc, kind, key)?;
+    text.extend_from_slice(&printed)?;
     Ok(())
 }
 
@@ -73,34 +53,36 @@ fn push_row(
     text: &mut Vec<u8>,
     kind: KeyType,
     columns: &[Column],
+    labels: &[Label],
     row: &Row,
 ) -> Result<(), NoMemory>
+    requires { All (IsLabel columns.now) labels.now }
     ensures { OnOk result (text.new.items ≡ text.old.items ++ row_text kind columns.now row.now) }
 {
-    let key = write_key(alloc, kind, &row.key)?;
     text.extend_from_slice(b"0x0: key=")?;
-    text.extend_from_slice(&key)?;
+    push_key(alloc, text, kind, &row.key)?;
     text.extend_from_slice(b" use=")?;
     push_decimal(text, u64::from(row.refs))?;
     text.extend_from_slice(b" exp=")?;
     push_decimal(text, row.left)?;
-    push_cells(text, columns, row.cells.as_slice())?;
+    push_cells(text, columns, labels, row.cells.as_slice())?;
     text.extend_from_slice(b"\n")?;
     Ok(())
 }
 
-/// Appends rows, each a line.
+/// Appends rows of a table with these columns, each a line.
 pub fn push_rows(
     alloc: Global,
     text: &mut Vec<u8>,
     kind: KeyType,
-    columns: &[Column],
+    columns: &StoredSet,
     rows: &[Row],
 ) -> Result<(), NoMemory>
     ensures { OnOk result (text.new.items ≡ text.old.items ++ flat_map (row_text kind columns.now) rows.now) }
 {
+    let labels = labels_of(alloc, columns.columns(), columns.fields())?;
     for row in rows {
-        push_row(alloc, text, kind, columns, row)?;
+        push_row(alloc, text, kind, columns.columns(), &labels, row)?;
     }
     Ok(())
 }
