@@ -14,7 +14,15 @@ use Rattle.stick_model.specs.declared.events.Event.TheVariants.{Get, Track, Look
 use Rattle.stick_model.specs.declared.replies.Reply.{Reply}
 use Rattle.stick_model.specs.declared.replies.Reply.TheVariants.{Absent, NotStored}
 use Rattle.stick_model.proofs.EntryLemmas.{length-filter-le}
-use Rattle.shard_book.specs.Total.{IsAsked, IsCounted, both, together, total}
+use Rattle.stick_model.proofs.ListedLemmas.{key_ranks}
+use Rattle.stick_model.proofs.OrderLemmas.{order-moves, order-rises}
+use Rattle.stick_model.specs.Gathered.{has_lower_key, in_key_order}
+use Rattle.stick_model.specs.declared.rows.Row.{Row}
+use Rattle.shard_book.specs.Total.{IsAsked, IsCounted, IsInKeyOrder, both, together, total}
+
+-- ---- rows in the order of their keys
+pub in_order : (rows : List Row) → IsInKeyOrder rows (in_key_order rows)
+in_order rows = record { same = order-moves has_lower_key rows; rising = order-rises has_lower_key key_ranks rows }
 
 -- ---- that the numbers can be added up
 

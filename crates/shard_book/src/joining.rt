@@ -1,22 +1,12 @@
 //! The replies of shards, added up; `table_cli` adds them one by one, and `shard_locks` joins those of a listing.
 
-ghost use Rattle.std.specs.Prelude.{◌≡◌, ◌≤◌, ◌^◌, ◌++◌, true, All, IfOk, IfSome, OnErr, length};
+ghost use Rattle.std.specs.Prelude.{◌≡◌, ◌≤◌, ◌^◌, true, All, IfOk, IfSome, OnErr, length};
 ghost use Rattle.stick_model.specs.Step.{shows_rows};
 ghost use Rattle.shard_book.specs.Total.{IsCounted, IsShown, both as specified_both, together, total};
 
 use crate::order::in_key_order;
-use base_sequence::{NoMemory, Sequence};
-use stick_model::{Reply, Rows};
-
-/// The rows of two shards.
-fn joined_rows(rows: Rows, others: Rows) -> Result<Rows, NoMemory>
-    ensures { IfOk result (λ all. all ≡ rows ++ others) }
-{
-    let mut all = rows.into_sequence()?.into_vec();
-    let mut more = others.into_sequence()?.into_vec();
-    all.append(&mut more)?;
-    Ok(Rows::from(Sequence::from_vec(all)))
-}
+use base_sequence::NoMemory;
+use stick_model::Reply;
 
 /// The replies of two shards together.
 fn both(first: Reply, second: Reply) -> Result<Reply, NoMemory>
@@ -34,7 +24,7 @@ fn both(first: Reply, second: Reply) -> Result<Reply, NoMemory>
             },
         ) => Ok(Reply::Rows {
             used: used + more,
-            rows: joined_rows(rows, others)?,
+            rows: rows.followed_by(others)?,
         }),
         (
             Reply::Cleared { removed, kept },

@@ -2,30 +2,22 @@
 
 ghost use Rattle.std.specs.Prelude.{◌≡◌, true, IfOk, OnErr};
 ghost use Rattle.stick_model.specs.Step.{shows_rows};
-ghost use Rattle.shard_book.specs.Total.{IsInKeyOrder, IsShown};
+ghost use Rattle.shard_book.specs.Total.{IsShown};
 
-use base_sequence::{NoMemory, Sequence};
-use stick_model::{Reply, Row, Rows};
-
-/// The same rows, in the order of their keys.
-fn sort_rows(rows: Rows) -> Result<Rows, NoMemory>
-    ensures { IfOk result (IsInKeyOrder rows) }
-{
-    let mut all = rows.into_sequence()?.into_vec();
-    all.sort_by(|a: &Row, b: &Row| a.key.cmp(&b.key))?;
-    Ok(Rows::from(Sequence::from_vec(all)))
-}
+use base_sequence::NoMemory;
+use stick_model::Reply;
 
 /// The reply with its rows in the order of their keys. Only rows want memory.
+#[tactic(auto, using(crate::proofs::TotalLemmas::in_order))]
 pub fn in_key_order(reply: Reply) -> Result<Reply, NoMemory>
     ensures shown { IfOk result (IsShown reply) }
     ensures memory { OnErr result (shows_rows reply ≡ true) }
 {
     match reply {
-        Reply::Rows { used, rows } => {
-            let rows = sort_rows(rows)?;
-            Ok(Reply::Rows { used, rows })
-        }
+        Reply::Rows { used, rows } => Ok(Reply::Rows {
+            used,
+            rows: rows.in_key_order()?,
+        }),
         reply => Ok(reply),
     }
 }

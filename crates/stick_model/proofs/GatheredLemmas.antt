@@ -4,9 +4,7 @@ use Rattle.std.proofs.lemmas.List.{take-append-le, drop-append-le, take_all, dro
 use Rattle.stored_data.specs.Words.{fields_in, width}
 use Rattle.stored_data.specs.declared.stored_set.Column.{Column}
 use Rattle.stick_model.specs.declared.gathering.Head.{Head}
-use Rattle.stick_model.specs.declared.rows.Row.{Row}
-use Rattle.stick_model.specs.Gathered.{AreCut, has_lower_key, in_key_order, row_with, rows_in}
-use Rattle.stick_model.proofs.OrderLemmas.{length-order}
+use Rattle.stick_model.specs.Gathered.{AreCut, row_with, rows_in}
 
 -- with the bytes and the words of one head more
 pub cut-more : (wide : ℕ) (heads : List Head) (bytes words : List ℕ) (head : Head) (key row : List ℕ) → AreCut wide heads bytes words → head.size ≡ length key → length row ≡ wide
@@ -38,13 +36,3 @@ module _ (columns : List Column) (clock : ℕ) where
       (λ i. row_with columns clock (own i) h.refs h.left (fields_in columns (kept i)) ∷ rows_in columns clock (heads ++ head ∷ []) (keys i) (later i))
       ∙ ap (λ rows. row_with columns clock (take h.size bytes) h.refs h.left (fields_in columns (take (width columns) words)) ∷ rows)
       (rows-more heads (drop h.size bytes) (drop (width columns) words) head key row cut.2 keyed sized)
-
-  length-rows : (heads : List Head) (bytes words : List ℕ) → length (rows_in columns clock heads bytes words) ≡ length heads
-  length-rows [] bytes words = refl
-  length-rows (h ∷ heads) bytes words = let rest = length-rows heads (drop h.size bytes) (drop (width columns) words) in omega (arith, rest)
-
-pub length-gathered : (columns : List Column) (clock : ℕ) (heads : List Head) (bytes words : List ℕ) → length (rows_in columns clock heads bytes words) ≡ length heads
-length-gathered columns clock heads bytes words = length-rows columns clock heads bytes words
-
-pub length-in_order : (rows : List Row) → length (in_key_order rows) ≡ length rows
-length-in_order rows = length-order has_lower_key rows

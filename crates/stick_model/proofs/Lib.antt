@@ -3,6 +3,7 @@ pub mod KeyLemmas
 pub mod EntryLemmas
 pub mod OrderLemmas
 pub mod GatheredLemmas
+pub mod ListedLemmas
 pub mod RoomLemmas
 pub mod StepCases
 pub mod StepLemmas

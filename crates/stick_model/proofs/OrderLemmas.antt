@@ -5,7 +5,7 @@ use Rattle.std.specs.Cmp.{IsStrictWeakOrder}
 use Rattle.std.specs.List.{AllByRecursion}
 use Rattle.std.specs.List.Sorted.{IsPermutation, IsSortedBy, IsStableBy, ties}
 use Rattle.std.proofs.lemmas.Bool.{false≢true}
-use Rattle.std.proofs.lemmas.List.Sorted.{IsPermutation-cons, IsPermutation-middle, IsPermutation-refl, IsPermutation-trans, length_permutation, sorted_far}
+use Rattle.std.proofs.lemmas.List.Sorted.{IsPermutation-cons, IsPermutation-middle, IsPermutation-refl, IsPermutation-trans, sorted_far}
 use Rattle.stick_model.specs.Gathered.{inserted, ordered}
 
 module _ {X : Type 0} (less : X → X → Bool) where
@@ -22,9 +22,6 @@ module _ {X : Type 0} (less : X → X → Bool) where
   order-moves [] = IsPermutation-refl []
   order-moves (x ∷ xs) =
       IsPermutation-trans (x ∷ xs) (x ∷ ordered less xs) (inserted less x (ordered less xs)) (IsPermutation-cons x xs (ordered less xs) (order-moves xs)) (moved x (ordered less xs))
-
-  pub length-order : (xs : List X) → length (ordered less xs) ≡ length xs
-  length-order xs = length_permutation xs (ordered less xs) (order-moves xs)
 
   -- ---- none is less than one before it
   abbrev Above : X → List X → Type 0
@@ -122,7 +119,7 @@ module _ {X : Type 0} (less : X → X → Bool) where
         swaps later true false one other is = later ∙ ap (λ c. cond c (x ∷ rest) rest) one
         swaps later false b one other is = ap (λ l. cond b (y ∷ l) l) (later ∙ ap (λ c. cond c (x ∷ rest) rest) one)
 
-    order-keeps : (xs : List X) (q : X) → filter (ties less q) (ordered less xs) ≡ filter (ties less q) xs
+    pub order-keeps : (xs : List X) (q : X) → filter (ties less q) (ordered less xs) ≡ filter (ties less q) xs
     order-keeps [] q = refl
     order-keeps (x ∷ xs) q = kept q x (ordered less xs) ∙ ap (λ l. cond (ties less q x) (x ∷ l) l) (order-keeps xs q)
 

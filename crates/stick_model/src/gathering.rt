@@ -1,11 +1,11 @@
-//! Rows as a table gathers them under its lock: packed, in any order. `listed_rows` makes rows of them, behind the lock.
+//! Rows as a table gathers them under its lock: packed, in any order. `listed_rows` puts them in order, behind the lock.
 
-ghost use Rattle.std.specs.Prelude.{◌≡◌, ◌+◌, ◌≤◌, ◌++◌, length, IfOk, vec_len, vec_capacity};
-ghost use Rattle.stored_data.specs.Words.{fields_in, width as specified_width};
-ghost use Rattle.stick_model.specs.Gathered.{AreCut, row_with, rows_in};
+ghost use Rattle.std.specs.Prelude.{◌≡◌, ◌+◌, ◌≤◌, ◌++◌, length, OnOk, vec_len, vec_capacity};
+ghost use Rattle.stored_data.specs.Words.{width as specified_width};
+ghost use Rattle.stick_model.specs.Gathered.{AreCut, rows_in};
 
-use crate::rows::{Cell, Row};
-use base_sequence::{NoMemory, Sequence};
+use crate::packed_row::PackedRow;
+use base_sequence::NoMemory;
 use std::alloc::Global;
 use std::marker::Model;
 use stick_key::StickKey;
@@ -54,64 +54,38 @@ fn append<T: Copy>(list: &mut Vec<T>, more: &[T])
     }
 }
 
-/// The row of a key with these words.
-fn unpack_row(
-    alloc: Global,
-    columns: &StoredSet,
-    clock: u64,
-    head: &Head,
-    key: &[u8],
-    row: &[u64],
-) -> Result<Row, NoMemory>
-    requires { length row.now ≡ specified_width columns.now }
-    ensures { IfOk result (λ made. made ≡ row_with columns.now clock key.now head.now.refs head.now.left (fields_in columns.now row.now)) }
-{
-    let mut cells = Vec::with_capacity(alloc, columns.fields().len())?;
-    for field in columns.fields() {
-        let shown = words::get(columns.columns(), row, *field, clock);
-        cells.push(Cell {
-            field: *field,
-            value: shown.unwrap_or(u64::from(head.refs)),
-        })?;
-    }
-    Ok(Row {
-        key: StickKey::from_bytes(alloc, key)?,
-        refs: head.refs,
-        left: head.left,
-        cells: Sequence::from_vec(cells),
-    })
-}
-
-/// The rows of these heads, in their order.
-fn unpack(
-    alloc: Global,
-    columns: &StoredSet,
+/// Appends the rows of these heads, in their order.
+fn unpack<'a>(
+    columns: &'a StoredSet,
     clock: u64,
     heads: &[Head],
     bytes: &[u8],
-    words: &[u64],
-) -> Result<Vec<Row>, NoMemory>
+    words: &'a [u64],
+    rows: &mut Vec<PackedRow<'a>>,
+) -> Result<(), NoMemory>
     requires { AreCut (specified_width columns.now) heads.now bytes.now words.now }
-    ensures { IfOk result (λ rows. rows.items ≡ rows_in columns.now clock heads.now bytes.now words.now) }
+    ensures { OnOk result (rows.new.items ≡ rows.old.items ++ rows_in columns.now clock heads.now bytes.now words.now) }
 {
+    let alloc = *rows.allocator();
     let wide = words::width(columns.columns());
     let mut keys_left = bytes;
     let mut words_left = words;
-    let mut rows = Vec::with_capacity(alloc, heads.len())?;
+    rows.reserve(heads.len())?;
     for head in heads {
         let (key, later_keys) = keys_left.split_at(head.size as usize);
         let (row, later_words) = words_left.split_at(wide);
-        rows.push(unpack_row(alloc, columns, clock, head, key, row)?)?;
+        let key = StickKey::from_bytes(alloc, key)?;
+        rows.push(PackedRow::new(columns, clock, key, head.refs, head.left, row))?;
         keys_left = later_keys;
         words_left = later_words;
     }
-    Ok(rows)
+    Ok(())
 }
 
 impl Gathering {
-    ghost use Rattle.std.specs.Prelude.{◌≡◌, [], length, IfOk, OnOk, OnErr};
+    ghost use Rattle.std.specs.Prelude.{◌≡◌, ◌++◌, [], length, IfOk, OnOk, OnErr};
     ghost use Rattle.stored_data.specs.Words.{fields_in, width as specified_width};
-    ghost use Rattle.stick_model.specs.Gathered.{gathered, in_key_order, row_with, with_row};
+    ghost use Rattle.stick_model.specs.Gathered.{gathered, row_with, with_row};
 
     /// No row yet, of a table with these columns, as it is at a moment, with room for so many rows.
     pub fn new(
@@ -162,26 +136,17 @@ impl Gathering {
         Ok(())
     }
 
-    /// How many rows there are.
-    pub(crate) fn len(&self) -> usize
-        ensures { result ≡ length self.now.rows }
+    /// Appends the rows, where they lie, in the order in which they came.
+    pub(crate) fn push_rows<'a>(&'a self, rows: &mut Vec<PackedRow<'a>>) -> Result<(), NoMemory>
+        ensures { OnOk result (rows.new.items ≡ rows.old.items ++ self.now.rows) }
     {
-        self.heads.as_slice().len()
-    }
-
-    /// The rows as they are shown, in the order of their keys, where there is memory for them all.
-    pub(crate) fn to_sequence(&self) -> Result<Sequence<Row>, NoMemory>
-        ensures { IfOk result (λ rows. rows ≡ in_key_order self.now.rows) }
-    {
-        let mut rows = unpack(
-            *self.bytes.allocator(),
+        unpack(
             &self.columns,
             self.clock,
             self.heads.as_slice(),
             self.bytes.as_slice(),
             self.words.as_slice(),
-        )?;
-        rows.sort_by(|a: &Row, b: &Row| a.key.cmp(&b.key))?;
-        Ok(Sequence::from_vec(rows))
+            rows,
+        )
     }
 }

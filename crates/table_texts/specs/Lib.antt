@@ -7,3 +7,4 @@ pub mod Bytes
 pub mod Examples
 pub mod Text
 pub mod Labels
+pub mod Shown

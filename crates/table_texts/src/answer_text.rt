@@ -3,6 +3,7 @@
 ghost use Rattle.std.specs.Prelude.{◌≡◌, ◌++◌, IfErr, IfOk, nat_eq, true, codes, if◌then◌else◌};
 ghost use Rattle.std.specs.List.{flat_map};
 ghost use Rattle.table_texts.specs.Text.{header_text, row_text};
+ghost use Rattle.stick_model.specs.Reading.{rows_in_place};
 ghost use Rattle.stick_model.specs.Step.{shows_rows};
 ghost use Rattle.table_texts.specs.declared.message.Message.TheVariants.{InUse};
 ghost use Rattle.table_texts.specs.Texts.{message_text, reply_text};
@@ -13,7 +14,7 @@ use crate::header::push_header;
 use crate::rows::push_rows;
 use base_sequence::NoMemory;
 use std::alloc::Global;
-use stick_model::{Reply, Row, Spec};
+use stick_model::{InPlace, Reply, Spec};
 
 /// An answer, whole.
 #[derive(Drop)]
@@ -38,8 +39,8 @@ impl Answer {
         ensures memory { IfErr result (λ _. shows_rows reply.now ≡ true) }
     {
         match reply {
-            Reply::Rows { used, rows } => match rows.read() {
-                Ok(reading) => listing(alloc, table, spec, *used, reading.as_slice()),
+            Reply::Rows { used, rows } => match rows.in_place() {
+                Ok(rows) => listing(alloc, table, spec, *used, &rows),
                 Err(refused) => Err(refused),
             },
             Reply::NotStored(_) => Ok(Answer::Message(Message::NotStored)),
@@ -80,10 +81,10 @@ fn listing(
     table: &[u8],
     spec: &Spec,
     used: u64,
-    rows: &[Row],
+    rows: &InPlace<'_>,
 ) -> Result<Answer, NoMemory>
     ensures { IfOk result (λ answer. bytes_of answer
-        ≡ header_text table.now spec.now.kind spec.now.size used ++ flat_map (row_text spec.now.kind spec.now.columns) rows.now ++ codes "\n") }
+        ≡ header_text table.now spec.now.kind spec.now.size used ++ flat_map (row_text spec.now.kind spec.now.columns) (rows_in_place rows.now) ++ codes "\n") }
 {
     let mut text = Vec::new(alloc);
     push_header(&mut text, table, spec.kind, u64::from(spec.size), used)?;

@@ -186,7 +186,10 @@ impl<'a, T: Table, J: Naming> Caller<'a, T, J> {
             .table
             .list(rt, self.alloc, &mut self.seat, now, &filter)
         {
-            Ok(Listing::Rows { rows, .. }) => Ok(rows.len()),
+            Ok(Listing::Rows { rows, .. }) => match rows.read() {
+                Ok(reading) => Ok(reading.as_slice().len()),
+                Err(_) => Err(Refusal::Memory),
+            },
             Ok(Listing::NotStored(_)) => Ok(0),
             Err((_, refusal)) => Err(refusal),
         }

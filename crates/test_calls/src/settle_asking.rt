@@ -212,7 +212,10 @@ fn lists<J: Naming>(
     seat: &mut SharedSeat<J>,
 ) -> Result<bool, (u32, Refusal)> {
     match list(rt, alloc, table, seat, &Filter::Everything) {
-        Ok(Listing::Rows { used, rows }) => Ok(used == 1 && rows.len() == 1),
+        Ok(Listing::Rows { used, rows }) => match rows.read() {
+            Ok(reading) => Ok(used == 1 && reading.as_slice().len() == 1),
+            Err(_) => Err((0, Refusal::Memory)),
+        },
         Ok(Listing::NotStored(_)) => Ok(false),
         Err(refused) => Err(refused),
     }

@@ -41,10 +41,18 @@ fn not_stored() -> Reply
     Reply::NotStored(Field::plain(Datum::Gpc1))
 }
 
+/// Whether there is no row.
+fn is_empty(rows: &Rows) -> bool {
+    match rows.read() {
+        Ok(reading) => reading.as_slice().is_empty(),
+        Err(_) => false,
+    }
+}
+
 /// Whether a reply lists no row of so many entries.
 fn lists(reply: &Option<Reply>, count: u64) -> bool {
     match reply {
-        Some(Reply::Rows { used, rows }) => *used == count && rows.len() == 0,
+        Some(Reply::Rows { used, rows }) => *used == count && is_empty(rows),
         _ => false,
     }
 }

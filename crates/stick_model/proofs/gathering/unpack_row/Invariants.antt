@@ -1,7 +1,0 @@
-use Rattle.std.proofs.Common.{◌≡◌, take, map}
-use Rattle.stored_data.specs.Words.{fields_in}
-use Rattle.stick_model.specs.Gathered.{cell_of}
-use Rattle.stick_model.proofs.gathering.unpack_row.Given as goal
-
-abbrev pub invariant-loop-field : goal.invariant-loop-field
-invariant-loop-field l = l.cells.items ≡ map (cell_of l.clock l.head.refs (fields_in l.columns l.row)) (take l.field-index l.field-items)
