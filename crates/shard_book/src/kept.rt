@@ -108,30 +108,30 @@ impl<T: Table, J: Naming> Kept<T, J> {
         seat: &mut Seat,
         token: &mut Token<J>,
         shard: u32,
-        event: Event,
+        event: &Event,
     ) -> Result<(Reply, Token<J>), Refusal>
         requires shard { shard < 64 }
-        requires event { IsTableEvent event }
-        requires other { IsNoRelease event }
+        requires event { IsTableEvent event.now }
+        requires other { IsNoRelease event.now }
         requires seer { IsSeer self.old.number token.old }
         requires settled { IsSettled token.old }
-        ensures ok { IfOk result (λ told. Extends self.old.book seat.old.number event told.0 self.new.book) }
-        ensures told { IfOk result (λ told. Told seat.old shard event told.0 seat.new) }
-        ensures recorded { IfOk result (λ told. self.new.log ≡ self.old.log ++ noted (number_of self.old.number token.old) event told.0 ∷ []) }
-        ensures mine { IfOk result (λ told. IsTold self.old.number event told.0 token.old token.new) }
+        ensures ok { IfOk result (λ told. Extends self.old.book seat.old.number event.now told.0 self.new.book) }
+        ensures told { IfOk result (λ told. Told seat.old shard event.now told.0 seat.new) }
+        ensures recorded { IfOk result (λ told. self.new.log ≡ self.old.log ++ noted (number_of self.old.number token.old) event.now told.0 ∷ []) }
+        ensures mine { IfOk result (λ told. IsTold self.old.number event.now told.0 token.old token.new) }
         ensures seen { OnOk result (log_of self.old.number token.new ≡ self.new.log) }
         ensures of_spec { OnOk result (IsMadeWith (J.specs self.old.number) self.new.log) }
         ensures seer { IsSeer self.old.number token.new }
         ensures settled { IsSettled token.new }
-        ensures given { IfOk result (λ told. told.1 ≡ only self.old.number (holder self.new.log (tickets_told event told.0 []))) }
+        ensures given { IfOk result (λ told. told.1 ≡ only self.old.number (holder self.new.log (tickets_told event.now told.0 []))) }
         ensures number { self.new.number ≡ self.old.number }
-        ensures refused { IfErr result (IsRefusedTo seat.old shard event) }
-        ensures cause { IfErr result (IsRefusedBy self.old.book.live seat.old shard event) }
+        ensures refused { IfErr result (IsRefusedTo seat.old shard event.now) }
+        ensures cause { IfErr result (IsRefusedBy self.old.book.live seat.old shard event.now) }
         ensures err { OnErr result ((self.new ≡ self.old) × (seat.new ≡ seat.old) × (token.new ≡ token.old)) }
     {
         let Kept { book, keeper } = self;
-        let reply = serve_lent(book, seat, shard, &event)?;
-        let given = keeper.note(records, token, &event, &reply);
+        let reply = serve_lent(book, seat, shard, event)?;
+        let given = keeper.note(records, token, event, &reply);
         Ok((reply, given))
     }
 
