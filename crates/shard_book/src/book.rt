@@ -13,7 +13,7 @@ use crate::{Occupancy, Recorded};
 use base_sequence::NoMemory;
 use std::alloc::Global;
 use std::marker::Model;
-use stick_table::{Event, PlainTable, Refusal, Reply, Spec, Table};
+use stick_table::{Event, PlainTable, Refusal, Reply, RowRoom, Spec, Table};
 
 /// A table, and the calls recorded since its base: those that were answered, in their order.
 #[derive(Drop)]
@@ -164,6 +164,18 @@ impl<T: Table> Book<T> {
             references: self.live.references(),
             purged: self.live.purged(),
         }
+    }
+
+    /// How many rows its live table wants room for, as `Table::rows_wanted`.
+    pub fn rows_wanted(&self) -> u32 {
+        self.live.rows_wanted()
+    }
+
+    /// Gives its live table room for the rows of its next listing, as `Table::swap_room`. It stays as it is.
+    pub fn swap_room(&mut self, room: RowRoom) -> RowRoom
+        ensures { self.new ≡ self.old }
+    {
+        self.live.swap_room(room)
     }
 
     /// A plain copy of the table as it is now.

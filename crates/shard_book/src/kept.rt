@@ -20,7 +20,7 @@ use crate::{Book, Occupancy, Seat};
 use base_sequence::NoMemory;
 use shard_record::{Keeper, Naming, Record, Token};
 use std::marker::Model;
-use stick_table::{Event, Refusal, Reply, Table, Ticket};
+use stick_table::{Event, Refusal, Reply, RowRoom, Table, Ticket};
 
 /// A book beside what keeps its record.
 #[derive(Drop)]
@@ -84,6 +84,18 @@ impl<T: Table, J: Naming> Kept<T, J> {
         self.book.occupancy()
     }
 
+    /// How many rows the book's table wants room for, as `Table::rows_wanted`.
+    pub fn rows_wanted(&self) -> u32 {
+        self.book.rows_wanted()
+    }
+
+    /// Gives the book's table room for the rows of its next listing, as `Table::swap_room`. It stays as it is.
+    pub fn swap_room(&mut self, room: RowRoom) -> RowRoom
+        ensures { self.new ≡ self.old }
+    {
+        self.book.swap_room(room)
+    }
+
     /// Whether it is the book of this number.
     pub fn is_of(&self, number: u32) -> bool
         ensures { IsTrue result ↔ (self.now.number ≡ number) }
@@ -108,30 +120,30 @@ impl<T: Table, J: Naming> Kept<T, J> {
         seat: &mut Seat,
         token: &mut Token<J>,
         shard: u32,
-        event: Event,
+        event: &Event,
     ) -> Result<(Reply, Token<J>), Refusal>
         requires shard { shard < 64 }
-        requires event { IsTableEvent event }
-        requires other { IsNoRelease event }
+        requires event { IsTableEvent event.now }
+        requires other { IsNoRelease event.now }
         requires seer { IsSeer self.old.number token.old }
         requires settled { IsSettled token.old }
-        ensures ok { IfOk result (λ told. Extends self.old.book seat.old.number event told.0 self.new.book) }
-        ensures told { IfOk result (λ told. Told seat.old shard event told.0 seat.new) }
-        ensures recorded { IfOk result (λ told. self.new.log ≡ self.old.log ++ noted (number_of self.old.number token.old) event told.0 ∷ []) }
-        ensures mine { IfOk result (λ told. IsTold self.old.number event told.0 token.old token.new) }
+        ensures ok { IfOk result (λ told. Extends self.old.book seat.old.number event.now told.0 self.new.book) }
+        ensures told { IfOk result (λ told. Told seat.old shard event.now told.0 seat.new) }
+        ensures recorded { IfOk result (λ told. self.new.log ≡ self.old.log ++ noted (number_of self.old.number token.old) event.now told.0 ∷ []) }
+        ensures mine { IfOk result (λ told. IsTold self.old.number event.now told.0 token.old token.new) }
         ensures seen { OnOk result (log_of self.old.number token.new ≡ self.new.log) }
         ensures of_spec { OnOk result (IsMadeWith (J.specs self.old.number) self.new.log) }
         ensures seer { IsSeer self.old.number token.new }
         ensures settled { IsSettled token.new }
-        ensures given { IfOk result (λ told. told.1 ≡ only self.old.number (holder self.new.log (tickets_told event told.0 []))) }
+        ensures given { IfOk result (λ told. told.1 ≡ only self.old.number (holder self.new.log (tickets_told event.now told.0 []))) }
         ensures number { self.new.number ≡ self.old.number }
-        ensures refused { IfErr result (IsRefusedTo seat.old shard event) }
-        ensures cause { IfErr result (IsRefusedBy self.old.book.live seat.old shard event) }
+        ensures refused { IfErr result (IsRefusedTo seat.old shard event.now) }
+        ensures cause { IfErr result (IsRefusedBy self.old.book.live seat.old shard event.now) }
         ensures err { OnErr result ((self.new ≡ self.old) × (seat.new ≡ seat.old) × (token.new ≡ token.old)) }
     {
         let Kept { book, keeper } = self;
-        let reply = serve_lent(book, seat, shard, &event)?;
-        let given = keeper.note(records, token, &event, &reply);
+        let reply = serve_lent(book, seat, shard, event)?;
+        let given = keeper.note(records, token, event, &reply);
         Ok((reply, given))
     }
 

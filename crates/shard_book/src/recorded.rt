@@ -40,6 +40,9 @@ impl Recorded {
     ghost use Rattle.shard_book.specs.Briefs.{IsBrief, MayTell, unanswered, with_slot};
 
     /// A seat's call of an event that isn't answered yet. That of a release takes no memory.
+    ///
+    /// It is put into its callers: a record that comes back from a call is copied, 40 instructions of each event.
+    #[inline(always)]
     pub(crate) fn of(alloc: Global, seat: u32, event: &Event) -> Result<Recorded, NoMemory>
         ensures call { IfOk result (λ call. call ≡ unanswered seat event.now) }
         ensures brief { IsBrief event.now → IsOk result }

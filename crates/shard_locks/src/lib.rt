@@ -9,6 +9,7 @@ mod opening;
 mod ported;
 mod reading;
 mod rolling;
+mod row_room;
 mod seat_counts;
 mod seated;
 mod shards;

@@ -104,6 +104,9 @@ impl<T: Table, J: Naming> Shards<T, J> {
         ensures refused { IfErr result (IsRefusedTo seat.old.seat shard (ListRows now filter.now)) }
         ensures err { OnErr result (seat.new ≡ seat.old) }
     {
+        if let Filter::Everything = filter {
+            self.make_room(rt, shard);
+        }
         match filter.copy() {
             Ok(asked) => self.call(rt, seat, shard, Event::List(now, asked)),
             Err(_) => Err(Refusal::Memory),

@@ -8,7 +8,7 @@ use shard_book::{Keeper, Occupancy};
 use shard_record::Naming;
 use std::marker::Model;
 use std::sync::Wait;
-use stick_table::{Event, PlainTable, Refusal, Reply, Spec, Table};
+use stick_table::{Event, Filter, PlainTable, Refusal, Reply, Spec, Table};
 
 /// A table in shards that threads share, asked by one seat: what commands ask, as those of a socket. It counts what connections
 /// meet, which its view doesn't show.
@@ -102,6 +102,9 @@ impl<'a, T: Table, J: Naming, R: Wait> Keeper for Seated<'a, T, J, R> {
 
     #[tactic(auto, using(crate::proofs::ReplyLemmas::told_answers))]
     fn ask(&mut self, shard: u32, event: Event) -> Result<Reply, Refusal> {
+        if let Event::List(_, Filter::Everything) = &event {
+            self.shards.make_room(self.rt, shard);
+        }
         self.shards.call(self.rt, &mut self.seat, shard, event)
     }
 }

@@ -205,16 +205,16 @@ impl<T: Table, J: Naming> Shards<T, J> {
         rt: &impl Wait,
         seat: &mut SharedSeat<J>,
         shard: u32,
-        event: Event,
+        event: &Event,
     ) -> Result<(Reply, Token<J>), Refusal>
         requires shard { shard < self.now.shards }
-        requires event { IsTableEvent event }
-        requires other { IsNoRelease event }
-        ensures told { IfOk result (λ told. Told seat.old.seat shard event told.0 seat.new.seat) }
-        ensures recorded { IfOk result (λ told. IsTold (book_of self.now shard) event told.0 seat.old.known seat.new.known) }
+        requires event { IsTableEvent event.now }
+        requires other { IsNoRelease event.now }
+        ensures told { IfOk result (λ told. Told seat.old.seat shard event.now told.0 seat.new.seat) }
+        ensures recorded { IfOk result (λ told. IsTold (book_of self.now shard) event.now told.0 seat.old.known seat.new.known) }
         ensures of_spec { OnOk result (IsOfShard self.now shard seat.new.known) }
-        ensures given { IfOk result (λ told. told.1 ≡ only (book_of self.now shard) (holder (log_of (book_of self.now shard) seat.new.known) (tickets_told event told.0 []))) }
-        ensures refused { IfErr result (IsRefusedTo seat.old.seat shard event) }
+        ensures given { IfOk result (λ told. told.1 ≡ only (book_of self.now shard) (holder (log_of (book_of self.now shard) seat.new.known) (tickets_told event.now told.0 []))) }
+        ensures refused { IfErr result (IsRefusedTo seat.old.seat shard event.now) }
         ensures err { OnErr result (seat.new ≡ seat.old) }
     {
         let book = self.book_of(shard);
@@ -246,7 +246,7 @@ impl<T: Table, J: Naming> Shards<T, J> {
         ensures refused { IfErr result (IsRefusedTo seat.old.seat shard event) }
         ensures err { OnErr result (seat.new ≡ seat.old) }
     {
-        match self.call_any(rt, seat, shard, event) {
+        match self.call_any(rt, seat, shard, &event) {
             Ok((reply, _token)) => Ok(reply),
             Err(refusal) => Err(refusal),
         }
@@ -317,7 +317,7 @@ impl<T: Table, J: Naming> Shards<T, J> {
         }
         insist(rt, reference.book() == self.book_of(shard));
         let event = Event::Look(now, reference.ticket());
-        match self.call_any(rt, seat, shard, event) {
+        match self.call_any(rt, seat, shard, &event) {
             Ok((reply, _token)) => Ok(shown_row(reply)),
             Err(refusal) => Err(refusal),
         }
@@ -348,7 +348,7 @@ impl<T: Table, J: Naming> Shards<T, J> {
         }
         insist(rt, reference.book() == self.book_of(shard));
         let event = Event::Count(now, reference.ticket(), act);
-        match self.call_any(rt, seat, shard, event) {
+        match self.call_any(rt, seat, shard, &event) {
             Ok((reply, _token)) => Ok(counted_value(&reply)),
             Err(refusal) => Err(refusal),
         }
@@ -373,7 +373,8 @@ impl<T: Table, J: Naming> Shards<T, J> {
     {
         let place = shard_of(&key, self.shards());
         let book = self.book_of(place);
-        match self.call_any(rt, seat, place, Event::Track(now, key)) {
+        let event = Event::Track(now, key);
+        match self.call_any(rt, seat, place, &event) {
             Ok((reply, token)) => Ok(tracking_of(reply, place, book, token)),
             Err(refusal) => Err(refusal),
         }

@@ -72,21 +72,21 @@ impl<J: Naming> SharedSeat<J> {
         kept: &mut Kept<T, J>,
         records: &Record<J>,
         shard: u32,
-        event: Event,
+        event: &Event,
     ) -> Result<(Reply, Token<J>), Refusal>
         requires shard { shard < 64 }
-        requires event { IsTableEvent event }
-        requires other { IsNoRelease event }
+        requires event { IsTableEvent event.now }
+        requires other { IsNoRelease event.now }
         requires book { kept.old.number < J.books }
-        ensures ok { IfOk result (λ told. Extends kept.old.book self.old.seat.number event told.0 kept.new.book) }
-        ensures told { IfOk result (λ told. Told self.old.seat shard event told.0 self.new.seat) }
-        ensures grown { IfOk result (λ told. kept.new.log ≡ kept.old.log ++ noted (number_of kept.old.number self.old.known) event told.0 ∷ []) }
-        ensures recorded { IfOk result (λ told. IsTold kept.old.number event told.0 self.old.known self.new.known) }
+        ensures ok { IfOk result (λ told. Extends kept.old.book self.old.seat.number event.now told.0 kept.new.book) }
+        ensures told { IfOk result (λ told. Told self.old.seat shard event.now told.0 self.new.seat) }
+        ensures grown { IfOk result (λ told. kept.new.log ≡ kept.old.log ++ noted (number_of kept.old.number self.old.known) event.now told.0 ∷ []) }
+        ensures recorded { IfOk result (λ told. IsTold kept.old.number event.now told.0 self.old.known self.new.known) }
         ensures seen { OnOk result (log_of kept.old.number self.new.known ≡ kept.new.log) }
         ensures of_spec { OnOk result (IsMadeWith (J.specs kept.old.number) (log_of kept.old.number self.new.known)) }
-        ensures given { IfOk result (λ told. told.1 ≡ only kept.old.number (holder kept.new.log (tickets_told event told.0 []))) }
+        ensures given { IfOk result (λ told. told.1 ≡ only kept.old.number (holder kept.new.log (tickets_told event.now told.0 []))) }
         ensures number { kept.new.number ≡ kept.old.number }
-        ensures refused { IfErr result (IsRefusedTo self.old.seat shard event) }
+        ensures refused { IfErr result (IsRefusedTo self.old.seat shard event.now) }
         ensures err { OnErr result ((kept.new ≡ kept.old) × (self.new ≡ self.old)) }
     {
         let SharedSeat { seat, token } = self;

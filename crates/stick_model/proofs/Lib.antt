@@ -2,6 +2,7 @@ pub mod TestLemmas
 pub mod KeyLemmas
 pub mod EntryLemmas
 pub mod OrderLemmas
+pub mod CellLemmas
 pub mod GatheredLemmas
 pub mod ListedLemmas
 pub mod RoomLemmas

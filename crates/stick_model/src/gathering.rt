@@ -5,6 +5,7 @@ ghost use Rattle.stored_data.specs.Words.{width as specified_width};
 ghost use Rattle.stick_model.specs.Gathered.{AreCut, rows_in};
 
 use crate::packed_row::PackedRow;
+use crate::row_room::RowRoom;
 use base_sequence::NoMemory;
 use std::alloc::Global;
 use std::marker::Model;
@@ -13,11 +14,11 @@ use stored_data::{StoredSet, words};
 
 /// What is gathered of an entry beside its key and its data.
 #[derive(Clone, Copy)]
-struct Head {
+pub(crate) struct Head {
     /// How many bytes its key has.
-    size: u32,
-    refs: u32,
-    left: u64,
+    pub(crate) size: u32,
+    pub(crate) refs: u32,
+    pub(crate) left: u64,
 }
 
 /// Rows as a table gathers them, in any order: of each entry the key's bytes, the references, the time left, and the words of its
@@ -96,17 +97,37 @@ impl Gathering {
     ) -> Result<Gathering, NoMemory>
         ensures { IfOk result (λ g. g ≡ gathered columns.now clock []) }
     {
+        let none = RowRoom::none(alloc);
+        Gathering::in_room(none, columns, clock, room)
+    }
+
+    /// The same in memory that was taken before, and in more where so many rows need more.
+    pub fn in_room(
+        room: RowRoom,
+        columns: &StoredSet,
+        clock: u64,
+        rows: u32,
+    ) -> Result<Gathering, NoMemory>
+        ensures { IfOk result (λ g. g ≡ gathered columns.now clock []) }
+    {
         let columns = columns.copy()?;
         let wide = words::width(columns.columns());
-        let Some(all) = (room as usize).checked_mul(wide) else {
+        let Some(all) = (rows as usize).checked_mul(wide) else {
             return Err(NoMemory);
         };
+        let RowRoom {
+            mut heads,
+            bytes,
+            mut words,
+        } = room;
+        heads.reserve(rows as usize)?;
+        words.reserve(all)?;
         Ok(Gathering {
             columns,
             clock,
-            heads: Vec::with_capacity(alloc, room as usize)?,
-            bytes: Vec::new(alloc),
-            words: Vec::with_capacity(alloc, all)?,
+            heads,
+            bytes,
+            words,
         })
     }
 

@@ -16,6 +16,7 @@ pub mod laws;
 mod listed_rows;
 mod packed_row;
 mod replies;
+mod row_room;
 mod rows;
 mod specification;
 
@@ -28,5 +29,6 @@ pub use gathering::Gathering;
 pub use listed_rows::{InPlace, Reading, Rows};
 pub use packed_row::PackedRow;
 pub use replies::{Refusal, Reply};
+pub use row_room::RowRoom;
 pub use rows::{Cell, Cells, Record, Row, Ticket};
 pub use specification::Spec;

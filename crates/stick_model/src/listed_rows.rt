@@ -1,8 +1,7 @@
 //! The rows of a listing; tables answer them, and `shard_book` and `table_texts` read them.
 
 ghost use Rattle.std.specs.Prelude.{◌≡◌, ◌++◌, IfOk, OnOk};
-ghost use Rattle.std.specs.List.{flat_map};
-ghost use Rattle.stick_model.specs.Gathered.{Gathered, in_key_order};
+ghost use Rattle.stick_model.specs.Gathered.{in_key_order};
 ghost use Rattle.stick_model.specs.Listed.{each_in_order, of_all};
 
 use crate::gathering::Gathering;

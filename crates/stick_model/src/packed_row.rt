@@ -48,10 +48,11 @@ fn push_cells(
     requires { length words.now ≡ specified_width columns.now }
     ensures { OnOk result (cells.new.items ≡ cells.old.items ++ map (cell_of clock refs (fields_in columns.now words.now)) (fields_of columns.now)) }
 {
-    for field in columns.fields() {
-        let shown = words::get(columns.columns(), words, *field, clock);
+    let fields = columns.fields();
+    for place in 0..fields.len() {
+        let shown = columns.shown(place, words, clock);
         cells.push(Cell {
-            field: *field,
+            field: fields[place],
             value: shown.unwrap_or(u64::from(refs)),
         })?;
     }
@@ -86,6 +87,7 @@ impl<'a> PackedRow<'a> {
         }
     }
 
+    /// The key of the entry.
     pub fn key(&self) -> &StickKey
         ensures { result.now ≡ self.now.key }
     {

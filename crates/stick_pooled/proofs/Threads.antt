@@ -7,6 +7,7 @@ use Rattle.std.proofs.Crossing.{Vec-send}
 use Rattle.std.proofs.alloc.Global.TheSendSync as heap
 use Rattle.stick_key.proofs.key.StickKey.TheSendSync as keys
 use Rattle.stick_key.specs.contracts.key.StickKey as key
+use Rattle.stick_model.proofs.row_room.RowRoom.TheSendSync as room
 use Rattle.stick_model.proofs.rows.Ticket.TheSendSync as tickets
 use Rattle.stick_model.proofs.specification.Spec.TheSendSync as spec
 use Rattle.stick_model.specs.contracts.rows.Ticket as ticket
@@ -25,4 +26,4 @@ pub stick_table_send : IsSend StickTable.the_row
 stick_table_send =
     let I = inside.the_type in
     view_send inside.the_row _ _ _ _ (recorded_send (inside.the_field).row _ _ I.to_one
-    (struct_send (shape I) (heap.the_field_send, (spec.the_field_send, (plain_send _ _ _ _ _, (plain_send _ _ _ _ _, (store_send, (ticket_book_send, (plain_send _ _ _ _ _, (plain_send _ _ _ _ _, (Vec-send _ pair_send, tt)))))))))))
+    (struct_send (shape I) (heap.the_field_send, (spec.the_field_send, (plain_send _ _ _ _ _, (plain_send _ _ _ _ _, (store_send, (ticket_book_send, (plain_send _ _ _ _ _, (plain_send _ _ _ _ _, (Vec-send _ pair_send, (room.the_send, tt))))))))))))

@@ -274,6 +274,7 @@ impl Store {
     }
 
     /// Puts a value into a field of a slot's entry, as `Values::put`.
+    #[inline(always)]
     pub fn put(&mut self, slot: u32, field: Field, value: u64)
         requires { IsSome (held_at self.old slot) }
         ensures { self.new ≡ with_values self.old slot (λ values. with_value values field value) }

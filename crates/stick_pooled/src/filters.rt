@@ -11,6 +11,7 @@ use stick_key::StickKey;
 use stick_model::Filter;
 
 /// Whether a filter means the entry of a slot that has one, by the values that its row shows at this moment in ms.
+#[inline(always)]
 fn means(store: &Store, clock: u64, choice: &Filter, slot: u32) -> bool
     requires { IsSome (held_at store.now slot) }
     ensures { (held : Held) → held_at store.now slot ≡ Some held → result ≡ is_meant clock choice.now held }
@@ -42,6 +43,7 @@ pub(crate) fn matches(store: &Store, clock: u64, choice: &Filter, tracked: bool,
 }
 
 /// Whether the entry of a slot that has one is there when the clock has come to this moment.
+#[inline(always)]
 fn stays(store: &Store, expire: Option<u32>, clock: u64, slot: u32) -> bool
     requires clock { clock < 2 ^ 62 }
     requires there { IsSome (held_at store.now slot) }
@@ -52,6 +54,7 @@ fn stays(store: &Store, expire: Option<u32>, clock: u64, slot: u32) -> bool
 }
 
 /// Whether a slot has an entry that is there when the clock has come to this moment.
+#[inline(always)]
 fn is_live(store: &Store, expire: Option<u32>, clock: u64, slot: u32) -> bool
     requires { clock < 2 ^ 62 }
     ensures { result ≡ option_map_or (is_kept clock expire) (held_at store.now slot) false }
@@ -81,6 +84,7 @@ pub(crate) fn live_slot(
 }
 
 /// Whether a slot has an entry that is there when the clock has come to this moment, and that a filter means.
+#[inline(always)]
 pub(crate) fn is_listed(
     store: &Store,
     expire: Option<u32>,

@@ -28,8 +28,9 @@ use base_sequence::NoMemory;
 use entry_store::Store;
 use std::alloc::Global;
 use std::marker::Model;
+use std::mem;
 use stick_key::StickKey;
-use stick_model::{Event, Refusal, Reply, Spec, Ticket};
+use stick_model::{Event, Refusal, Reply, RowRoom, Spec, Ticket};
 use stick_table::{PlainTable, Table};
 use ticket_book::TicketBook;
 
@@ -46,6 +47,8 @@ pub struct StickTable {
     base_clock: u64,
     base_events: u64,
     base_tickets: Vec<(Ticket, StickKey)>,
+    /// Room for the rows of the next listing, where it was given some.
+    room: RowRoom,
 }
 
 impl Model for StickTable {
@@ -78,6 +81,7 @@ impl Table for StickTable {
             base_clock: 0,
             base_events: 0,
             base_tickets: Vec::new(alloc),
+            room: RowRoom::none(alloc),
         })
     }
 
@@ -111,6 +115,14 @@ impl Table for StickTable {
 
     fn purged(&self) -> u64 {
         self.store.purged()
+    }
+
+    fn rows_wanted(&self) -> u32 {
+        self.store.len()
+    }
+
+    fn swap_room(&mut self, room: RowRoom) -> RowRoom {
+        mem::replace(&mut self.room, room)
     }
 
     fn set_base(&mut self) -> Result<(), NoMemory> {

@@ -18,8 +18,9 @@ use crate::filters::{is_listed, live_slot};
 use crate::rows::left_at;
 use base_sequence::NoMemory;
 use std::alloc::Global;
+use std::mem;
 use stick_key::StickKey;
-use stick_model::{Filter, Gathering, Reply, Rows, Spec};
+use stick_model::{Filter, Gathering, Reply, RowRoom, Rows, Spec};
 
 /// How many entries are there when the clock has come to this moment. Those that have reached their date are the first of
 /// the queue, so nothing is asked of the slots but of these.
@@ -83,14 +84,15 @@ fn gather_slot(
     gather_row(expire, store, clock, slot, rows)
 }
 
-/// The rows of what is listed, in the order of the slots, found by a walk over them all. So many rows have their place first.
+/// The rows of what is listed, in the order of the slots, found by a walk over them all. So many rows have their place first, in
+/// this room as far as it goes.
 fn walk_rows(
-    alloc: Global,
+    room: RowRoom,
     spec: &Spec,
     store: &Store,
     clock: u64,
     choice: &Filter,
-    room: u32,
+    count: u32,
 ) -> Result<Gathering, NoMemory>
     requires clock { clock < 2 ^ 62 }
     requires size { spec.now.size ≡ length store.now.slots }
@@ -98,7 +100,7 @@ fn walk_rows(
     requires past { (slot : ℕ) → moment_at store.now slot ≤ clock }
     ensures { IfOk result (λ rows. rows.rows ≡ listed_in spec.now.columns spec.now.expire clock choice.now store.now.slots) }
 {
-    let mut rows = Gathering::new(alloc, &spec.columns, clock, room)?;
+    let mut rows = Gathering::in_room(room, &spec.columns, clock, count)?;
     for slot in 0..spec.size {
         gather_slot(spec.expire, store, clock, choice, slot, &mut rows)?;
     }
@@ -128,9 +130,10 @@ fn find_row(
 }
 
 /// The rows of what is listed, in the order of the slots, of which so many are used. Only a filter that may mean any entry
-/// costs a walk over the slots: a table is locked meanwhile.
+/// costs a walk over the slots: a table is locked meanwhile. All entries are listed in this room.
 fn gather_rows(
     alloc: Global,
+    room: RowRoom,
     spec: &Spec,
     store: &Store,
     clock: u64,
@@ -145,10 +148,13 @@ fn gather_rows(
     ensures { IfOk result (λ rows. rows.rows ≡ listed_in spec.now.columns spec.now.expire clock choice.now store.now.slots) }
 {
     match choice {
-        Filter::Everything => walk_rows(alloc, spec, store, clock, choice, used),
+        Filter::Everything => walk_rows(room, spec, store, clock, choice, used),
         Filter::Nothing => Gathering::new(alloc, &spec.columns, clock, 0),
         Filter::Key(key) => find_row(alloc, spec, store, clock, key),
-        Filter::Compare(_, _, _) => walk_rows(alloc, spec, store, clock, choice, 0),
+        Filter::Compare(_, _, _) => {
+            let none = RowRoom::none(alloc);
+            walk_rows(none, spec, store, clock, choice, 0)
+        }
     }
 }
 
@@ -156,6 +162,7 @@ fn gather_rows(
 /// reads them makes them and sorts them.
 fn list_rows(
     alloc: Global,
+    room: RowRoom,
     spec: &Spec,
     store: &Store,
     clock: u64,
@@ -169,14 +176,14 @@ fn list_rows(
     requires stock { IsStock store.now }
     ensures { IfOk result (λ rows. rows ≡ values_of (listed_entries spec.now.columns spec.now.expire clock choice.now store.now.slots)) }
 {
-    let rows = gather_rows(alloc, spec, store, clock, choice, used)?;
+    let rows = gather_rows(alloc, room, spec, store, clock, choice, used)?;
     let listed = Rows::gathered(alloc, rows)?;
     Ok(listed)
 }
 
 impl StickTable {
-    /// What a listing is answered, once the clock has come to this moment.
-    fn list_reply(&self, clock: u64, choice: &Filter) -> Result<Reply, NoMemory>
+    /// What a listing is answered in this room, once the clock has come to this moment.
+    fn list_reply(&self, room: RowRoom, clock: u64, choice: &Filter) -> Result<Reply, NoMemory>
         requires past { self.now.now.clock ≤ clock }
         requires limit { clock < 2 ^ 62 }
         ensures { IfOk result (λ reply. reply ≡ listed_reply self.now.now clock choice.now) }
@@ -185,7 +192,15 @@ impl StickTable {
             Some(field) => Ok(Reply::NotStored(field)),
             None => {
                 let used = count_live(&self.store, self.spec.expire, clock);
-                let rows = list_rows(self.alloc, &self.spec, &self.store, clock, choice, used)?;
+                let rows = list_rows(
+                    self.alloc,
+                    room,
+                    &self.spec,
+                    &self.store,
+                    clock,
+                    choice,
+                    used,
+                )?;
                 Ok(Reply::Rows {
                     used: u64::from(used),
                     rows,
@@ -202,7 +217,8 @@ impl StickTable {
         ensures base { self.new.base ≡ self.old.base }
     {
         let clock = self.clock.max(now);
-        let reply = self.list_reply(clock, choice)?;
+        let room = mem::replace(&mut self.room, RowRoom::none(self.alloc));
+        let reply = self.list_reply(room, clock, choice)?;
         self.begin(now);
         Ok(reply)
     }
@@ -220,7 +236,8 @@ impl StickTable {
         ensures base { self.new.base ≡ self.old.base }
     {
         let clock = self.clock.max(now);
-        let first = self.list_reply(clock, choice)?;
+        let room = mem::replace(&mut self.room, RowRoom::none(self.alloc));
+        let first = self.list_reply(room, clock, choice)?;
         let second = first.copy(self.alloc)?;
         self.begin(now);
         Ok((first, second))

@@ -23,6 +23,7 @@ pub(crate) fn put_fault(columns: &StoredSet, pairs: &[Cell]) -> Option<Reply>
 }
 
 /// Puts pairs into the data of a slot's entry, the first to the last.
+#[inline(always)]
 pub(crate) fn put_pairs(store: &mut Store, slot: u32, pairs: &[Cell])
     requires { IsSome (held_at store.old slot) }
     ensures { store.new ≡ with_values store.old slot (put_pairs_of pairs.now) }

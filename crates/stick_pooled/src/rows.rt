@@ -44,15 +44,18 @@ fn fill_cells(
     mut cells: Vec<Cell>,
 ) -> Cells
     requires there { IsSome (held_at store.now slot) }
+    requires columns { store.now.columns ≡ columns.now }
     requires empty { cells.items ≡ [] }
     requires room { length (fields_of columns.now) ≤ vec_capacity cells }
     ensures { (held : Held) → held_at store.now slot ≡ Some held → result ≡ cells_of columns.now clock refs held.values }
 {
-    for field in columns.fields() {
-        let value = store.get(slot, *field, clock).unwrap_or(u64::from(refs));
+    let words = store.words(slot);
+    let fields = columns.fields();
+    for place in 0..fields.len() {
+        let shown = columns.shown(place, words, clock);
         cells.push_reserved(Cell {
-            field: *field,
-            value,
+            field: fields[place],
+            value: shown.unwrap_or(u64::from(refs)),
         });
     }
     Sequence::from_vec(cells)
@@ -71,6 +74,7 @@ pub(crate) fn fill_row(
     cells: Vec<Cell>,
 ) -> Row
     requires there { IsSome (held_at store.now slot) }
+    requires columns { store.now.columns ≡ spec.now.columns }
     requires past { moment_at store.now slot ≤ clock }
     requires own { option_map (λ (held : Held). held.key) (held_at store.now slot) ≡ Some key }
     requires empty { cells.items ≡ [] }
@@ -98,6 +102,7 @@ pub(crate) fn show_row(
     slot: u32,
 ) -> Result<Row, NoMemory>
     requires there { IsSome (held_at store.now slot) }
+    requires columns { store.now.columns ≡ spec.now.columns }
     requires past { moment_at store.now slot ≤ clock }
     ensures { IfOk result (λ row. (held : Held) → held_at store.now slot ≡ Some held → row
         ≡ row_of spec.now.columns clock held.entry.refs held.key (record_of spec.now.expire held)) }

@@ -69,6 +69,7 @@ fn act_in(
 }
 
 // Puts a value into a field in the words of a row.
+#[inline(always)]
 fn put_in(
     words: &mut Vec<u64>,
     at: usize,
@@ -176,6 +177,7 @@ impl Rows {
     }
 
     /// Puts a value into a field of a row, as `Values::put`.
+    #[inline(always)]
     pub fn put(&mut self, at: u32, field: Field, value: u64)
         requires { at < length self.old.rows }
         ensures { self.new ≡ with_row self.old at (with_value (row_at self.old at) field value) }

@@ -13,6 +13,7 @@ pub use plain::PlainTable;
 pub use redoing::redo_all;
 pub use running::run;
 pub use stick_model::{
-    Cell, Cells, Event, Filter, Op, Record, Refusal, Reply, Row, Rows, Spec, Stored, Ticket, laws,
+    Cell, Cells, Event, Filter, Op, Record, Refusal, Reply, Row, RowRoom, Rows, Spec, Stored,
+    Ticket, laws,
 };
 pub use tables::Table;

@@ -6,7 +6,7 @@ use base_sequence::NoMemory;
 use std::alloc::Global;
 use std::marker::Model;
 use stick_key::StickKey;
-use stick_model::{Event, Record, Refusal, Reply, Spec, Stored, Ticket};
+use stick_model::{Event, Record, Refusal, Reply, RowRoom, Spec, Stored, Ticket};
 
 /// A table that goes over all its records at each event.
 #[derive(Drop)]
@@ -130,6 +130,14 @@ impl Table for PlainTable {
 
     fn purged(&self) -> u64 {
         self.live.purged()
+    }
+
+    fn rows_wanted(&self) -> u32 {
+        0
+    }
+
+    fn swap_room(&mut self, room: RowRoom) -> RowRoom {
+        room
     }
 
     fn set_base(&mut self) -> Result<(), NoMemory> {

@@ -9,7 +9,7 @@ ghost use Rattle.stick_model.specs.Limits.{IsTableSpec, IsTableEvent};
 use crate::PlainTable;
 use base_sequence::NoMemory;
 use std::alloc::Global;
-use stick_model::{Event, Refusal, Reply, Spec};
+use stick_model::{Event, Refusal, Reply, RowRoom, Spec};
 
 /// A stick table.
 pub trait Table: Drop {
@@ -59,6 +59,15 @@ pub trait Table: Drop {
 
     /// How many entries went to make room for others since it was opened, modulo 2^64. No clause says it, as its state doesn't tell.
     fn purged(&self) -> u64;
+
+    /// How many rows it wants room for before it lists all: as many as it has entries, or 0 where it makes no use of room. No
+    /// clause says it, as it sizes memory alone.
+    fn rows_wanted(&self) -> u32;
+
+    /// Takes room for the rows of its next listing, and gives back what it had. It answers as before.
+    fn swap_room(&mut self, room: RowRoom) -> RowRoom
+        ensures stays { state self.new ≡ state self.old }
+        ensures base { base self.new ≡ base self.old };
 
     /// Makes what it is now its base. Where a growth is refused, nothing changes.
     fn set_base(&mut self) -> Result<(), NoMemory>

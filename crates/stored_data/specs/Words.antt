@@ -1,6 +1,6 @@
 -- The data of a key in words, by the columns of its table: one word for a number or an element of an array, two for a
 -- rate, none for the current connections.
-use Rattle.std.specs.Prelude.{◌≡◌, ℕ, ◌+◌, ◌==◌, ◌&&◌, nat_lt, Bool, List, [], ◌∷◌, slice_index, sum_by, if◌then◌else◌}
+use Rattle.std.specs.Prelude.{ℕ, ◌+◌, ◌==◌, ◌&&◌, nat_lt, Bool, List, [], ◌∷◌, slice_index, sum_by, if◌then◌else◌}
 use Rattle.rate_window.specs.Words.{tally_in}
 use Rattle.stored_data.specs.Data.{is_rate, place}
 use Rattle.stored_data.specs.Fields.{Element, element, elements, size}
@@ -38,6 +38,14 @@ field_at element words at = record {
   content = if is_rate element.field.datum then Rate (tally_in element.period (slice_index words at) (slice_index words (at + 1))) else Number (slice_index words at);
 }
 
+-- how many words a field of a datum takes of which anything is kept
+abbrev pub taken : Datum → ℕ
+taken datum = if is_rate datum then 2 else 1
+
+-- what is kept of a field of a datum whose words begin at this place
+abbrev pub content_at : Datum → ℕ → List ℕ → ℕ → Content
+content_at datum period words at = if is_rate datum then Rate (tally_in period (slice_index words at) (slice_index words (at + 1))) else Number (slice_index words at)
+
 -- what is stored of elements whose words begin at this place, one element's behind another's
 abbrev pub fields_from : List Element → List ℕ → ℕ → List StoredValue
 fields_from [] words at = []
@@ -70,13 +78,3 @@ edited_moment (Put field value) = 0
 -- what is stored of a field, after a change at a moment
 abbrev pub altered : ℕ → Change → StoredValue → StoredValue
 altered now change stored = record { field = stored.field; content = changed now stored.field.datum change stored.content }
-
--- the words from this place on keep the content
-abbrev pub IsKeptAt : Content → List ℕ → ℕ → Type 0
-IsKeptAt (Number n) words at = slice_index words at ≡ n
-IsKeptAt (Rate kept) words at = tally_in kept.period (slice_index words at) (slice_index words (at + 1)) ≡ kept
-
--- how many words a content takes
-abbrev pub taken : Content → ℕ
-taken (Number n) = 1
-taken (Rate kept) = 2

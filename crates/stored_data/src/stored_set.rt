@@ -1,6 +1,7 @@
 //! The columns of a table; `rule_words` makes them of a `stick-table` line, and tables keep data by them.
-ghost use Rattle.std.specs.Prelude.{◌≡◌, ◌↔◌, ◌++◌, List, map, IfOk, OnOk};
+ghost use Rattle.std.specs.Prelude.{◌≡◌, ◌↔◌, ◌+◌, ◌<◌, ◌≤◌, ◌^◌, ◌++◌, List, length, map, IfOk, OnOk};
 
+use crate::words::{shown_at, words_each, words_of};
 use crate::{Datum, Field};
 use base_sequence::NoMemory;
 use std::alloc::Global;
@@ -27,6 +28,14 @@ impl Column {
     }
 }
 
+/// Where a field's words begin in a row, and how they are read.
+#[derive(Clone, Copy)]
+struct Place {
+    datum: Datum,
+    period: u32,
+    at: usize,
+}
+
 /// The columns of a table, in the order of printing, each datum once, and none beside an array that
 /// excludes it. Contracts see it as the list of its columns.
 #[derive(Drop)]
@@ -34,6 +43,8 @@ pub struct StoredSet {
     columns: Vec<Column>,
     /// Their fields, which every row shows.
     fields: Vec<Field>,
+    /// Of each field where its words are, so that a row is shown without a search.
+    places: Vec<Place>,
 }
 
 impl Model for StoredSet {
@@ -44,15 +55,19 @@ impl Model for StoredSet {
 
     ghost use Rattle.std.specs.Prelude.{◌≡◌};
     ghost use Rattle.stored_data.specs.Fields.{fields_of};
+    ghost use Rattle.stored_data.specs.Places.{places_of};
     ghost use Rattle.stored_data.specs.Stored.{IsSound};
 
     ghost view = { λ set. set.columns.items };
 
-    ghost invariant = { λ set. IsSound set.columns.items × (set.fields.items ≡ fields_of set.columns.items) };
+    ghost invariant = { λ set. IsSound set.columns.items × (set.fields.items ≡ fields_of set.columns.items) × (set.places.items ≡ places_of set.columns.items) };
 }
 
 ghost use Rattle.stored_data.specs.Fields.{is_field, elements_of, fields_of};
-ghost use Rattle.stored_data.specs.Stored.{is_column, is_excluded};
+ghost use Rattle.stored_data.specs.Data.{is_rate};
+ghost use Rattle.stored_data.specs.Places.{IsKeptThere, placed_from, places_of, shown_there};
+ghost use Rattle.stored_data.specs.Stored.{IsPeriod, IsSound, is_column, is_excluded};
+ghost use Rattle.stored_data.specs.Words.{taken, words_in};
 
 /// Whether some column is that of the datum.
 fn has_column(columns: &[Column], datum: Datum) -> bool
@@ -102,8 +117,55 @@ fn spread(alloc: Global, columns: &[Column]) -> Result<Vec<Field>, NoMemory>
     Ok(fields)
 }
 
+/// What the field at a place shows of these words at a moment in ms: none for the current connections.
+fn show_there(there: Place, words: &[u64], now: u64) -> Option<u64>
+    requires period { IsPeriod (is_rate there.datum) there.period }
+    requires within { IsKeptThere there → there.at + taken there.datum ≤ length words.now }
+    ensures { result ≡ shown_there there words.now now }
+{
+    if there.datum.place() == Datum::ConnCur.place() {
+        return None;
+    }
+    Some(shown_at(there.datum, there.period, words, there.at, now))
+}
+
+/// Adds the places of a column's fields, whose words begin at `at`.
+fn push_places(places: &mut Vec<Place>, column: Column, at: usize) -> Result<(), NoMemory>
+    requires { at + words_in (elements_of column) < 2 ^ 32 }
+    ensures { OnOk result (places.new.items ≡ places.old.items ++ placed_from (elements_of column) at) }
+{
+    let each = words_each(column);
+    let mut next = at;
+    for _index in 0..column.size() {
+        places.push(Place {
+            datum: column.datum,
+            period: column.period,
+            at: next,
+        })?;
+        next += each;
+    }
+    Ok(())
+}
+
+/// The places of the fields of columns.
+fn place_all(alloc: Global, columns: &[Column]) -> Result<Vec<Place>, NoMemory>
+    requires { IsSound columns.now }
+    ensures { IfOk result (λ places. places.items ≡ places_of columns.now) }
+{
+    let mut places = Vec::new(alloc);
+    let mut at = 0;
+    for column in columns {
+        push_places(&mut places, *column, at)?;
+        at += words_of(*column);
+    }
+    Ok(places)
+}
+
 impl StoredSet {
-    ghost use Rattle.std.specs.Prelude.{◌≡◌, ◌↔◌, ◌<◌, ◌≤◌, [], ◌∷◌, ◌++◌, length, count_by, insert, nat_lt, List, IsTrue, false, OnOk, OnErr, IfOk};
+    ghost use Rattle.std.specs.Prelude.{◌≡◌, ◌↔◌, ◌<◌, ◌≤◌, [], ◌∷◌, ◌++◌, length, count_by, insert, nat_lt, List, IsTrue, Some, false, slice_get, OnOk, OnErr, IfOk};
+    ghost use Rattle.stored_data.specs.Acts.{value_at};
+    ghost use Rattle.stored_data.specs.Words.{fields_in, width};
+    ghost use Rattle.stored_data.specs.declared.field.Field.{Field as AField};
     ghost use Rattle.stored_data.specs.Data.{place, is_rate, is_array};
     ghost use Rattle.stored_data.specs.Fields.{Stores, fields_of, is_field, if_stored, field_for};
     ghost use Rattle.stored_data.specs.Stored.{IsSound, Holds, is_column, is_excluded, with_column, IsPeriod, IsCount};
@@ -115,6 +177,7 @@ impl StoredSet {
         StoredSet {
             columns: Vec::new(alloc),
             fields: Vec::new(alloc),
+            places: Vec::new(alloc),
         }
     }
 
@@ -141,7 +204,9 @@ impl StoredSet {
         let at = self.place_of(column.datum);
         let mut columns = Vec::from_slice(*self.columns.allocator(), self.columns.as_slice())?;
         columns.insert(at, column)?;
-        self.fields = spread(*self.columns.allocator(), columns.as_slice())?;
+        let fields = spread(*self.columns.allocator(), columns.as_slice())?;
+        self.places = place_all(*self.columns.allocator(), columns.as_slice())?;
+        self.fields = fields;
         self.columns = columns;
         Ok(())
     }
@@ -159,6 +224,15 @@ impl StoredSet {
         ensures { result.now ≡ fields_of self.now }
     {
         self.fields.as_slice()
+    }
+
+    /// What the field at this place of `fields` shows of the words of a row at a moment in ms: none for the current connections.
+    pub fn shown(&self, place: usize, words: &[u64], now: u64) -> Option<u64>
+        requires { width self.now ≤ length words.now }
+        ensures { (field : AField) → slice_get (fields_of self.now) place ≡ Some field → result ≡ value_at (fields_in self.now words.now) field now }
+    {
+        let there = self.places.as_slice().get(place)?;
+        show_there(*there, words, now)
     }
 
     /// Whether the table stores the datum.
@@ -217,6 +291,7 @@ impl StoredSet {
         Ok(StoredSet {
             columns: Vec::from_slice(*self.columns.allocator(), self.columns.as_slice())?,
             fields: Vec::from_slice(*self.columns.allocator(), self.fields.as_slice())?,
+            places: Vec::from_slice(*self.columns.allocator(), self.places.as_slice())?,
         })
     }
 }

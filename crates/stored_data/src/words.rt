@@ -1,13 +1,16 @@
 //! The data of a key in a slice of words, by the columns of its table; `stick_pooled`'s `value_rows` calls it.
 //!
 //! It is for tables that keep the data of all keys in one block. Whoever keeps the words says where those of a key are.
-ghost use Rattle.std.specs.Prelude.{◌≡◌, ℕ, ◌+◌, ◌<◌, ◌≤◌, ◌⊎◌, ◌++◌, List, length, map, replicate, slice_index, IsTrue, IfOk, OnOk, ◌∷◌, []};
+ghost use Rattle.std.specs.Prelude.{◌≡◌, ℕ, ◌+◌, ◌<◌, ◌≤◌, ◌⊎◌, ◌++◌, List, length, map, replicate, slice_index, IsTrue, IfOk, OnOk, ◌∷◌, ◌^◌, []};
 ghost use Rattle.stored_data.specs.Data.{is_rate};
 ghost use Rattle.stored_data.specs.Fields.{element, elements_of, size};
 ghost use Rattle.stored_data.specs.Stored.{IsPeriod, HavePeriods, IsSound};
-ghost use Rattle.stored_data.specs.Acts.{acted, answer, told as specified_told, value_at, with_value, zero_of, is_kept as specified_kept};
-ghost use Rattle.stored_data.specs.Words.{is_kept_in as specified_kept_in, words_of as specified_words, words_in, width as specified_width, field_at as specified_field, fields_from, fields_in, altered, edited, edited_index, edited_change, edited_moment, taken, IsKeptAt};
+ghost use Rattle.rate_window.specs.Rate.{with_count};
+ghost use Rattle.rate_window.specs.Words.{tally_in};
+ghost use Rattle.stored_data.specs.Acts.{acted, answer, changed, shown, told as specified_told, value_at, with_value, zero_of, is_kept as specified_kept};
+ghost use Rattle.stored_data.specs.Words.{is_kept_in as specified_kept_in, words_of as specified_words, words_in, width as specified_width, field_at as specified_field, fields_from, fields_in, content_at, taken, edited, edited_index, edited_change, edited_moment};
 ghost use Rattle.stored_data.specs.declared.stored_set.Column.{Column};
+ghost use Rattle.stored_data.specs.declared.values.Content.TheVariants.{Number};
 
 use crate::act::{Act, Change};
 use crate::values::{Content, StoredValue, Values};
@@ -68,8 +71,18 @@ fn is_kept(column: Column) -> bool
     column.datum.place() != Datum::ConnCur.place()
 }
 
+/// How many words each field of a column takes.
+pub(crate) fn words_each(column: Column) -> usize
+    ensures { result ≡ specified_words (element column 0) }
+{
+    if !is_kept(column) {
+        return 0;
+    }
+    if column.datum.is_rate() { 2 } else { 1 }
+}
+
 /// How many words a column takes.
-fn words_of(column: Column) -> usize
+pub(crate) fn words_of(column: Column) -> usize
     ensures { result ≡ words_in (elements_of column) }
 {
     if !is_kept(column) {
@@ -95,58 +108,66 @@ pub fn width(columns: &[Column]) -> usize
     width
 }
 
-/// What is kept of a column's field whose words begin at `at`.
-fn field_at(column: Column, index: u32, words: &[u64], at: usize) -> StoredValue
-    requires period { IsPeriod (is_rate column.datum) column.period }
-    requires kept { IsTrue (specified_kept (element column index)) }
-    requires within { at + specified_words (element column index) ≤ length words.now }
-    ensures { result ≡ specified_field (element column index) words.now at }
+/// What a field of a datum, whose words begin at `at`, shows at a moment in ms.
+pub(crate) fn shown_at(datum: Datum, period: u32, words: &[u64], at: usize, now: u64) -> u64
+    requires period { IsPeriod (is_rate datum) period }
+    requires within { at + taken datum ≤ length words.now }
+    ensures { result ≡ shown now (content_at datum period words.now at) }
 {
-    let content = if column.datum.is_rate() {
-        Content::Rate(Meter::from_words(column.period, words[at], words[at + 1]))
+    if datum.is_rate() {
+        u64::from(Meter::from_words(period, words[at], words[at + 1]).rate(now))
     } else {
-        Content::Number(words[at])
-    };
-    StoredValue {
-        field: Field {
-            datum: column.datum,
-            index,
-        },
-        content,
+        words[at]
     }
 }
 
-/// Writes a content from `at` on.
-fn write(words: &mut [u64], at: usize, content: Content)
-    requires { at + taken content ≤ length words.old }
+/// Counts at a moment in ms in the rate of a period whose words begin at `at`.
+fn count_at(period: u32, words: &mut [u64], at: usize, now: u64, amount: u64)
+    requires period { (1 ≤ period) × (period < 2 ^ 31) }
+    requires within { at + 2 ≤ length words.old }
     ensures sized { length words.new ≡ length words.old }
-    ensures kept { IsKeptAt content words.new at }
-    ensures elsewhere { (k : ℕ) → (k < at) ⊎ (at + taken content ≤ k) → slice_index words.new k ≡ slice_index words.old k }
+    ensures rate { tally_in period (slice_index words.new at) (slice_index words.new (at + 1)) ≡ with_count (tally_in period (slice_index words.old at) (slice_index words.old (at + 1))) (record { moment = now; amount = amount }) }
+    ensures elsewhere { (k : ℕ) → (k < at) ⊎ (at + 2 ≤ k) → slice_index words.new k ≡ slice_index words.old k }
 {
-    match content {
-        Content::Number(number) => words[at] = number,
-        Content::Rate(meter) => {
-            let (window, sums) = meter.words();
-            words[at] = window;
-            words[at + 1] = sums;
-        }
+    let mut meter = Meter::from_words(period, words[at], words[at + 1]);
+    meter.count(now, amount);
+    let (window, sums) = meter.words();
+    words[at] = window;
+    words[at + 1] = sums;
+}
+
+/// A number after a change: what is added stays below the greatest of its datum.
+fn number_after(datum: Datum, number: u64, change: Change) -> u64
+    ensures { (now : ℕ) → Number result ≡ changed now datum change (Number number) }
+{
+    match change {
+        Change::Keep => number,
+        Change::Add(amount) => number.saturating_add(amount).min(datum.greatest()),
+        Change::Set(value) => value,
     }
 }
 
 /// Does a change at a moment in ms to a column's field whose words begin at `at`.
-fn change_at(column: Column, index: u32, words: &mut [u64], at: usize, now: u64, change: Change)
+#[inline(always)]
+fn change_at(column: Column, words: &mut [u64], at: usize, now: u64, change: Change)
     requires period { IsPeriod (is_rate column.datum) column.period }
-    requires kept { IsTrue (specified_kept (element column index)) }
-    requires within { at + specified_words (element column index) ≤ length words.old }
+    requires kept { IsTrue (specified_kept (element column 0)) }
+    requires within { at + specified_words (element column 0) ≤ length words.old }
     ensures sized { length words.new ≡ length words.old }
-    ensures field { specified_field (element column index) words.new at ≡ altered now change (specified_field (element column index) words.old at) }
-    ensures elsewhere { (k : ℕ) → (k < at) ⊎ (at + specified_words (element column index) ≤ k) → slice_index words.new k ≡ slice_index words.old k }
+    ensures content { content_at column.datum column.period words.new at ≡ changed now column.datum change (content_at column.datum column.period words.old at) }
+    ensures elsewhere { (k : ℕ) → (k < at) ⊎ (at + specified_words (element column 0) ≤ k) → slice_index words.new k ≡ slice_index words.old k }
 {
-    let content = field_at(column, index, words, at).changed(now, change);
-    write(words, at, content);
+    if !column.datum.is_rate() {
+        words[at] = number_after(column.datum, words[at], change);
+        return;
+    }
+    if let Change::Add(amount) = change {
+        count_at(column.period, words, at, now, amount);
+    }
 }
 
 /// Does it to the fields of a column whose words begin at `at`: to one of them, and all others stay.
+#[inline(always)]
 fn edit_column(column: Column, words: &mut [u64], at: usize, edit: Edit)
     requires period { IsPeriod (is_rate column.datum) column.period }
     requires within { at + words_in (elements_of column) ≤ length words.old }
@@ -165,17 +186,13 @@ fn edit_column(column: Column, words: &mut [u64], at: usize, edit: Edit)
     if index >= column.size() {
         return;
     }
-    change_at(
-        column,
-        index,
-        words,
-        at + index as usize,
-        edit.moment(),
-        change,
-    );
+    change_at(column, words, at + index as usize, edit.moment(), change);
 }
 
 /// Does it to each field.
+///
+/// It is put into its callers, as each knows whether it puts or acts, which is asked for each column else.
+#[inline(always)]
 fn edit_fields(columns: &[Column], words: &mut [u64], edit: Edit)
     requires periods { HavePeriods columns.now }
     requires sized { specified_width columns.now ≤ length words.old }
@@ -206,7 +223,7 @@ pub fn get(columns: &[Column], words: &[u64], field: Field, now: u64) -> Option<
     for column in columns {
         if is_kept_in(*column, field) {
             let from = at + field.index as usize;
-            return Some(field_at(*column, field.index, words, from).shown(now));
+            return Some(shown_at(column.datum, column.period, words, from, now));
         }
         at += words_of(*column);
     }

@@ -3,9 +3,9 @@ use Rattle.stick_pooled.specs.Stock.{Held, held_at}
 use Rattle.stick_pooled.specs.Seen.{cell_of}
 use Rattle.stick_pooled.proofs.rows.fill_cells.Given as goal
 
-abbrev pub invariant-loop-field : goal.invariant-loop-field
-invariant-loop-field l = record {
-  shows : (held : Held) → held_at l.store l.slot ≡ Some held → l.cells.items ≡ map (cell_of l.clock l.refs held.values) (take l.field-index l.field-items);
-  used : vec_len l.cells ≡ l.field-index;
-  room : length l.field-items ≤ vec_capacity l.cells;
+abbrev pub invariant-loop-place : goal.invariant-loop-place
+invariant-loop-place l = record {
+  shows : (held : Held) → held_at l.store l.slot ≡ Some held → l.cells.items ≡ map (cell_of l.clock l.refs held.values) (take l.place l.fields);
+  used : vec_len l.cells ≡ l.place;
+  room : length l.fields ≤ vec_capacity l.cells;
 }

@@ -1,7 +1,7 @@
 use Rattle.std.proofs.Common.{rules, ◌≡◌, ◌+◌, ◌<◌, ◌==◌, ap, sym, ◌∙◌, arith, inl, inr, map, true}
 use Rattle.std.proofs.lemmas.Bool.Decides.{nat_tests}
 use Rattle.stored_data.specs.Fields.{element, size}
-use Rattle.stored_data.specs.Words.{edited, edited_index, field_at}
+use Rattle.stored_data.specs.Words.{altered, edited, edited_change, edited_index, edited_moment, field_at}
 use Rattle.stored_data.proofs.Rows.{altered-edited, edited-keeps}
 use Rattle.stored_data.proofs.WordColumns.{nothing_kept, leaves_all, past_all, column-edited, inside_column}
 use Rattle.stored_data.proofs.words.edit_column.Goals as goal
@@ -30,9 +30,12 @@ pub returns-clause-fields : goal.returns-clause-fields
 returns-clause-fields c =
     let below : c.index_in-index.result < size c.args.column = omega (arith, c.size.ensures, c.if-index-size.false) in
     let same : (c.index_in-index.result == edited_index c.args.edit c.args.column.datum) ≡ true = grind (arith, nat_tests, c.index_in-index.ensures) in
+    let changed_so : field_at (element c.args.column c.index_in-index.result) c.change_at.new.words (c.args.at + c.index_in-index.result) ≡ altered (edited_moment c.args.edit) (edited_change c.args.edit c.args.column.datum) (field_at (element c.args.column c.index_in-index.result) c.args.words.now (c.args.at + c.index_in-index.result)) =
+    (λ i. record { field = (element c.args.column c.index_in-index.result).field; content = c.change_at.ensures.content i })
+    ∙ (λ i. altered (c.moment.ensures i) (c.change-change.ensures i) (field_at (element c.args.column c.index_in-index.result) c.args.words.now (c.args.at + c.index_in-index.result))) in
     let is = altered-edited c.args.edit (field_at (element c.args.column c.index_in-index.result) c.args.words.now (c.args.at + c.index_in-index.result)) same in
     column-edited c.args.column c.args.edit c.args.words.now c.change_at.new.words c.args.at c.index_in-index.result (sym c.is_kept.ensures ∙ c.if-not-is_kept.false) c.index_in-index.ensures below
-    (search rules) c.change_at.ensures.elsewhere
+    (changed_so ∙ is) c.change_at.ensures.elsewhere
 
 pub returns-clause-elsewhere : goal.returns-clause-elsewhere
 returns-clause-elsewhere c k out =
