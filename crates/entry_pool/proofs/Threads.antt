@@ -5,7 +5,7 @@ use base.Shift.{Keyless}
 use denote.Exit.{Exit, unchanged, leaves, hidden, under}
 use denote.RattleType.{RattleType}
 use denote.RawPtr.{Ptr, block_ptr, null_ptr}
-use denote.Builtin.{RawPtr, u32, u64, usize}
+use denote.Builtin.{RawPtr, u32, usize}
 use denote.Struct.Struct.{exits_of}
 use denote.Struct.Owning.{shape, fields, to}
 use denote.Struct.Declared.{shape as shape-of}

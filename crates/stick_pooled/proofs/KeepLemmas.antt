@@ -22,7 +22,7 @@ use Rattle.stick_pooled.specs.Parts.{held_in, slots_in, base_from, base_in, base
 use Rattle.stick_pooled.specs.declared.entry.Entry.{Entry}
 use Rattle.stick_pooled.specs.declared.entry.Kept.{Kept}
 use Rattle.stick_pooled.proofs.StockLemmas.{none_some, same_some}
-use Rattle.stick_pooled.proofs.PartLemmas.{size, count, at, made, none_held, some_held, find_from, opened, opened_parts}
+use Rattle.stick_pooled.proofs.PartLemmas.{size, at, made, none_held, some_held, find_from, opened, opened_parts}
 use Rattle.stick_pooled.proofs.BaseLemmas.{base-get, fresh-base, fresh-album, no-base, no-entry, inserted-album, inserted-base, needs_room, written-album, written-base, removed-album, removed-base}
 use Rattle.stick_pooled.proofs.CallLemmas.{inserted_old, insert_shown, insert_kept, removed_old, remove_shown, remove_kept, refreshed_old, refresh_shown, refresh_kept, changed_old, change_shown, change_kept}
 

@@ -10,6 +10,7 @@ pub mod TicketLemmas
 pub mod RefreshLemmas
 pub mod ReleaseLemmas
 pub mod RoomLemmas
+pub mod GoneLemmas
 pub mod StoreLemmas
 pub mod PutLemmas
 pub mod TrackLemmas

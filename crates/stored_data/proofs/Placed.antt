@@ -144,6 +144,11 @@ pub length-placed : (all : List Element) (at : ℕ) → length (placed_from all 
 length-placed [] at = refl
 length-placed (one ∷ all) at = ap suc (length-placed all (at + words_of one))
 
+-- a place that is found among those of these elements is the one of its element
+pub found-place : (all : List Element) (kept : List Place) (at : ℕ) (there : Place) → kept ≡ placed_from all 0 → at < length kept → there ≡ get_or kept at there
+    → (at < length all) × (there ≡ get_or (placed_from all 0) at there)
+found-place all kept at there own inside is = (omega (arith, inside, ap length own, length-placed all 0), is ∙ ap (λ (places : List Place). get_or places at there) own)
+
 pub placed-within : (all : List Element) (at i : ℕ) (d : Place) → i < length all → (place (get_or (placed_from all at) i d).datum == place ConnCur) ≡ false
     → (get_or (placed_from all at) i d).at + taken (get_or (placed_from all at) i d).datum ≤ at + words_in all
 placed-within [] at i d inside kept = absurd (omega (arith, inside))

@@ -1,4 +1,4 @@
-use Rattle.std.proofs.Common.{◌≡◌, rules}
+use Rattle.std.proofs.Common.{rules}
 use Rattle.std.proofs.lemmas.List.Sorted.{answers_always}
 use Rattle.stick_model.specs.Gathered.{has_lower_key}
 use Rattle.stick_model.proofs.ListedLemmas.{key_ranks}

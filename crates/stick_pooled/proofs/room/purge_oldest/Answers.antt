@@ -1,6 +1,6 @@
 use Rattle.std.proofs.Common.{◌≡◌, ◌+◌, sym, subst, ◌∙◌, arith}
 use Rattle.stick_pooled.specs.Space.{IsPurged}
-use Rattle.stick_pooled.proofs.RoomLemmas.{AreGone, none-gone, one-gone, purged-all, purged-early}
+use Rattle.stick_pooled.proofs.GoneLemmas.{AreGone, none-gone, one-gone, purged-all, purged-early}
 use Rattle.stick_pooled.proofs.room.purge_oldest.Goals as goal
 
 pub loop-round-init : goal.loop-round-init

@@ -1,4 +1,4 @@
-use Rattle.stick_pooled.proofs.RoomLemmas.{AreGone}
+use Rattle.stick_pooled.proofs.GoneLemmas.{AreGone}
 use Rattle.stick_pooled.proofs.room.purge_oldest.Given as goal
 
 -- so many are gone as there were rounds

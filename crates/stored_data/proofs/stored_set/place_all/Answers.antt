@@ -1,4 +1,4 @@
-use Rattle.std.proofs.Common.{◌+◌, ◌++◌, ◌∙◌, ap, arith, drop}
+use Rattle.std.proofs.Common.{◌+◌, ◌++◌, ◌∙◌, arith, drop}
 use Rattle.stored_data.specs.Fields.{elements}
 use Rattle.stored_data.specs.Places.{placed_from}
 use Rattle.stored_data.proofs.Elements.{no_column}

@@ -1,4 +1,4 @@
-use Rattle.std.proofs.Common.{◌<◌, ◌-◌, ◌+◌, ◌++◌, ◌∙◌, ap, arith}
+use Rattle.std.proofs.Common.{◌<◌, ◌-◌, ◌+◌, ◌++◌, ◌∙◌, arith}
 use Rattle.stored_data.specs.Fields.{elements_from, size}
 use Rattle.stored_data.specs.Places.{placed_from}
 use Rattle.stored_data.proofs.Placed.{places-joined, words-joined}

@@ -1,4 +1,4 @@
-use Rattle.std.proofs.Common.{rules, ◌≡◌, ◌+◌, ◌<◌, ◌==◌, ap, sym, ◌∙◌, arith, inl, inr, map, true}
+use Rattle.std.proofs.Common.{◌≡◌, ◌+◌, ◌<◌, ◌==◌, ap, sym, ◌∙◌, arith, inl, inr, map, true}
 use Rattle.std.proofs.lemmas.Bool.Decides.{nat_tests}
 use Rattle.stored_data.specs.Fields.{element, size}
 use Rattle.stored_data.specs.Words.{altered, edited, edited_change, edited_index, edited_moment, field_at}
