@@ -166,9 +166,11 @@ impl<T: Table> Book<T> {
         }
     }
 
-    /// How many rows its live table wants room for, as `Table::rows_wanted`.
-    pub fn rows_wanted(&self) -> u32 {
-        self.live.rows_wanted()
+    /// How many entries its live table has, as `Table::entries`.
+    pub fn entries(&self) -> usize
+        ensures { result ≡ length self.now.live.records }
+    {
+        self.live.entries()
     }
 
     /// Gives its live table room for the rows of its next listing, as `Table::swap_room`. It stays as it is.

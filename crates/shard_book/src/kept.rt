@@ -84,9 +84,11 @@ impl<T: Table, J: Naming> Kept<T, J> {
         self.book.occupancy()
     }
 
-    /// How many rows the book's table wants room for, as `Table::rows_wanted`.
-    pub fn rows_wanted(&self) -> u32 {
-        self.book.rows_wanted()
+    /// How many entries the book's table has, as `Table::entries`.
+    pub fn entries(&self) -> usize
+        ensures { result ≡ length self.now.book.live.records }
+    {
+        self.book.entries()
     }
 
     /// Gives the book's table room for the rows of its next listing, as `Table::swap_room`. It stays as it is.

@@ -105,7 +105,7 @@ impl<T: Table, J: Naming> Shards<T, J> {
         ensures err { OnErr result (seat.new ≡ seat.old) }
     {
         if let Filter::Everything = filter {
-            self.make_room(rt, shard);
+            self.give_room(rt, shard);
         }
         match filter.copy() {
             Ok(asked) => self.call(rt, seat, shard, Event::List(now, asked)),

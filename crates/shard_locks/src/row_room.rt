@@ -9,12 +9,12 @@ use stick_table::{RowRoom, Table};
 
 impl<T: Table, J: Naming> Shards<T, J> {
     /// Gives a shard room for the rows of a listing that is asked next. Its memory is taken, and each page of it written, while the
-    /// lock is free: that takes two fifths of what a listing takes. Where there is no memory for it, the listing takes its own.
-    /// It is no event, and changes nothing.
-    pub(crate) fn make_room(&self, rt: &impl Wait, shard: u32)
+    /// lock is free, so that the listing holds it for less. Where there is no memory for it, the listing takes its own. It is no
+    /// event, and changes nothing.
+    pub(crate) fn give_room(&self, rt: &impl Wait, shard: u32)
         requires shard { shard < self.now.shards }
     {
-        let rows = self.rows_wanted(rt, shard);
+        let rows = self.entries(rt, shard);
         let Ok(room) = RowRoom::for_rows(*self.books.allocator(), self.whole(), rows) else {
             return;
         };
@@ -25,11 +25,11 @@ impl<T: Table, J: Naming> Shards<T, J> {
         drop(before);
     }
 
-    /// How many rows a shard wants room for.
-    fn rows_wanted(&self, rt: &impl Wait, shard: u32) -> u32
+    /// How many entries a shard has.
+    fn entries(&self, rt: &impl Wait, shard: u32) -> usize
         requires shard { shard < self.now.shards }
     {
         let kept = self.books[shard as usize].lock(rt);
-        kept.rows_wanted()
+        kept.entries()
     }
 }

@@ -103,7 +103,7 @@ impl<'a, T: Table, J: Naming, R: Wait> Keeper for Seated<'a, T, J, R> {
     #[tactic(auto, using(crate::proofs::ReplyLemmas::told_answers))]
     fn ask(&mut self, shard: u32, event: Event) -> Result<Reply, Refusal> {
         if let Event::List(_, Filter::Everything) = &event {
-            self.shards.make_room(self.rt, shard);
+            self.shards.give_room(self.rt, shard);
         }
         self.shards.call(self.rt, &mut self.seat, shard, event)
     }

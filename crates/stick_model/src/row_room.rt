@@ -66,14 +66,13 @@ impl RowRoom {
 
     /// Memory for so many rows of a table that is made with this, each page of it written. It isn't written with zeros, which an
     /// allocator has without a touch.
-    pub fn for_rows(alloc: Global, spec: &Spec, rows: u32) -> Result<RowRoom, NoMemory>
+    pub fn for_rows(alloc: Global, spec: &Spec, rows: usize) -> Result<RowRoom, NoMemory>
         ensures { IfOk result (λ room. rows ≤ room) }
     {
-        let count = rows as usize;
         let wide = words::width(spec.columns.columns());
         let (Some(words), Some(bytes)) = (
-            count.checked_mul(wide),
-            count.checked_mul(key_room(spec.kind)),
+            rows.checked_mul(wide),
+            rows.checked_mul(key_room(spec.kind)),
         ) else {
             return Err(NoMemory);
         };
@@ -83,7 +82,7 @@ impl RowRoom {
             left: 1,
         };
         Ok(RowRoom {
-            heads: written(alloc, head, count)?,
+            heads: written(alloc, head, rows)?,
             bytes: written(alloc, 1, bytes)?,
             words: written(alloc, 1, words)?,
         })

@@ -117,8 +117,8 @@ impl Table for StickTable {
         self.store.purged()
     }
 
-    fn rows_wanted(&self) -> u32 {
-        self.store.len()
+    fn entries(&self) -> usize {
+        self.store.len() as usize
     }
 
     fn swap_room(&mut self, room: RowRoom) -> RowRoom {

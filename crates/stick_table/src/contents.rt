@@ -188,6 +188,13 @@ impl Contents {
         self.tickets.len() as u32
     }
 
+    /// How many records there are.
+    pub(crate) fn entries(&self) -> usize
+        ensures { result ≡ length self.now.records }
+    {
+        self.records.len()
+    }
+
     /// How many records went to make room for others, modulo 2^64.
     pub(crate) fn purged(&self) -> u64 {
         self.purged

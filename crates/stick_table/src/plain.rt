@@ -132,8 +132,8 @@ impl Table for PlainTable {
         self.live.purged()
     }
 
-    fn rows_wanted(&self) -> u32 {
-        0
+    fn entries(&self) -> usize {
+        self.live.entries()
     }
 
     fn swap_room(&mut self, room: RowRoom) -> RowRoom {

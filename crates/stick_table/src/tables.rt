@@ -60,9 +60,9 @@ pub trait Table: Drop {
     /// How many entries went to make room for others since it was opened, modulo 2^64. No clause says it, as its state doesn't tell.
     fn purged(&self) -> u64;
 
-    /// How many rows it wants room for before it lists all: as many as it has entries, or 0 where it makes no use of room. No
-    /// clause says it, as it sizes memory alone.
-    fn rows_wanted(&self) -> u32;
+    /// How many entries it has, with those that have reached their date since its clock was moved last.
+    fn entries(&self) -> usize
+        ensures { result ≡ length (state self.now).records };
 
     /// Takes room for the rows of its next listing, and gives back what it had. It answers as before.
     fn swap_room(&mut self, room: RowRoom) -> RowRoom
