@@ -49,9 +49,8 @@ fn append<T: Copy>(list: &mut Vec<T>, more: &[T])
     requires { vec_len list.old + length more.now ≤ vec_capacity list.old }
     ensures { list.new.items ≡ list.old.items ++ more.now }
 {
-    match list.extend_from_slice(more) {
-        Ok(()) => {}
-        Err(_) => unreachable!(),
+    for item in more {
+        list.push_reserved(*item);
     }
 }
 
@@ -88,20 +87,8 @@ impl Gathering {
     ghost use Rattle.stored_data.specs.Words.{fields_in, width as specified_width};
     ghost use Rattle.stick_model.specs.Gathered.{gathered, row_with, with_row};
 
-    /// No row yet, of a table with these columns, as it is at a moment, with room for so many rows.
-    pub fn new(
-        alloc: Global,
-        columns: &StoredSet,
-        clock: u64,
-        room: u32,
-    ) -> Result<Gathering, NoMemory>
-        ensures { IfOk result (λ g. g ≡ gathered columns.now clock []) }
-    {
-        let none = RowRoom::none(alloc);
-        Gathering::in_room(none, columns, clock, room)
-    }
-
-    /// The same in memory that was taken before, and in more where so many rows need more.
+    /// No row yet, of a table with these columns, as it is at a moment. So many rows have their place, in memory that was taken
+    /// before, and in more where they need more.
     pub fn in_room(
         room: RowRoom,
         columns: &StoredSet,
@@ -151,7 +138,8 @@ impl Gathering {
         };
         self.bytes.reserve(bytes.len())?;
         self.words.reserve(words.len())?;
-        self.heads.push(Head { size, refs, left })?;
+        self.heads.reserve(1)?;
+        self.heads.push_reserved(Head { size, refs, left });
         append(&mut self.bytes, bytes);
         append(&mut self.words, words);
         Ok(())

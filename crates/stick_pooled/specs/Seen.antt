@@ -3,12 +3,11 @@ use Rattle.std.specs.Prelude.{◌≡◌, ℕ, nat_lt, Bool, true, false, not, �
 use Rattle.std.specs.Option.{option_and_then, option_map}
 use Rattle.stored_data.specs.Acts.{value_at}
 use Rattle.stored_data.specs.Fields.{fields_of}
-use Rattle.stored_data.specs.declared.field.Field.{Field}
 use Rattle.stored_data.specs.declared.stored_set.Column.{Column}
 use Rattle.stored_data.specs.declared.values.StoredValue.{StoredValue}
 use Rattle.stick_pooled.specs.Stock.{Held, Stock, held_at}
 use Rattle.stick_model.specs.Filters.{compares}
-use Rattle.stick_model.specs.Gathered.{Gathered, with_row}
+use Rattle.stick_model.specs.Gathered.{Gathered, cell_of, with_row}
 use Rattle.stick_pooled.specs.Slots.{entries_of}
 use Rattle.stick_model.specs.Key.{Key, key_cmp, same_key}
 use Rattle.stick_model.specs.State.{outlives, row_of}
@@ -17,10 +16,6 @@ use Rattle.stick_model.specs.declared.rows.Row.{Row}
 use Rattle.stick_model.specs.declared.filters.Filter.{Filter}
 use Rattle.stick_model.specs.declared.filters.Filter.TheVariants.{Everything, Nothing, Key as OneKey, Compare}
 use Rattle.stick_pooled.specs.Shown.{record_of}
-
--- what a row shows of a field of these data, of an entry that has so many references
-abbrev pub cell_of : ℕ → ℕ → List StoredValue → Field → Cell
-cell_of clock refs values field = record { field = field; value = unwrap_or (value_at values field clock) refs }
 
 -- the cells of a row, of an entry that has so many references
 abbrev pub cells_of : List Column → ℕ → ℕ → List StoredValue → List Cell

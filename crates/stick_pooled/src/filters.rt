@@ -66,6 +66,9 @@ fn is_live(store: &Store, expire: Option<u32>, clock: u64, slot: u32) -> bool
 }
 
 /// The slot of a key's entry, where it is there when the clock has come to this moment.
+///
+/// It is put into its callers, as a slot that comes back from a call waits until the entry was read, and what is read by it as well.
+#[inline(always)]
 pub(crate) fn live_slot(
     store: &Store,
     expire: Option<u32>,

@@ -121,7 +121,8 @@ fn find_row(
     requires stock { IsStock store.now }
     ensures { IfOk result (λ rows. rows.rows ≡ listed_in spec.now.columns spec.now.expire clock (OneKey key.now) store.now.slots) }
 {
-    let mut rows = Gathering::new(alloc, &spec.columns, clock, 0)?;
+    let none = RowRoom::none(alloc);
+    let mut rows = Gathering::in_room(none, &spec.columns, clock, 0)?;
     let Some(at) = live_slot(store, spec.expire, clock, key) else {
         return Ok(rows);
     };
@@ -149,7 +150,10 @@ fn gather_rows(
 {
     match choice {
         Filter::Everything => walk_rows(room, spec, store, clock, choice, used),
-        Filter::Nothing => Gathering::new(alloc, &spec.columns, clock, 0),
+        Filter::Nothing => {
+            let none = RowRoom::none(alloc);
+            Gathering::in_room(none, &spec.columns, clock, 0)
+        }
         Filter::Key(key) => find_row(alloc, spec, store, clock, key),
         Filter::Compare(_, _, _) => {
             let none = RowRoom::none(alloc);
@@ -177,8 +181,7 @@ fn list_rows(
     ensures { IfOk result (λ rows. rows ≡ values_of (listed_entries spec.now.columns spec.now.expire clock choice.now store.now.slots)) }
 {
     let rows = gather_rows(alloc, room, spec, store, clock, choice, used)?;
-    let listed = Rows::gathered(alloc, rows)?;
-    Ok(listed)
+    Rows::gathered(alloc, rows)
 }
 
 impl StickTable {

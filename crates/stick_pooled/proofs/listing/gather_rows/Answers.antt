@@ -9,4 +9,4 @@ pub returns-in-Nothing : goal.returns-in-Nothing
 returns-in-Nothing c =
     let spec = c.args.spec.now in
     let none = sym (ap (λ (choice : Filter). listed_in spec.columns spec.expire c.args.clock choice c.args.store.now.slots) c.in-Nothing.is ∙ nothing-listed spec.columns spec.expire c.args.clock c.args.store.now.slots) in
-    if_made c.new.result _ _ c.new.ensures none
+    if_made c.in_room.result _ _ c.in_room.ensures none

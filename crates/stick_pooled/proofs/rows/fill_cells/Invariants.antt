@@ -1,6 +1,6 @@
 use Rattle.std.proofs.Common.{◌≡◌, ◌≤◌, take, map, Some, length, vec_len, vec_capacity}
 use Rattle.stick_pooled.specs.Stock.{Held, held_at}
-use Rattle.stick_pooled.specs.Seen.{cell_of}
+use Rattle.stick_model.specs.Gathered.{cell_of}
 use Rattle.stick_pooled.proofs.rows.fill_cells.Given as goal
 
 abbrev pub invariant-loop-place : goal.invariant-loop-place

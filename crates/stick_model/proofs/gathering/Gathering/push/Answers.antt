@@ -14,7 +14,7 @@ invariant_of-self-2 c =
     let head : Head = record { size = c.in-Ok.size; refs = c.args.refs; left = c.args.left } in
     let keyed : head.size ≡ length key = search rules in
     let sized : length c.args.words.now ≡ W = c.requires ∙ ap (λ (all : Gathered). width all.columns) (sym c.self.view_is) in
-    let heads : c.push.new.self.items ≡ g.heads.items ++ head ∷ [] = c.in_ok-push.ensures.items in
+    let heads : c.push_reserved.new.self.items ≡ g.heads.items ++ head ∷ [] = c.push_reserved.ensures.items ∙ ap (λ h. h ++ head ∷ []) c.reserve-3.ensures.items in
     let bytes : c.append.new.list.items ≡ g.bytes.items ++ key = c.append.ensures ∙ ap (λ b. b ++ c.bytes-bytes.result.now) c.reserve.ensures.items ∙ ap (λ k. g.bytes.items ++ k) c.bytes-bytes.ensures in
     let words : c.append-2.new.list.items ≡ g.words.items ++ c.args.words.now = c.append-2.ensures ∙ ap (λ w. w ++ c.args.words.now) c.reserve-2.ensures.items in
     subst (λ hs. AreCut W hs c.append.new.list.items c.append-2.new.list.items) (sym heads)
@@ -29,7 +29,7 @@ returns-clause-ok c =
     let head : Head = record { size = c.in-Ok.size; refs = c.args.refs; left = c.args.left } in
     let keyed : head.size ≡ length key = search rules in
     let sized : length c.args.words.now ≡ W = c.requires ∙ ap (λ (all : Gathered). width all.columns) (sym c.self.view_is) in
-    let heads : c.push.new.self.items ≡ g.heads.items ++ head ∷ [] = c.in_ok-push.ensures.items in
+    let heads : c.push_reserved.new.self.items ≡ g.heads.items ++ head ∷ [] = c.push_reserved.ensures.items ∙ ap (λ h. h ++ head ∷ []) c.reserve-3.ensures.items in
     let bytes : c.append.new.list.items ≡ g.bytes.items ++ key = c.append.ensures ∙ ap (λ b. b ++ c.bytes-bytes.result.now) c.reserve.ensures.items ∙ ap (λ k. g.bytes.items ++ k) c.bytes-bytes.ensures in
     let words : c.append-2.new.list.items ≡ g.words.items ++ c.args.words.now = c.append-2.ensures ∙ ap (λ w. w ++ c.args.words.now) c.reserve-2.ensures.items in
     (λ i. gathered g.columns g.clock (rows_in g.columns g.clock (heads i) (bytes i) (words i)))
