@@ -239,6 +239,10 @@ impl Store {
 
     /// Writes the entry of a slot that has one, and moves its slot to the back of the queue, or, where a reference holds
     /// it, out of the queue.
+    ///
+    /// It is put into its callers, so that the entry stays in registers: read from memory just behind the writes of its parts, it waits
+    /// until these are through.
+    #[inline(always)]
     pub fn refresh(&mut self, slot: u32, entry: Entry)
         requires { IsSome (held_at self.old slot) }
         ensures { self.new ≡ with_entry self.old slot entry }
