@@ -14,14 +14,14 @@ use Rattle.shard_record.specs.Calls.{Held, IsHistory, call, out}
 use Rattle.shard_record.specs.Parts.{compared, holder, joined, longer}
 use Rattle.shard_record.specs.Views.{AreCompared, View, at, keeper_alone, keeping, not_keeping, only, paired, put, without_keeper}
 use Rattle.shard_record.specs.Telling.{IsOut, IsReference, key_at, key_in, log_of, ticket_at, ticket_in}
-use Rattle.shard_record.proofs.Prefixes.{prefix_self, prefix_trans}
+use Rattle.shard_record.proofs.Beginnings.{begins_itself, begins_further}
 use Rattle.shard_record.proofs.Records.{history_out, out_more}
 use Rattle.shard_record.proofs.TellingLemmas.{held_out, joins_only}
 use Rattle.shard_record.proofs.Views.{at_put, put_put}
 use Rattle.shard_locks.specs.Shared.{KnowsKey, WasOut}
 
 pub was_later : (log later : List Call) (ticket : Ticket) (key : Key) → IsPrefix log later → WasOut log ticket key → WasOut later ticket key
-was_later log later ticket key begins was = (was.0, prefix_trans was.0 log later was.1 begins, was.2)
+was_later log later ticket key begins was = (was.0, begins_further was.0 log later was.1 begins, was.2)
 
 -- the ticket that a track is told is out behind it, by the key of its row
 pub track_out : (log : List Call) (seat now : ℕ) (key : Key) (ticket : Ticket) (row : Row) → IsHistory (log ++ call seat (Track now key) (Tracked ticket row) ∷ []) → WasOut (log ++ call seat (Track now key) (Tracked ticket row) ∷ []) ticket row.key
@@ -29,7 +29,7 @@ track_out log seat now key ticket row is =
     let whole : List Call = log ++ call seat (Track now key) (Tracked ticket row) ∷ [] in
     let all : out whole ≡ out log ++ (ticket, row.key) ∷ [] = out_more [] log (call seat (Track now key) (Tracked ticket row)) in
     let here : IsOut whole ticket row.key = held_out whole ticket row.key (λ h. subst (λ hs. sum_by h ((ticket, row.key) ∷ []) ≤ sum_by h hs) (sym all) (last h (out log) (ticket, row.key))) in
-    (whole, prefix_self whole, ap (key_of ticket) (sym (history_out whole is.0 is.1)) ∙ here is.0 is.1)
+    (whole, begins_itself whole, ap (key_of ticket) (sym (history_out whole is.0 is.1)) ∙ here is.0 is.1)
   where
     last : (h : Held → ℕ) (hs : List Held) (one : Held) → sum_by h (one ∷ []) ≤ sum_by h (hs ++ one ∷ [])
     last h hs one = omega (arith, sum_by-append h hs (one ∷ []))

@@ -21,7 +21,7 @@ use Rattle.stick_model.proofs.StepCases.{of_mapped, of_test}
 use Rattle.shard_record.specs.declared.view.Call.{Call}
 use Rattle.shard_record.specs.Calls.{Answers, IsHistory, IsHistoryOf, IsRecord, call, out}
 use Rattle.shard_record.proofs.OneKey.{one_key-law}
-use Rattle.shard_record.proofs.Prefixes.{prefix_trans}
+use Rattle.shard_record.proofs.Beginnings.{begins_further}
 use Rattle.shard_record.proofs.Records.{history_legal, history_out}
 use Rattle.shard_locks.specs.Shared.{WasOut}
 use Rattle.shard_locks.proofs.KeyLemmas.{track_out}
@@ -109,4 +109,4 @@ look_key log seat now ticket key row is was =
     let shows = shown end.before now ticket row end.live (history_legal log end.before end.history) end.answers.step in
     let here : key_of ticket (out log) ≡ Some shows.key = ap (key_of ticket) (sym (history_out log end.before end.history)) ∙ shows.out in
     let begins : IsPrefix log whole = (call seat (Look now ticket) (ARow row) ∷ [], refl) in
-    shows.of_key ∙ one_key-law whole was.0 log ticket key shows.key is (prefix_trans was.0 log whole was.1 begins) begins was.2 here
+    shows.of_key ∙ one_key-law whole was.0 log ticket key shows.key is (begins_further was.0 log whole was.1 begins) begins was.2 here

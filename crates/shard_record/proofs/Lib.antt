@@ -1,4 +1,4 @@
-pub mod Prefixes
+pub mod Beginnings
 pub mod Records
 pub mod OneKey
 pub mod Tickets

@@ -16,7 +16,7 @@ use Rattle.shard_record.specs.declared.view.Part.{Part}
 use Rattle.shard_record.specs.Calls.{Held, IsHistoryOf, call, out, passed_in}
 use Rattle.shard_record.specs.Parts.{AreTheirs, Fits, IsCompared, IsWithin, Kept, MayAppend, appended, caller, caller_number, compared, is_caller, joined, longer, nobody, seats_of, total, weight}
 use Rattle.shard_record.proofs.Callers.{count_both, count_called, theirs_both, theirs_other, theirs_own}
-use Rattle.shard_record.proofs.Prefixes.{prefix_length, prefix_self, prefix_shorter, prefix_trans}
+use Rattle.shard_record.proofs.Beginnings.{begins_further, begins_itself, begins_no_longer, begins_the_longer}
 use Rattle.shard_record.proofs.Records.{count_more, history_legal, history_more, history_out, history_part, out_more, passed_later, record_limit}
 use Rattle.shard_record.proofs.Tickets.{weigh_told}
 
@@ -83,16 +83,16 @@ module _ (by : ℕ) (v : Part) (event : Event) (reply : Reply) (may : MayAppend 
   others : (j : ℕ) (u : Part) → j ≢ by → get_elem? parts j ≡ some u → Fits kept.kept_by log j u
   others j u apart e = let f = kept.fits j u e in record {
     keeps = λ k. absurd (apart ((f.keeps k).0 ∙ sym mine.0));
-    begins = prefix_trans u.log kept.log log f.begins (call seat event reply ∷ [], refl);
-    told = prefix_trans u.told kept.log log f.told (call seat event reply ∷ [], refl);
+    begins = begins_further u.log kept.log log f.begins (call seat event reply ∷ [], refl);
+    told = begins_further u.told kept.log log f.told (call seat event reply ∷ [], refl);
     mine = theirs_other seat event reply kept.log u.callers (omega (arith, called, kept.single seat, total_two (seats_of seat) parts by j v u apart at e)) f.mine;
   }
 
   own : Fits kept.kept_by log by w
   own = record {
     keeps = λ _. (mine.0, ap (λ l. l ++ call seat event reply ∷ []) mine.1);
-    begins = subst (λ l. IsPrefix l log) (sym (ap (λ l. l ++ call seat event reply ∷ []) mine.1)) (prefix_self log);
-    told = prefix_trans v.told kept.log log (kept.fits by v at).told (call seat event reply ∷ [], refl);
+    begins = subst (λ l. IsPrefix l log) (sym (ap (λ l. l ++ call seat event reply ∷ []) mine.1)) (begins_itself log);
+    told = begins_further v.told kept.log log (kept.fits by v at).told (call seat event reply ∷ [], refl);
     mine = theirs_own seat event reply kept.log may.mine v.callers may.caller (kept.fits by v at).mine;
   }
 
@@ -145,7 +145,7 @@ module _ (by : ℕ) (v : Part) (parts : List Part) (kept : Kept parts) (at : get
   within_record = longer_one (λ l. IsPrefix l kept.log) v.log v.told fit.begins fit.told
 
   whole : v.keeps ≡ true → known ≡ v.log
-  whole k = longer_whole v.log v.told (subst (λ l. length v.told ≤ length l) (sym (fit.keeps k).1) (prefix_length v.told kept.log fit.told))
+  whole k = longer_whole v.log v.told (subst (λ l. length v.told ≤ length l) (sym (fit.keeps k).1) (begins_no_longer v.told kept.log fit.told))
 
   own_after : Fits kept.kept_by kept.log by (compared v)
   own_after = record {
@@ -179,8 +179,8 @@ module _ (by : ℕ) (v : Part) (parts : List Part) (kept : Kept parts) (at : get
 
   pub compared_is : IsCompared v (compared v)
   compared_is = record {
-    knew = prefix_shorter v.log known kept.log fit.begins within_record lengths.0;
-    told = prefix_shorter v.told known kept.log fit.told within_record lengths.1;
+    knew = begins_the_longer v.log known kept.log fit.begins within_record lengths.0;
+    told = begins_the_longer v.told known kept.log fit.told within_record lengths.1;
     whole = whole;
     history = history_part known kept.log kept.live within_record kept.history;
     within = within;
@@ -221,16 +221,16 @@ module _ (by : ℕ) (v left right : Part) (cut : IsCut v left right) (parts : Li
   after-cut = set parts by left ++ right ∷ []
 
   left_begins : IsPrefix left.log kept.log
-  left_begins = prefix_trans left.log v.log kept.log cut.left_log fit-cut.begins
+  left_begins = begins_further left.log v.log kept.log cut.left_log fit-cut.begins
 
   left_told : IsPrefix left.told kept.log
-  left_told = prefix_trans left.told v.told kept.log cut.left_told fit-cut.told
+  left_told = begins_further left.told v.told kept.log cut.left_told fit-cut.told
 
   right_begins : IsPrefix right.log kept.log
-  right_begins = prefix_trans right.log v.log kept.log cut.right_log fit-cut.begins
+  right_begins = begins_further right.log v.log kept.log cut.right_log fit-cut.begins
 
   right_told : IsPrefix right.told kept.log
-  right_told = prefix_trans right.told v.told kept.log cut.right_told fit-cut.told
+  right_told = begins_further right.told v.told kept.log cut.right_told fit-cut.told
 
   -- the record is kept by some token, as each token fits it
   abbrev Fitting : ℕ → Type 0

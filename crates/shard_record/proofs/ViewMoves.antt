@@ -20,7 +20,7 @@ use Rattle.shard_record.specs.Parts.{AreTheirs, Fits, IsCompared, Kept, MayAppen
 use Rattle.shard_record.specs.Views.{Appended, AreKept, Compared, View, at, beginning, book_alone, keeper_alone, keeping, not_keeping, only, opening, paired, parts_at, put, calling, not_calling, seat_alone, without_book, without_keeper, without_seat}
 use Rattle.shard_record.proofs.Callers.{count_split, theirs_some}
 use Rattle.shard_record.proofs.Moves.{IsCut, appends_kept, compared_is, compares_kept, cut_kept, joins_kept}
-use Rattle.shard_record.proofs.Prefixes.{prefix_self}
+use Rattle.shard_record.proofs.Beginnings.{begins_itself}
 use Rattle.shard_record.proofs.Views.{at_map, at_paired, at_put, at_put_else, at_views}
 
 abbrev pub Rule : TableState (Unit {0}) View → Type 0
@@ -96,8 +96,8 @@ cuts by v left right cut s kept there = λ book.
 cut_none : (v : Part) → IsCut v v nobody
 cut_none v = record {
   keeps = inl (refl, refl, refl);
-  left_log = prefix_self v.log;
-  left_told = prefix_self v.told;
+  left_log = begins_itself v.log;
+  left_told = begins_itself v.told;
   right_log = (v.log, refl);
   right_told = (v.told, refl);
   held = λ h. omega arith;
@@ -109,9 +109,9 @@ cut_none v = record {
 cut_held : (v : Part) → IsCut v (without_held v) (held_alone v)
 cut_held v = record {
   keeps = inl (refl, refl, refl);
-  left_log = prefix_self v.log;
-  left_told = prefix_self v.told;
-  right_log = prefix_self v.log;
+  left_log = begins_itself v.log;
+  left_told = begins_itself v.told;
+  right_log = begins_itself v.log;
   right_told = (v.told, refl);
   held = λ h. omega arith;
   seats = λ number. omega arith;
@@ -122,9 +122,9 @@ cut_held v = record {
 cut_callers : (v : Part) → IsCut v (without_callers v) (callers_alone v)
 cut_callers v = record {
   keeps = inl (refl, refl, refl);
-  left_log = prefix_self v.log;
-  left_told = prefix_self v.told;
-  right_log = prefix_self v.log;
+  left_log = begins_itself v.log;
+  left_told = begins_itself v.told;
+  right_log = begins_itself v.log;
   right_told = (v.told, refl);
   held = λ h. omega arith;
   seats = λ number. omega arith;
@@ -135,9 +135,9 @@ cut_callers v = record {
 cut_seat : (number : ℕ) (v : Part) → IsCut v (not_calling number v) (calling number v)
 cut_seat number v = record {
   keeps = inl (refl, refl, refl);
-  left_log = prefix_self v.log;
-  left_told = prefix_self v.told;
-  right_log = prefix_self v.log;
+  left_log = begins_itself v.log;
+  left_told = begins_itself v.told;
+  right_log = begins_itself v.log;
   right_told = (v.told, refl);
   held = λ h. omega arith;
   seats = λ other. count_split number other v.callers;
@@ -151,8 +151,8 @@ cut_all v = record {
   keeps = inr (refl, refl, refl);
   left_log = (v.log, refl);
   left_told = (v.told, refl);
-  right_log = prefix_self v.log;
-  right_told = prefix_self v.told;
+  right_log = begins_itself v.log;
+  right_told = begins_itself v.told;
   held = λ h. omega arith;
   seats = λ number. omega arith;
   left_mine = λ log theirs. tt;
@@ -162,9 +162,9 @@ cut_all v = record {
 cut_keeper : (v : Part) → IsCut v (not_keeping v) (keeping v)
 cut_keeper v = record {
   keeps = inr (refl, refl, refl);
-  left_log = prefix_self v.log;
-  left_told = prefix_self v.told;
-  right_log = prefix_self v.log;
+  left_log = begins_itself v.log;
+  left_told = begins_itself v.told;
+  right_log = begins_itself v.log;
   right_told = (v.told, refl);
   held = λ h. omega arith;
   seats = λ number. omega arith;

@@ -16,7 +16,7 @@ use Rattle.stick_model.proofs.TestLemmas.{eq-from}
 use Rattle.shard_record.specs.declared.view.Call.{Call as Noted}
 use Rattle.shard_record.specs.Calls.{IsHistory, call}
 use Rattle.shard_record.specs.Telling.{IsTold, log_of, number_of}
-use Rattle.shard_record.proofs.Prefixes.{prefix_self}
+use Rattle.shard_record.proofs.Beginnings.{begins_itself}
 use Rattle.shard_book.specs.Keeping.{part_of}
 use Rattle.shard_book.specs.Kept.{IsMadeWith}
 use Rattle.shard_book.specs.SeatState.{RefState}
@@ -156,7 +156,7 @@ module _ (old new : List SeatedState) (asked : Call) (reply : Reply) (answers_it
       by false is = record {
         later = seat;
         at = ap (λ seats. slice_get seats of) answers_it.others ∙ get_set_other old asked.table of answers_it.after is ∙ at;
-        more = prefix_self (known_of seat part);
+        more = begins_itself (known_of seat part);
         history = λ had. had;
         made = λ had. had;
       }

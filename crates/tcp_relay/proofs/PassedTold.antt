@@ -10,7 +10,7 @@ use Rattle.shard_record.specs.declared.view.Part.{Part}
 use Rattle.shard_record.specs.Calls.{IsHistory, call}
 use Rattle.shard_record.specs.Telling.{IsTold, log_of, mine_of, number_of, spoken}
 use Rattle.shard_record.specs.Views.{View, at}
-use Rattle.shard_record.proofs.Prefixes.{prefix_self}
+use Rattle.shard_record.proofs.Beginnings.{begins_itself}
 use Rattle.shard_record.proofs.Views.{at_put_else}
 
 same : (a : ℕ) → nat_eq a a ≡ true
@@ -32,7 +32,7 @@ module _ (of : ℕ) (event : Event) (reply : Reply) (old new : View) (told : IsT
 
       by : (b : Bool) → nat_eq book of ≡ b → IsPrefix (log_of book old) (log_of book new)
       by true is = subst (λ n. IsPrefix (log_of n old) (log_of n new)) (sym (eq-from book of is)) own
-      by false is = subst (IsPrefix (log_of book old)) (sym (other_same book is)) (prefix_self (log_of book old))
+      by false is = subst (IsPrefix (log_of book old)) (sym (other_same book is)) (begins_itself (log_of book old))
 
   pub told_history : (book : ℕ) → IsHistory (log_of book old) → IsHistory (log_of book new)
   told_history book was = by (nat_eq book of) refl
