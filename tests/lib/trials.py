@@ -34,10 +34,10 @@ def give_program(path):
 
 
 class Sum:
-    """How many trials of a command passed and failed, and how many were left out."""
+    """How many trials of a command passed and failed, how many were left out, and how many passed weakly."""
 
     def __init__(self, command):
-        self.command, self.passed, self.failed, self.left_out = command, 0, 0, 0
+        self.command, self.passed, self.failed, self.left_out, self.weak = command, 0, 0, 0, 0
 
     def add(self, passed, failed):
         """Counts trials."""
@@ -51,7 +51,8 @@ class Sum:
     def status(self):
         """Says the sum, and answers the command's status: 1 where a trial failed, and where none was made."""
         left_out = f', {self.left_out} left out' if self.left_out else ''
-        print(f'{self.command}: {self.passed} passed, {self.failed} failed{left_out}')
+        weak = f', {self.weak} weak' if self.weak else ''
+        print(f'{self.command}: {self.passed} passed, {self.failed} failed{weak}{left_out}')
         return 1 if self.failed or not self.passed else 0
 
 

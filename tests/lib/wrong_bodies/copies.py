@@ -6,6 +6,7 @@ import shutil
 import tempfile
 
 from lib import kit
+from lib.wrong_bodies.answers import without
 from lib.wrong_bodies.functions import Function, functions_of, impl_of, imports_of, text_of, texts_of
 
 # How values are dropped of which nothing has to be dropped: no proof of that is read.
@@ -55,6 +56,16 @@ def add_copy(crate, room, edit, texts, written):
         for name in names:
             with open(os.path.join(into, name), 'w', encoding='utf-8') as proof:
                 proof.write(named.sub(rf'.\1.{".".join(made.modules)}', text_of(os.path.join(at, name))))
+
+
+def leave_out_answers(room, edit):
+    """Takes the answers that an edit leaves out from the proof files of its functions in the copy."""
+    for function, names in zip(edit.functions, edit.dropped):
+        file = os.path.join(room, 'proofs', *function.modules, 'Answers.antt')
+        if names and os.path.isfile(file):
+            text = without(text_of(file), names)
+            with open(file, 'w', encoding='utf-8') as proof:
+                proof.write(text)
 
 
 def glue_of(crate):
@@ -108,6 +119,7 @@ def check(crate, edits, kept=None):
         for edit in edits:
             if edit.copied:
                 add_copy(crate, room, edit, texts, written)
+            leave_out_answers(room, edit)
         for path, text in written.items():
             with open(os.path.join(room, path), 'w', encoding='utf-8') as file:
                 file.write(text)

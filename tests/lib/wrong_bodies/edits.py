@@ -7,11 +7,18 @@ from lib.wrong_bodies.functions import can_be_copied, changed_at, text_of, texts
 
 
 class Edit:
-    """A wrong body: what it changes, and the functions of which a goal that isn't proved shows that it is refused."""
+    """A wrong body: what it changes, and the functions of which a goal that isn't proved shows that it is refused. Of each of
+    these, too, the answers of its proof file that are left out."""
 
     def __init__(self, name, lines, texts):
         self.name, self.lines, self.changes, self.functions, self.copied = name, lines, [], [], None
         self.fault = self.read(lines, dict(texts))
+        self.dropped = [set() for _ in self.functions]
+
+    def drop(self, names):
+        """Leaves out these answers too, of each function in turn."""
+        for dropped, more in zip(self.dropped, names):
+            dropped |= more
 
     def read(self, lines, texts):
         """Reads the changes, and the functions that they are of; says what is wrong with the edit, if anything is."""
@@ -97,5 +104,5 @@ def edits_of(crate, file):
 def unchanged(edit):
     """An edit of the same functions that changes nothing."""
     same = Edit(edit.name, [], {})
-    same.functions, same.fault = edit.functions, edit.fault
+    same.functions, same.fault, same.dropped = edit.functions, edit.fault, [set() for _ in edit.functions]
     return same

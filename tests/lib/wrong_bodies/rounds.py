@@ -1,37 +1,16 @@
 """Rounds in which edits of a crate are tried, as many at once as can be, and what the checker says of each."""
+import collections
 import re
 import tempfile
 import time
 
 from lib.wrong_bodies.copies import check
 from lib.wrong_bodies.functions import texts_of
+from lib.wrong_bodies.verdicts import MISFIT, NOTHING, REFUSED, UNREAD_TEXT, WEAK, judged, messages_of
 
-# What the checker says of a goal of a function, at its place.
-OPEN_GOAL = re.compile(r'^note: (?:\./)?(src/\S+?):(\d+):\d+: it is not proved that ')
-# What it says of a proof file of a function, by the file's folder; and where that names what is gone.
-PROOF_FILE = re.compile(r'^(?:\./)?proofs/(\S+)/(?:Answers|Invariants|Proof)\.antt:\d+:\d+: error: (`[^`]*`: .*)')
-NAME_IS_GONE = re.compile(r'is not in scope|has no field|is no name|has no `|no such|unknown')
-# What it says of a text that it can't read.
-UNREAD = re.compile(r'^(?:\./)?(src/\S+?):(\d+):\d+: error\b')
-
-
-def is_refused(edit, lines):
-    """Whether the checker says of a function that the edit changes that a goal of its own isn't proved: that nothing proves
-    it, or that the answer of its proof file doesn't. Where a proof file names what is gone, that says nothing of the rest."""
-    goals = [found for found in map(OPEN_GOAL.match, lines) if found]
-    files = [found for found in map(PROOF_FILE.match, lines) if found]
-    for function in edit.functions:
-        own = [found[2] for found in files if found[1].split('/') == function.modules]
-        if any(map(NAME_IS_GONE.search, own)):
-            continue
-        if own or any(function.is_at(found[1], int(found[2])) for found in goals):
-            return True
-    return False
-
-
-def is_unread(edit, lines):
-    """Whether the checker can't read the text of a function that the edit changes."""
-    return any(edit.is_at(found[1], int(found[2])) for found in map(UNREAD.match, lines) if found)
+# What came of a crate's edits: the names of those that are refused and of those that are weakly, what was said of each other
+# one, and how many rounds and seconds it took.
+Outcome = collections.namedtuple('Outcome', 'refused weak said rounds seconds')
 
 
 def side_by_side(edits, most, texts):
@@ -44,23 +23,39 @@ def side_by_side(edits, most, texts):
     return chosen
 
 
-def rounds(crate, edits, kept):
-    """Tries the edits in rounds: which were refused, what was said last of each other one, and how many rounds there were."""
-    left, refused, said, most, count, texts = list(edits), [], {}, len(edits), 0, texts_of(crate.folder)
-    while left:
-        count += 1
-        chosen = side_by_side(left, most, texts)
+class Rounds:
+    """The edits of a crate that are left, and what came of the others."""
+
+    def __init__(self, crate, edits, kept):
+        self.crate, self.kept, self.texts = crate, kept, texts_of(crate.folder)
+        self.left, self.count, self.most = list(edits), 0, len(edits)
+        self.refused, self.weak, self.said = [], [], {}
+
+    def try_round(self):
+        """Makes a round."""
+        self.count += 1
+        chosen = side_by_side(self.left, self.most, self.texts)
         # Most crates have one round, for which keeping the work takes more than it saves.
-        lines = check(crate, chosen, kept if count > 1 else None).splitlines()
-        shown = [edit.name for edit in chosen if is_refused(edit, lines)]
-        lost = [edit.name for edit in chosen
-                if edit.name not in shown and (len(chosen) == 1 or not edit.copied and is_unread(edit, lines))]
-        said.update({name: lines for name in lost})
-        refused += shown
-        left = [edit for edit in left if edit.name not in shown and edit.name not in lost]
+        said = check(self.crate, chosen, self.kept if self.count > 1 else None)
+        messages = messages_of(said)
+        settled, goes_on = set(), False
+        for edit in chosen:
+            found = judged(edit, messages)
+            is_alone = len(chosen) == 1 and found.verdict in (NOTHING, UNREAD_TEXT)
+            if found.verdict == REFUSED:
+                self.refused.append(edit.name)
+            elif found.verdict == WEAK:
+                self.weak.append(edit.name)
+            elif found.verdict == MISFIT:
+                (edit.copied or edit).drop(found.misfits)
+                goes_on = True
+            elif is_alone or not edit.copied and found.verdict == UNREAD_TEXT:
+                self.said[edit.name] = said.splitlines()
+            if found.verdict in (REFUSED, WEAK) or edit.name in self.said:
+                settled.add(edit.name)
+        self.left = [edit for edit in self.left if edit.name not in settled]
         # Those that were hindered by others are tried with fewer beside them, in the end alone.
-        most = len(left) if shown else max(1, len(chosen) // 2)
-    return refused, said, count
+        self.most = len(self.left) if settled or goes_on else max(1, len(chosen) // 2)
 
 
 def last_words(lines):
@@ -70,8 +65,10 @@ def last_words(lines):
 
 
 def try_crate(crate, edits):
-    """Tries a crate's edits: which were refused, what was said of the others, and how many rounds and seconds it took."""
+    """Tries a crate's edits, and answers what came of them."""
     start = time.time()
     with tempfile.TemporaryDirectory(prefix='wrong-bodies-kept-') as kept:
-        refused, said, count = rounds(crate, edits, kept)
-    return refused, said, count, time.time() - start
+        rounds = Rounds(crate, edits, kept)
+        while rounds.left:
+            rounds.try_round()
+    return Outcome(rounds.refused, rounds.weak, rounds.said, rounds.count, time.time() - start)
