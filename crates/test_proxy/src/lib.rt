@@ -1,35 +1,15 @@
-//! Tests of what serves: a direction of a connection and the sockets at its ends; connections between clients and servers of
-//! this machine, on threads that share a table; drains; commands of clients of a Unix socket; and what is counted and told. No contract
-//! can say what sockets and threads do.
+//! Tests of what no contract of the proxy's parts can say, and no trial of the running proxy shows: what a port makes of each
+//! error of a stream and where a turn of a direction stops; cells that one thread writes while another reads; and what the system
+//! is told of silent peers.
 #![tactic(auto)]
 
 #[cfg(test)]
-mod binding;
+mod cells;
 #[cfg(test)]
-mod commands;
+mod keepalives;
 #[cfg(test)]
-mod connections;
+mod lasts;
 #[cfg(test)]
-mod drains;
+mod streams;
 #[cfg(test)]
-mod flow;
-#[cfg(test)]
-mod gates;
-#[cfg(test)]
-mod gathered;
-#[cfg(test)]
-mod manager;
-#[cfg(test)]
-mod peers;
-#[cfg(test)]
-mod setups;
-#[cfg(test)]
-mod silence;
-#[cfg(test)]
-mod sites;
-#[cfg(test)]
-mod tables;
-#[cfg(test)]
-mod told;
-#[cfg(test)]
-mod visitors;
+mod turns;

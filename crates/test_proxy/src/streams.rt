@@ -1,4 +1,4 @@
-//! Ports over streams whose calls end as a list says: what each error means to a call, and to the next one.
+//! Ports over a stream whose calls end as a list says: what each error means to a call, and to the next one.
 
 ghost use Rattle.std.specs.Prelude.{◌≤◌, IfOk};
 
@@ -6,11 +6,10 @@ use std::io;
 use std::io::{ErrorKind, Read, Write};
 use tcp_flow::{Halt, ReadySink, ReadySource, ReadyStream};
 
-/// A stream whose calls fail so, one after another. Behind the last, each passes as many bytes as there is room for.
+/// A stream whose calls fail so, one after another. After the last, three bytes pass in each.
 #[derive(Drop)]
 struct Listed<'a> {
     errors: &'a [ErrorKind],
-    room: usize,
 }
 
 impl<'a> Listed<'a> {
@@ -23,7 +22,7 @@ impl<'a> Listed<'a> {
                 self.errors = rest;
                 Err(io::Error::from(*first))
             }
-            None => Ok(count.min(self.room)),
+            None => Ok(count.min(3)),
         }
     }
 }
@@ -44,31 +43,26 @@ impl<'a> Write for Listed<'a> {
     }
 }
 
-fn stream<'a>(errors: &'a [ErrorKind], room: usize) -> ReadyStream<Listed<'a>> {
-    ReadyStream::new(Listed { errors, room })
-}
-
-/// What a read of eight bytes comes to, and the next one, of a stream that fails so first.
-fn reads(errors: &[ErrorKind], room: usize) -> [Result<usize, Halt>; 2] {
-    let mut stream = stream(errors, room);
+/// What two reads of eight bytes come to, of a stream that fails so first.
+fn reads(errors: &[ErrorKind]) -> [Result<usize, Halt>; 2] {
+    let mut stream = ReadyStream::new(Listed { errors });
     let mut buffer = [0u8; 8];
     [stream.read_now(&mut buffer), stream.read_now(&mut buffer)]
 }
 
-/// What a write of eight bytes comes to, and the next one.
-fn writes(errors: &[ErrorKind], room: usize) -> [Result<usize, Halt>; 2] {
-    let mut stream = stream(errors, room);
+/// What two writes of eight bytes come to.
+fn writes(errors: &[ErrorKind]) -> [Result<usize, Halt>; 2] {
+    let mut stream = ReadyStream::new(Listed { errors });
     [stream.write_now(&[1u8; 8]), stream.write_now(&[1u8; 8])]
 }
 
-/// The first errors of a stream, and what the first call comes to. The next one passes three bytes.
+/// The first errors of a stream, and what the first call comes to.
 type Row = (&'static [ErrorKind], Result<usize, Halt>);
 
-static ROWS: [Row; 8] = [
+static ROWS: [Row; 7] = [
     (&[], Ok(3)),
     (&[ErrorKind::WouldBlock], Err(Halt::NotNow)),
     (&[ErrorKind::ConnectionReset], Err(Halt::Failed)),
-    (&[ErrorKind::TimedOut], Err(Halt::Failed)),
     (&[ErrorKind::Interrupted; 15], Ok(3)),
     (&[ErrorKind::Interrupted; 16], Err(Halt::Failed)),
     (
@@ -84,14 +78,7 @@ static ROWS: [Row; 8] = [
 #[test]
 fn errors_of_streams(rt: HostRuntime) {
     for (errors, first) in ROWS {
-        assert!(rt; reads(errors, 3) == [first, Ok(3)], "{errors:?}");
-        assert!(rt; writes(errors, 3) == [first, Ok(3)], "{errors:?}");
+        assert!(rt; reads(errors) == [first, Ok(3)], "{errors:?}");
+        assert!(rt; writes(errors) == [first, Ok(3)], "{errors:?}");
     }
-}
-
-#[test]
-fn a_stream_without_room(rt: HostRuntime) {
-    assert!(rt; reads(&[], 0) == [Ok(0); 2]);
-    assert!(rt; writes(&[], 0) == [Err(Halt::Failed); 2]);
-    assert!(rt; stream(&[], 0).write_now(&[]) == Ok(0));
 }

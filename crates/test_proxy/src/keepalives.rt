@@ -2,7 +2,6 @@
 
 ghost use Rattle.libc.specs.Net.{SockOption};
 
-use crate::flow::peers::pair_at;
 use libc::net as system;
 use std::net::{Net, TcpListener, TcpStream};
 use std::os::fd::{AsRawFd, RawFd};
@@ -40,7 +39,9 @@ fn accepted<R: Net<Listener = TcpListener, Stream = TcpStream>>(
 ) -> Option<[u32; 5]> {
     let listener = TcpListener::bind(rt, "127.0.0.1:0").ok()?;
     Keepalive::of(time).apply(rt, &listener).ok()?;
-    let (_here, there) = pair_at(rt, &listener)?;
+    let address = listener.local_addr().ok()?;
+    let _here = TcpStream::connect(rt, address).ok()?;
+    let (there, _address) = listener.accept().ok()?;
     keepalive(there.as_raw_fd())
 }
 

@@ -75,8 +75,8 @@ fn note_and_read<R: Threads + Wait + Sync>(rt: &R) -> bool {
     is_whole
 }
 
-/// What is read once two have noted at once.
-fn read_behind_two<R: Threads + Wait + Sync>(rt: &R) -> Option<Occasion> {
+/// What is read after two have noted at once.
+fn read_after_two<R: Threads + Wait + Sync>(rt: &R) -> Option<Occasion> {
     let lasts = LastTimes::new();
     thread::join(rt, || note_often(&lasts), || note_often(&lasts));
     lasts.read(Count::ServerRefused)
@@ -85,6 +85,6 @@ fn read_behind_two<R: Threads + Wait + Sync>(rt: &R) -> Option<Occasion> {
 #[test]
 fn nothing_is_read_torn(rt: HostRuntime) {
     assert!(rt; note_and_read(&rt));
-    let last = read_behind_two(&rt);
+    let last = read_after_two(&rt);
     assert!(rt; last == Some(of_ipv4()) || last == Some(of_ipv6()));
 }

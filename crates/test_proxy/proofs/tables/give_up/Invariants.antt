@@ -1,5 +1,0 @@
-use Rattle.std.proofs.Common.{vec_len}
-use Rattle.test_proxy.proofs.tables.give_up.Given as goal
-
-abbrev pub decreases-loop-reference : goal.decreases-loop-reference
-decreases-loop-reference g l = vec_len l.refs
