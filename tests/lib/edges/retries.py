@@ -4,7 +4,7 @@ import socket
 import threading
 import time
 
-from lib.proxy import PATIENCE, TABLE, TRACK, Proxy, closed_after, echoes, free_port, read_all, wait_for
+from lib.proxy import PATIENCE, TABLE, TRACK, FarServer, Proxy, closed_after, echoes, free_port, read_all, reset, wait_for
 
 
 def opens_after(seconds, port, serve):
@@ -60,24 +60,25 @@ def a_client_that_leaves_is_noticed():
     with Proxy(free_port(), [TABLE, TRACK], '--retries', '1000', threads=1) as proxy:
         client = proxy.connect()
         wait_for('it is tracked', lambda: proxy.rows().get('127.0.0.1', {}).get('conn_cur') == 1)
-        client.setsockopt(socket.SOL_SOCKET, socket.SO_LINGER, b'\1\0\0\0\0\0\0\0')
-        client.close()
+        reset(client)
         took = wait_for('its reference is given back', proxy.is_unused)
         assert took < 2.5, f'{took:.1f} s'
 
 
 def a_server_that_accepted_is_not_tried_again():
-    """A server that accepts and then resets its connection ends the client's at once, however many tries are left."""
-    with socket.create_server(('127.0.0.1', 0)) as listener:
-        listener.settimeout(PATIENCE)
-        with Proxy(listener.getsockname()[1], [TABLE, TRACK], '--retries', '5', threads=1) as proxy, proxy.connect() as client:
-            far, _ = listener.accept()
-            client.sendall(b'.')
-            assert far.recv(1) == b'.', 'a byte passes'
-            far.setsockopt(socket.SOL_SOCKET, socket.SO_LINGER, b'\1\0\0\0\0\0\0\0')
-            far.close()
+    """A server that accepts and then resets its connection ends the client's at once, however many tries are left: where a byte has
+    passed, and where none has, once the system was asked."""
+    for passes in (True, False):
+        with FarServer() as server, Proxy(server.port, [TABLE, TRACK], '--retries', '5', threads=1) as proxy, proxy.connect() as client:
+            far, _ = server.listener.accept()
+            if passes:
+                client.sendall(b'.')
+                assert far.recv(1) == b'.', 'a byte passes'
+            else:
+                time.sleep(1)
+            reset(far)
             took = closed_after(client)
-            assert took < 0.9, f'{took:.1f} s'
+            assert took < 0.9, f'{took:.1f} s, {"" if passes else "no "}byte has passed'
 
 
 TRIALS = [a_server_that_comes_gets_all, it_is_tried_as_often_as_asked, a_client_that_leaves_is_noticed,
