@@ -1,13 +1,17 @@
-//! The last time that something went wrong: noted by one thread or two, and read by another.
+//! The last time that something went wrong: noted by two threads, and read by another.
 
 use std::net::{IpAddr, Ipv4Addr, Ipv6Addr, SocketAddr};
 use std::sync::Wait;
+use std::sync::atomic::{AtomicBool, Ordering};
 use std::thread;
 use std::thread::Threads;
 use tcp_stats::{Count, LastTimes, Occasion};
 
-/// How often a thread notes or reads.
-const OFTEN: u32 = 20_000;
+/// How often a thread notes or reads at most.
+const OFTEN: u32 = 1_000_000_000;
+
+/// How often what is read has changed, at the end.
+const CHANGES: u32 = 300;
 
 /// A client of IPv4, and an error.
 fn of_ipv4() -> Occasion {
@@ -49,42 +53,66 @@ fn what_is_noted_is_read(rt: HostRuntime) {
     }
 }
 
-/// Notes both clients in turn.
-fn note_often(lasts: &LastTimes) {
+/// Notes an occasion again and again, until the end.
+fn note_often(lasts: &LastTimes, occasion: Occasion, has_ended: &AtomicBool) {
     for _ in 0..OFTEN {
-        lasts.note(Count::ServerRefused, of_ipv4());
-        lasts.note(Count::ServerRefused, of_ipv6());
+        if has_ended.load(Ordering::SeqCst) {
+            return;
+        }
+        lasts.note(Count::ServerRefused, occasion);
     }
 }
 
-/// Whether whatever is read is one of both, whole.
-fn read_often(lasts: &LastTimes) -> bool {
+/// Whether all that is read is one of both clients, whole, until it has changed often.
+fn is_read_whole(lasts: &LastTimes) -> bool {
+    let (mut before, mut changes) = (of_nobody(), 0u32);
     for _ in 0..OFTEN {
-        let seen = lasts.read(Count::ServerRefused);
-        if seen.is_some() && seen != Some(of_ipv4()) && seen != Some(of_ipv6()) {
+        let Some(seen) = lasts.read(Count::ServerRefused) else {
+            continue;
+        };
+        if seen != of_ipv4() && seen != of_ipv6() {
             return false;
         }
+        if seen != before {
+            before = seen;
+            changes = changes.wrapping_add(1);
+        }
+        if changes == CHANGES {
+            return true;
+        }
     }
-    true
+    false
 }
 
-/// Whether what is read while another notes is whole.
-fn note_and_read<R: Threads + Wait + Sync>(rt: &R) -> bool {
-    let lasts = LastTimes::new();
-    let ((), is_whole) = thread::join(rt, || note_often(&lasts), || read_often(&lasts));
+/// The same, and then both threads that note are told of the end.
+fn is_read_whole_to_the_end(lasts: &LastTimes, has_ended: &AtomicBool) -> bool {
+    let is_whole = is_read_whole(lasts);
+    has_ended.store(true, Ordering::SeqCst);
     is_whole
 }
 
-/// What is read after two have noted at once.
-fn read_after_two<R: Threads + Wait + Sync>(rt: &R) -> Option<Occasion> {
-    let lasts = LastTimes::new();
-    thread::join(rt, || note_often(&lasts), || note_often(&lasts));
-    lasts.read(Count::ServerRefused)
+/// Whether what is read while two others note is whole.
+fn note_and_read<R: Threads + Wait + Sync>(rt: &R) -> bool {
+    let (lasts, has_ended) = (LastTimes::new(), AtomicBool::new(false));
+    let (lasts, has_ended) = (&lasts, &has_ended);
+    let (is_whole, ()) = thread::join(
+        rt,
+        || is_read_whole_to_the_end(lasts, has_ended),
+        || note_both(rt, lasts, has_ended),
+    );
+    is_whole
+}
+
+/// Notes both clients, each on a thread of its own.
+fn note_both<R: Threads + Wait + Sync>(rt: &R, lasts: &LastTimes, has_ended: &AtomicBool) {
+    thread::join(
+        rt,
+        || note_often(lasts, of_ipv4(), has_ended),
+        || note_often(lasts, of_ipv6(), has_ended),
+    );
 }
 
 #[test]
 fn nothing_is_read_torn(rt: HostRuntime) {
     assert!(rt; note_and_read(&rt));
-    let last = read_after_two(&rt);
-    assert!(rt; last == Some(of_ipv4()) || last == Some(of_ipv6()));
 }

@@ -5,7 +5,7 @@ import os
 import re
 
 from lib.operations.watched import Watched, watched
-from lib.proxy import TABLE, TRACK, arrive, free_port, is_greeted, read_all, wait_for
+from lib.proxy import TABLE, TRACK, FarServer, arrive, free_port, is_greeted, read_all, wait_for
 
 # What HAProxy answers to `show info` (Management Guide 2.6), without the lines that this program has no value for. A star stands for
 # what another run has otherwise.
@@ -165,7 +165,7 @@ def answers_are_those_of_haproxy():
 
 
 def metrics_are_those_of_prometheus():
-    """Each metric has a line that says what it is, one of its type behind that, and its samples."""
+    """Each metric has a line that says what it is, then one of its type, then its samples."""
     with two_came() as (proxy, _):
         text = proxy.fetched(b'GET /metrics HTTP/1.1\r\nHost: here\r\n\r\n')[2]
         assert len(re.findall(r'^# HELP (\w+) [A-Z].+\.\n# TYPE \1 ', text, re.M)) == text.count('# HELP ') == 27, text
@@ -240,5 +240,18 @@ def lines_are_answered_in_words_of_haproxy():
             assert said == wanted, (line, said)
 
 
+def a_program_that_drains_is_stopping():
+    """While a client stays, a program that was shut down says so by HAProxy's names, once more and to Prometheus; a report says how many
+    the drain has closed."""
+    with FarServer() as server, Watched(server.port, [TABLE, TRACK], '--drain', '2s', '--report', '10m') as proxy:
+        _client, _far = server.joined(proxy)
+        assert proxy.told('shutdown frontend www') == '\n'
+        assert proxy.told('shutdown frontend www') == 'Frontend was already shut down.\n\n'
+        assert proxy.info()['Stopping'] == '1' and proxy.stat()['FRONTEND']['status'] == 'STOP'
+        assert proxy.metrics()['stickd_draining'] == 1
+        status, _, said = proxy.ended()
+        assert status == 0 and ' 1 closed by the drain' in said, (status, said)
+
+
 TRIALS = [answers_are_those_of_haproxy, metrics_are_those_of_prometheus, requests_are_answered_in_http,
-          lines_are_answered_in_words_of_haproxy]
+          lines_are_answered_in_words_of_haproxy, a_program_that_drains_is_stopping]
