@@ -20,6 +20,7 @@ import time
 from lib.adopt.files import cases
 from lib.adopt.parts import write_file
 from lib.proxy import Server, free_port, wait_for
+from lib.trials import wants
 
 # The seconds that a greeting may take, and that may pass where a connection is dropped silently.
 PATIENCE, SILENT = 6, 1
@@ -223,12 +224,13 @@ def compared(adopter, folder, config, port, steps):
 
 
 def file_fault(adopter, path, server, seed):
-    """What differs on a file each time that it is tried, if anything, and how many connections were rejected."""
-    for _ in range(TRIES):
+    """What differs on a file each time that it is tried, if anything, how many connections were rejected, and how often it was tried."""
+    for tries in range(1, TRIES + 1):
         fault, rejects = fault_of_one(adopter, path, server, seed)
         if not fault:
             break
-    return fault, rejects
+        print(f'live, try {tries}: {fault}')
+    return fault, rejects, tries
 
 
 def fault_of_one(adopter, path, server, seed):
@@ -248,12 +250,12 @@ def fault_of_one(adopter, path, server, seed):
 
 def live(adopter, given):
     """each file of tests/adopt_cases but two, and each that is named, beside HAProxy"""
-    if not shutil.which('haproxy'):
-        return [], 'left out, since HAProxy is not there'
+    wants('haproxy')
     paths = [*(path for path in cases() if os.path.basename(path) not in UNLIKE), *given.files]
     with Server(greet) as server, concurrent.futures.ThreadPoolExecutor(BESIDE) as pool:
         ran = list(pool.map(lambda path: file_fault(adopter, path, server, given.seed), paths))
-    faults = [fault for fault, _ in ran if fault]
-    if not any(rejects for _, rejects in ran):
+    faults = [fault for fault, _, _ in ran if fault]
+    rejected, late = sum(rejects for _, rejects, _ in ran), sum(tries > 1 for _, _, tries in ran)
+    if not rejected:
         faults.append('nothing was rejected')
-    return faults, f'{len(paths)} files, {STEPS} steps each, {sum(rejects for _, rejects in ran)} connections rejected'
+    return faults, f'{len(paths)} files, {STEPS} steps each, {rejected} connections rejected, {late} files tried again'

@@ -167,6 +167,8 @@ def threads(given):
             os.chmod(place, 0o755)
             copy = shutil.copy(stickd(), place)
             start_each(report, copy, limits, ["stickd: a thread can't be started"], user=NOBODY)
+    else:
+        report.tell('without root no limit of processes was tried')
     return report
 
 

@@ -1,13 +1,13 @@
 """Trials of the running proxy whose peers end their connections in every way: in order, one way alone, or by a reset."""
 import contextlib
 import os
-import shutil
 import socket
 import subprocess
 import threading
 import time
 
 from lib.proxy import (PATIENCE, TABLE, TRACK, FarServer, Proxy, closed_after, end_of, hears_end, read_all, reset, wait_for)
+from lib.trials import wants
 
 # How soon something is to be seen that happens at once, in seconds.
 SOON = 2
@@ -64,12 +64,20 @@ def runs_netcat(proxy):
 
 def one_way_may_end_before_the_server_accepts():
     """A client that has nothing to say, and ends its way before its server has accepted, gets what the server says all the same."""
-    got = {}
-    for client in [shuts_its_way] + [runs_netcat] * bool(shutil.which('nc')):
-        with slow_server() as (port, starting), Proxy(port, [TABLE, TRACK], threads=1) as proxy:
-            starting.start()
-            got[client.__name__] = client(proxy)
-    assert all(each == b'+' for each in got.values()), got
+    is_served_late(shuts_its_way)
+
+
+def netcat_may_end_its_way_before_the_server_accepts():
+    """The same of nc."""
+    wants('nc')
+    is_served_late(runs_netcat)
+
+
+def is_served_late(client):
+    """Sees that a client gets what a server says that accepts late."""
+    with slow_server() as (port, starting), Proxy(port, [TABLE, TRACK], threads=1) as proxy:
+        starting.start()
+        assert (got := client(proxy)) == b'+', got
 
 
 def an_end_passes_as_it_came():
@@ -163,5 +171,5 @@ def one_way_alone_has_its_time():
         assert far_of_whole.recv(1) == b'+', 'the whole one is open'
 
 
-TRIALS = [one_way_may_end_before_the_server_accepts, an_end_passes_as_it_came, a_reset_behind_an_end_is_heard,
+TRIALS = [one_way_may_end_before_the_server_accepts, netcat_may_end_its_way_before_the_server_accepts, an_end_passes_as_it_came, a_reset_behind_an_end_is_heard,
           both_sides_are_asked_whether_they_live, one_way_alone_has_its_time]

@@ -1,11 +1,11 @@
 """Trials of limits by network: all clients of one network are one, and each other network has a limit of its own."""
 import concurrent.futures
 import contextlib
-import shutil
 import socket
 import subprocess
 
 from lib.proxy import PATIENCE, TRACK, Proxy, Server, free_port, greets, is_greeted, reject_above, wait_for
+from lib.trials import NotMade, wants
 
 LIMIT = 3
 # The networks of the trial by IPv6, whose addresses the loopback device is given for as long as it takes.
@@ -77,7 +77,7 @@ def addresses_of_loopback(addresses):
     try:
         for address in addresses:
             words = ['ip', '-6', 'addr', 'add', address + '/128', 'dev', 'lo', 'nodad']
-            if not shutil.which('ip') or subprocess.run(words, capture_output=True, check=False, timeout=PATIENCE).returncode:
+            if subprocess.run(words, capture_output=True, check=False, timeout=PATIENCE).returncode:
                 break
             given.append(address)
         yield len(given) == len(addresses)
@@ -89,12 +89,12 @@ def addresses_of_loopback(addresses):
 def an_ipv6_network_is_one_client():
     """With --ipv6-prefix 64 the same of IPv6, at [::1], where the loopback device takes addresses; else the rows of
     tests/rows/prefixes.sessions stand for it."""
+    wants('ip')
     networks = {f'{network}::': [f'{network}::{last:x}' for last in range(1, ADDRESSES + 1)] for network in NETWORKS}
     rules = ['stick-table type ipv6 size 1k store conn_cur', TRACK, reject_above(LIMIT)]
     with addresses_of_loopback([address for sources in networks.values() for address in sources]) as are_there:
         if not are_there:
-            print('  the loopback device takes no IPv6 addresses here')
-            return
+            raise NotMade('the loopback device takes no IPv6 addresses here')
         port = free_port()
         words = ['--bind', f'[::1]:{port}', '--ipv6-prefix', '64']
         with Server(greets) as server, Proxy(server.port, rules, *words) as proxy:

@@ -1,5 +1,4 @@
 """Trials of what Prometheus is told, and that all counts add up."""
-import shutil
 import socket
 import subprocess
 import threading
@@ -7,12 +6,13 @@ import time
 
 from lib.operations.watched import watched
 from lib.proxy import PATIENCE, arrive, is_greeted, read_all, reset, wait_for
+from lib.trials import wants
 
 ROUND = 25
 
 
 def metrics_are_answered():
-    """GET /metrics has the metrics; another path 404, another method 405, garbage 400; promtool, where it is, finds no fault."""
+    """GET /metrics has the metrics; another path 404, another method 405, garbage 400."""
     with watched() as proxy:
         shown = proxy.metrics()
         assert shown['stickd_connections'] == 0 and shown['stickd_connections_accepted_total'] == 0, shown
@@ -22,12 +22,15 @@ def metrics_are_answered():
         assert proxy.fetched(b'\x16\x03\x01 no HTTP\r\n\r\n')[0] == 400
         assert proxy.fetched(b'GET /metrics HTTP/1.0\r\n\r\n')[0] == 200
         assert proxy.fetched(b'GET /metrics?all HTTP/1.0\r\n\r\n')[0] in (200, 404)
+
+
+def promtool_finds_no_fault():
+    """What Prometheus's own tool says of the metrics."""
+    wants('promtool')
+    with watched() as proxy:
         body = proxy.fetched(b'GET /metrics HTTP/1.1\r\nHost: here\r\n\r\n')[2]
-        if shutil.which('promtool'):
-            done = subprocess.run(['promtool', 'check', 'metrics'], input=body.encode(), capture_output=True, timeout=PATIENCE, check=False)
-            assert done.returncode == 0, done
-        else:
-            print('  promtool is not installed')
+    done = subprocess.run(['promtool', 'check', 'metrics'], input=body.encode(), capture_output=True, timeout=PATIENCE, check=False)
+    assert done.returncode == 0, done
 
 
 def slow_scrapers_hold_up_nobody():
@@ -84,4 +87,4 @@ def counts_add_up():
         assert shown['stickd_connections_accepted_total'] == admitted + rejected, shown
 
 
-TRIALS = [metrics_are_answered, slow_scrapers_hold_up_nobody, counts_add_up]
+TRIALS = [metrics_are_answered, promtool_finds_no_fault, slow_scrapers_hold_up_nobody, counts_add_up]

@@ -5,7 +5,6 @@ import os
 import pty
 import re
 import select
-import shutil
 import signal
 import socket
 import struct
@@ -15,7 +14,8 @@ import threading
 import time
 
 from lib.operations.watched import watched
-from lib.proxy import PATIENCE, arrive, is_greeted, read_all, wait_for
+from lib.proxy import PATIENCE, arrive, free_port, is_greeted, read_all, wait_for
+from lib.trials import wants
 
 PROMPT = b'> '
 
@@ -117,23 +117,37 @@ def answers_come_whole_to_many():
         assert heard == 64 * [5], heard
 
 
-def tools_of_haproxy_ask():
-    """socat and nc, which don't end their side first, and hatop and Prometheus' exporter, where they are installed."""
+def is_told_by(words):
+    """Sees that a tool which doesn't end its side first is answered on the stats socket."""
+    wants(words[0])
     with watched() as proxy:
-        tools = [('socat', ['socat', 'stdio', f'unix-connect:{proxy.stats}']), ('nc', ['nc', '-U', proxy.stats])]
-        for name, words in tools:
-            if not shutil.which(name):
-                print(f'  {name} is not installed')
-                continue
-            done = subprocess.run(words, input=b'show info\n', stdout=subprocess.PIPE, timeout=PATIENCE, check=False)
-            assert done.stdout.startswith(b'Name: stickd\n'), (name, done)
-        for name in ('hatop', 'prometheus-haproxy-exporter'):
-            if not shutil.which(name):
-                print(f'  {name} is not installed')
-        if shutil.which('hatop'):
-            topped(proxy)
-        if shutil.which('prometheus-haproxy-exporter'):
-            exported(proxy)
+        words = [word.format(path=proxy.stats) for word in words]
+        done = subprocess.run(words, input=b'show info\n', stdout=subprocess.PIPE, timeout=PATIENCE, check=False)
+    assert done.stdout.startswith(b'Name: stickd\n'), done
+
+
+def socat_asks():
+    """`show info` by socat."""
+    is_told_by(['socat', 'stdio', 'unix-connect:{path}'])
+
+
+def netcat_asks():
+    """The same by nc."""
+    is_told_by(['nc', '-U', '{path}'])
+
+
+def hatop_shows_the_proxy():
+    """hatop, on a terminal."""
+    wants('hatop')
+    with watched() as proxy:
+        topped(proxy)
+
+
+def the_exporter_of_prometheus_asks():
+    """Prometheus's exporter for HAProxy."""
+    wants('prometheus-haproxy-exporter')
+    with watched() as proxy:
+        exported(proxy)
 
 
 def topped(proxy):
@@ -161,7 +175,6 @@ def topped(proxy):
 
 def exported(proxy):
     """What Prometheus' exporter makes of the stats socket."""
-    from lib.proxy import free_port
     port = free_port()
     words = ['prometheus-haproxy-exporter', f'--haproxy.scrape-uri=unix:{proxy.stats}', f'--web.listen-address=127.0.0.1:{port}']
     exporter = subprocess.Popen(words, stdout=subprocess.DEVNULL, stderr=subprocess.DEVNULL)
@@ -182,4 +195,5 @@ def exported(proxy):
 
 
 TRIALS = [a_line_is_answered_and_closed, a_prompt_keeps_it_open, unknown_commands_are_told_what_there_is, info_and_stat_count,
-          clients_beside_each_other_are_answered, answers_come_whole_to_many, tools_of_haproxy_ask]
+          clients_beside_each_other_are_answered, answers_come_whole_to_many, socat_asks,
+          netcat_asks, hatop_shows_the_proxy, the_exporter_of_prometheus_asks]

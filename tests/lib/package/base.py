@@ -10,10 +10,6 @@ TOP = os.path.dirname(os.path.dirname(os.path.dirname(os.path.dirname(os.path.ab
 PATIENCE = 120
 
 
-class NotHere(Exception):
-    """What a trial wants and isn't on this machine."""
-
-
 class Made:
     """What all trials use: the program, its version, and a package of it."""
     program = os.path.join(TOP, 'crates', 'stickd', 'out', 'stickd')
@@ -25,11 +21,6 @@ def folder():
     path = tempfile.mkdtemp(dir=Made.room)
     os.chmod(path, 0o755)
     return path
-
-
-def wants(tool):
-    if not shutil.which(tool):
-        raise NotHere(f"{tool} isn't here")
 
 
 def same(what, found, wanted):

@@ -2,7 +2,8 @@
 import os
 import re
 
-from lib.package.base import TOP, Made, content, copy_of_sources, folder, packaging, put, run, same, wants
+from lib.package.base import TOP, Made, content, copy_of_sources, folder, packaging, put, run, same
+from lib.trials import wants
 
 
 UNBUILT = r'there is no program at \S+/crates/stickd/out/stickd: \(cd crates/stickd && rt run -- --version\) builds one, .*'

@@ -2,12 +2,12 @@
 import gzip
 import os
 import re
-import shutil
 import stat
 import time
 
-from lib.package.base import TOP, Made, NotHere, content, copy_of_sources, folder, make_package, packaging, put, run, same, wants
+from lib.package.base import TOP, Made, content, copy_of_sources, folder, make_package, packaging, put, run, same
 from lib.package.running import CONFIGURATION, answers, serves_one, unit_of
+from lib.trials import NotMade, wants
 
 EXAMPLES = [name for name in sorted(os.listdir(os.path.join(TOP, 'examples'))) if name.endswith(('.cfg', '.script'))]
 # What is installed, by hand: each file below the prefix and its mode; and where zsh looks, by who installs.
@@ -119,7 +119,7 @@ def a_package_is_installed_and_goes():
     """By dpkg, where root runs this: it is started, what the operator wrote stays, and in the end nothing else does."""
     wants('dpkg')
     if os.geteuid() != 0:
-        raise NotHere('only root may install by dpkg')
+        raise NotMade('only root may install by dpkg')
     root = new_root()
     dpkg(root, '-i', Made.package)
     looks_right(root, 'usr', ZSH_OF_PACKAGES)

@@ -5,7 +5,8 @@ import subprocess
 import threading
 import time
 
-from lib.package.base import PATIENCE, TOP, Made, content, folder, packaging, put, run, same, wants
+from lib.package.base import PATIENCE, TOP, Made, content, folder, packaging, put, run, same
+from lib.trials import wants
 
 OF_BASH, OF_FISH, OF_ZSH = (os.path.join(TOP, 'packaging', 'completions', name)
                             for name in ('stickd.bash', 'stickd.fish', '_stickd'))
