@@ -3,15 +3,19 @@ import concurrent.futures
 import contextlib
 import os
 import re
+import select
 import socket
 import stat
 import time
 
-from lib.proxy import TABLE, TRACK, FarServer, Proxy, Server, closed_after, echoes, hears_end, read_all, wait_for
+from lib.proxy import PATIENCE, TABLE, TRACK, FarServer, Proxy, Server, closed_after, echoes, hears_end, read_all, wait_for
 
 # How soon a client is answered beside others, in seconds.
 SOON = 1
 LARGE = 'stick-table type ip size 100k store gpc0'
+# The time of a client that says nothing, in seconds, and when it is closed at the latest on a machine that is busy: well before the 10
+# seconds that it has where nothing is said of them.
+SILENT_FOR, AT_THE_LATEST = 0.5, 6
 # Some 400,000 bytes of a listing: more than the buffers of a Unix socket hold.
 ROWS = 8_000
 
@@ -43,22 +47,44 @@ def an_idle_client_keeps_no_program():
         assert status == 0 and re.fullmatch(r'settled www: \d+ calls, 0 references\n', written), (status, written, said)
 
 
+def asks_on(proxy):
+    """Whether a client that asks again and again is answered for three times its time. None where this machine stood still for so long
+    that the client may have had its time."""
+    with proxy.command_client() as asking:
+        began = time.monotonic()
+        spoke = began
+        while spoke < began + 3 * SILENT_FOR:
+            asks = time.monotonic()
+            try:
+                asking.sendall(b'show table u\n')
+                answer = asking.recv(100)
+            except OSError:
+                answer = b''
+            if answer != b'No such table.\n\n':
+                return None if answer == b'' and time.monotonic() > spoke + SILENT_FOR else False
+            spoke = asks
+            time.sleep(0.1)
+    return True
+
+
 def a_silent_client_of_the_socket_has_its_time():
-    """With --timeout-socket 500ms a client of the command socket that says nothing is closed, and one that doesn't read its long
-    listing too; one that goes on to ask stays."""
+    """With --timeout-socket 500ms a client of the command socket that says nothing is closed after that and no sooner, and one that
+    doesn't read its long listing too; one that goes on to ask stays."""
     with Server(echoes) as server, Proxy(server.port, [LARGE, TRACK], '--timeout-socket', '500ms') as proxy:
         proxy.fill(ROWS)
-        with proxy.command_client() as asking, proxy.command_client() as silent, proxy.command_client() as deaf:
+        with proxy.command_client() as deaf:
             deaf.sendall(b'show table www\n')
+            assert select.select([deaf], [], [], PATIENCE)[0], 'the listing begins'
             began = time.monotonic()
-            while time.monotonic() < began + 1.5:
-                asking.sendall(b'show table u\n')
-                assert asking.recv(100) == b'No such table.\n\n', 'one that asks is answered'
-                time.sleep(0.1)
-            assert closed_after(silent) < 0.2, 'one that says nothing is there after 1.5 s'
-            assert hears_end(deaf, 0), 'one that reads nothing is there after 1.5 s'
-        with proxy.command_client() as silent:
-            assert 0.45 < (took := closed_after(silent)) < 0.5 + 0.2 + 0.6, f'closed after {took:.2f} s'
+            with proxy.command_client() as silent:
+                closed_after(silent)
+                took = time.monotonic() - began
+            assert SILENT_FOR <= took < AT_THE_LATEST, f'one that says nothing is closed after {took:.3f} s'
+            assert hears_end(deaf, AT_THE_LATEST), 'one that reads nothing is there'
+        tries = [asks_on(proxy)]
+        while tries[-1] is None and len(tries) < 10:
+            tries.append(asks_on(proxy))
+        assert tries[-1], f'one that asks is closed: {tries}'
 
 
 def one_that_reads_slowly_holds_nobody_up():

@@ -13,6 +13,8 @@ from lib.places import stickd
 from lib.proxy import PATIENCE, TABLE, TRACK, Server, free_port, greets, is_greeted, read_all, wait_for
 
 
+# How many clients are greeted between two restarts, at least.
+BETWEEN_RESTARTS = 100
 # A program that becomes another one, with descriptors from 3 on, and says by LISTEN_PID that they are its own.
 HANDS_OVER = '''
 import os, sys
@@ -119,7 +121,8 @@ def sockets_of_another_are_left():
 
 
 def no_connection_is_refused_over_restarts():
-    """While it is restarted again and again, under some 500 connections a second, no client is refused or left without an answer."""
+    """While it is restarted again and again, and two clients after two others come meanwhile, none is refused or left without an answer.
+    Between two restarts at least so many are greeted, however long that takes."""
     with Server(greets) as server, Manager(server.port) as manager:
         ends, counts = threading.Event(), {'greeted': 0, 'lost': 0}
 
@@ -132,24 +135,29 @@ def no_connection_is_refused_over_restarts():
                 except OSError:
                     counts['lost'] += 1
                 time.sleep(0.002)
+
+        def greet_some():
+            wanted = counts['greeted'] + BETWEEN_RESTARTS
+            wait_for(f'{BETWEEN_RESTARTS} more are greeted', lambda: counts['greeted'] >= wanted or counts['lost'], within=3 * PATIENCE)
         program = manager.start()
         threads = [threading.Thread(target=come) for _ in range(2)]
         for thread in threads:
             thread.start()
-        for _ in range(5):
-            time.sleep(0.5)
-            wait_for('it answers', lambda: manager.asked('stats', 'show info').startswith('Name: stickd\n'))
-            manager.asked('stats', 'shutdown frontend www')
-            assert program.wait(PATIENCE) == 0, program.communicate()
+        try:
+            for _ in range(5):
+                greet_some()
+                manager.asked('stats', 'shutdown frontend www')
+                assert program.wait(3 * PATIENCE) == 0, program.communicate()
+                program.communicate()
+                program = manager.start()
+            greet_some()
+        finally:
+            ends.set()
+            for thread in threads:
+                thread.join(2 * PATIENCE)
+            program.kill()
             program.communicate()
-            program = manager.start()
-        time.sleep(0.5)
-        ends.set()
-        for thread in threads:
-            thread.join(PATIENCE)
-        program.kill()
-        program.communicate()
-        assert counts['lost'] == 0 and counts['greeted'] > 100, counts
+        assert counts['lost'] == 0, counts
 
 
 @contextlib.contextmanager

@@ -1,4 +1,6 @@
 """Trials of `stickd top`: which entries it shows, in which order, and how wide."""
+import time
+
 from lib.operations.base import OTHER, OnTerminal, asked, fill, running
 
 
@@ -11,15 +13,19 @@ def top(proxy, *words):
 
 def the_greatest_come_first():
     """Of 30 entries the 20 with the greatest number, in falling order, as wide as the widest; or as many as are asked for."""
+    began = time.monotonic()
     with running() as proxy:
         fill(proxy, 30)
         lines, rows = top(proxy, '--by', 'gpc0')
+        oldest = 600 - (time.monotonic() - began) - 1
         assert rows[0] == ['key', 'use', 'exp', 'gpc0', 'conn_rate(10000)', 'conn_cur'], rows[0]
         assert [row[3] for row in rows[1:]] == [str(number) for number in range(30, 10, -1)], rows
         assert [row[0] for row in rows[1:]] == [f'10.0.0.{number}' for number in range(30, 10, -1)], rows
-        assert all(590 <= int(row[2]) <= 600 for row in rows[1:]), rows
+        assert all(oldest <= int(row[2]) <= 600 for row in rows[1:]), rows
+        assert all([row[1], *row[4:]] == ['0', '0', '0'] for row in rows[1:]), rows
         assert len({len(line) for line in lines}) == 1 and lines[0].startswith('      key use exp'), lines
         assert len(top(proxy, '--by', 'gpc0', '--rows', '3')[1]) == 4
+        assert len(top(proxy, '--by', 'gpc0', '--rows', '40')[1]) == 31, 'all of them, and no more'
         assert top(proxy, '--by', 'exp', '--rows', '1')[1][1][0] == '10.0.0.30', 'the one that was set last lives longest'
 
 
