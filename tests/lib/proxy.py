@@ -177,6 +177,7 @@ class Proxy:
         self.start()
 
     def start(self):
+        self.began = time.monotonic()
         self.program = subprocess.Popen([stickd(), *self.words], stdin=subprocess.DEVNULL, stdout=subprocess.PIPE,
                                         stderr=subprocess.PIPE, text=True, preexec_fn=self.limit, env=self.environment, umask=self.umask)
         wait_for('the program answers', lambda: self.program.poll() is not None or self.is_up())

@@ -7,6 +7,7 @@ import re
 import socket
 import time
 
+from lib.calls import ADMITTED, LOOK, REJECTED, calls_of_clients
 from lib.campaigns.parts import Draw, Report
 from lib.proxy import TRACK, Proxy, Server, arrive, free_port, read_all, reset, wait_for
 
@@ -253,14 +254,16 @@ def stay_unharmed(report, given):
         report.tried += given.count
 
 
-def settles(report, name, proxy, count, clients):
-    """Clients come until the proxy stops: its table is settled with no reference out, and the counts add up."""
+def settles(report, name, proxy, count, clients, looks=0):
+    """Clients come until the proxy stops: its table is settled with no reference out, and the counts add up, as do the calls, of which
+    rules that ask about an entry make so many."""
     clients()
     status, written, said = proxy.ended()
     ends = re.search(r'connections: (\d+) admitted, (\d+) rejected, 0 failed', said)
-    is_settled = status == 0 and re.fullmatch(r'settled www: \d+ calls, 0 references\n', written)
-    adds_up = ends is not None and int(ends[1]) + int(ends[2]) == count
-    report.check(is_settled and adds_up, f'{name}: {(status, written, said)}')
+    admitted, rejected = (int(ends[1]), int(ends[2])) if ends else (0, 0)
+    calls = calls_of_clients(written, said, time.monotonic() - proxy.began)
+    adds_up = admitted + rejected == count and calls == {'www': admitted * ADMITTED + rejected * REJECTED + looks}
+    report.check(status == 0 and adds_up, f'{name}: {(status, written, said)}')
     report.tried += count
 
 
@@ -271,7 +274,9 @@ def clients(given):
     stay_unharmed(report, given)
     stop = ['--stop-after', str(given.count)]
     with any_server(Draw('servers', given.seed)) as server, Proxy(server.port, [TABLE, TRACK, LIMITED], *stop, threads=4) as proxy:
-        settles(report, 'with receipts', proxy, given.count, lambda: come(proxy, given.seed, range(given.count)))
+        # Of one address alone the rules ask how many there are.
+        looks = LOOK * len(range(0, given.count, SOURCES))
+        settles(report, 'with receipts', proxy, given.count, lambda: come(proxy, given.seed, range(given.count)), looks)
     return report
 
 

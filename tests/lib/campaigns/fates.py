@@ -10,6 +10,7 @@ import subprocess
 import threading
 import time
 
+from lib.calls import ADMITTED, LOOK, REJECTED, calls_of_clients
 from lib.campaigns.parts import PATIENCE, Draw, Report
 from lib.operations.watched import Watched
 from lib.places import stickd
@@ -217,9 +218,17 @@ def is_drained(proxy, mine, report):
     stop = [stickd(), 'stop', '--stats-socket', proxy.stats, '--drain', '1s']
     subprocess.run(stop, stdin=subprocess.DEVNULL, timeout=PATIENCE, check=True)
     status, written, said = proxy.ended()
-    report.check(status == 0 and re.fullmatch(r'settled www: \d+ calls, 0 references\n', written), f'{(status, written)}')
+    calls = calls_of_clients(written, said, time.monotonic() - proxy.began)
+    made = {'www': calls_made(proxy, mine)}
+    report.check(status == 0 and calls == made, f'{(status, written)}: {calls} calls of clients, not {made}')
     line = [line for line in said.splitlines() if ' accepted, ' in line][-1]
     report.check(are_those_of(said_in(line), mine), f'the last line: {line}; the clients: {expected(mine)}')
+
+
+def calls_made(proxy, mine):
+    """How many calls its clients came to, and those who were told of it: each scrape, `stickd stop`, and the report at the end."""
+    judged = mine['admitted'] * ADMITTED + mine['rejected'] * REJECTED + (mine['admitted'] + mine['rejected']) * LOOK
+    return judged + len(proxy.scrapes) + 2
 
 
 def expected(mine):

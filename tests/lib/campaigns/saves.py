@@ -2,7 +2,9 @@
 import os
 import re
 import tempfile
+import time
 
+from lib.calls import calls_of_clients
 from lib.campaigns.parts import PATIENCE, Draw, Report, run, write_file
 from lib.operations.watched import Watched
 from lib.places import stickd
@@ -28,6 +30,12 @@ class Table:
         self.filling = [self.put(draw.randrange(2 * self.size), draw.randrange(9)) for _ in range(draw.randrange(5 * self.size))]
         show = f'show table {name}'
         self.asked = [show, *(word for number in range(NEW) for word in (self.put(100 + number, number), show))]
+
+    def calls(self, shards):
+        """How many calls it has had once it was filled, asked and saved: over the stats socket twice, which asks how many entries it has;
+        over the command socket once, which lists it too; and `stickd stop` asks as well. A listing asks each shard."""
+        listings = sum(command.startswith('show ') for command in self.asked) + 5
+        return len(self.filling) + NEW + listings * shards
 
     def section(self):
         return f'backend {self.name}\n    stick-table type {self.kind} size {self.size}{self.words} store gpc0\n'
@@ -94,11 +102,15 @@ def check_round(report, draw, count):
             later = saved_over(proxy.stats)
             stopped = run([stickd(), 'stop', '--stats-socket', proxy.stats], patience=PATIENCE)
             assert stopped.status == 0, stopped
+            _, written, said = proxy.ended()
+            calls = calls_of_clients(written, said, time.monotonic() - proxy.began, int(kept[1]))
         with open(path, 'rb') as file:
             at_the_end = file.read()
         again = loaded(room, saved, tables, kept)
     report.check(UNKNOWN not in saved and UNKNOWN in by_keys and UNKNOWN not in at_the_end, 'the head of a file is another')
     compare(report, tables, goes_on, again)
+    made = {table.name: table.calls(int(kept[1])) for table in tables}
+    report.check(calls == made, f'{calls} calls, not {made}')
     report.check(entries_in(later) == entries_in(at_the_end), f'{entries_in(later)} and {entries_in(at_the_end)}')
 
 

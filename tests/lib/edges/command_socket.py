@@ -8,6 +8,7 @@ import socket
 import stat
 import time
 
+from lib.calls import ADMITTED, ended_after
 from lib.proxy import PATIENCE, TABLE, TRACK, FarServer, Proxy, Server, closed_after, echoes, hears_end, read_all, wait_for
 
 # How soon a client is answered beside others, in seconds.
@@ -43,8 +44,7 @@ def an_idle_client_keeps_no_program():
             client.shutdown(socket.SHUT_WR)
             read_all(client)
         wait_for('it has ended', lambda: proxy.program.poll() is not None, 2)
-        status, written, said = proxy.ended()
-        assert status == 0 and re.fullmatch(r'settled www: \d+ calls, 0 references\n', written), (status, written, said)
+        ended_after(proxy, ADMITTED)
 
 
 def asks_on(proxy):
@@ -118,8 +118,8 @@ def two_clients_at_once():
 
 
 def commands_of_several_settle():
-    """Four clients at once set, list and clear entries while connections come: each is answered as by itself, and all tables are
-    settled in the end."""
+    """Four clients at once set, list and clear entries while connections come: each is answered as by itself, and in the end
+    the table is settled, with all of these calls."""
     words = ['--socket-clients', '4', '--shards', '4', '--stop-after', '100']
     with Server(echoes) as server, Proxy(server.port, [TABLE.replace('store ', 'store gpc0,'), TRACK], *words, threads=4) as proxy:
         def ask(number):
@@ -139,8 +139,8 @@ def commands_of_several_settle():
             for one in asked:
                 one.result()
         visit(99)
-        status, written, said = proxy.ended()
-        assert status == 0 and re.fullmatch(r'settled www: \d+ calls, 0 references\n', written), (status, written, said)
+        # A listing asks all four shards, of one key too.
+        ended_after(proxy, 100 * ADMITTED + 4 * 25 * (1 + 4 + 1), shards=4)
 
 
 def untouched(path):

@@ -6,11 +6,13 @@ import signal
 import subprocess
 import time
 
+from lib.calls import ADMITTED, calls_of_clients, ended_after
 from lib.operations.watched import Watched, watched
 from lib.places import stickd
 from lib.proxy import PATIENCE, TABLE, TRACK, FarServer, Server, greets, is_closed, is_greeted, read_all, wait_for
 
-SETTLED = r'settled www: (\d+) calls, 0 references\n'
+# Whoever is told of the program has each shard of its tables asked, as `stickd stop` is, which asks for its process.
+TOLD = 1
 
 
 def stop(path, *words):
@@ -20,18 +22,24 @@ def stop(path, *words):
     return done.returncode, done.stdout + done.stderr
 
 
-def is_refused(proxy):
-    """Whether a newcomer gets no connection."""
-    with contextlib.suppress(OSError):
-        proxy.connect().close()
-        return False
-    return True
+def newcomers_before_refusals(proxy, within):
+    """Waits until a newcomer gets no connection. How many came before, each of which may have been accepted."""
+    came = 0
+
+    def is_refused():
+        nonlocal came
+        with contextlib.suppress(OSError):
+            proxy.connect().close()
+            came += 1
+            return False
+        return True
+    wait_for('newcomers are refused', is_refused, within=within)
+    return came
 
 
-def has_ended_well(proxy):
-    """That it ends with status 0, says that no reference is out, and leaves no socket behind."""
-    status, written, said = proxy.ended()
-    assert status == 0 and re.fullmatch(SETTLED, written), (status, written, said)
+def has_ended_well(proxy, least, most=None):
+    """That it ends with status 0, says that no reference is out and how many calls its clients made, and leaves no socket behind."""
+    ended_after(proxy, least, most)
     assert not os.path.exists(proxy.path) and not os.path.exists(proxy.stats)
 
 
@@ -40,13 +48,13 @@ def a_frontend_is_shut_down():
     with FarServer() as server, Watched(server.port, [TABLE, TRACK], '--drain', '1m') as proxy:
         client, far = server.joined(proxy)
         assert proxy.told('shutdown frontend www').strip() == ''
-        wait_for('newcomers are refused', lambda: is_refused(proxy), within=1)
+        came = newcomers_before_refusals(proxy, within=1)
         assert proxy.info()['Stopping'] == '1'
         client.sendall(b'still')
         assert far.recv(9) == b'still' and proxy.program.poll() is None
         client.close()
         far.close()
-        has_ended_well(proxy)
+        has_ended_well(proxy, ADMITTED + TOLD, (1 + came) * ADMITTED + TOLD)
 
 
 def stop_waits_for_the_end():
@@ -57,7 +65,7 @@ def stop_waits_for_the_end():
         assert stop(proxy.stats, '--drain', '2s') == (0, '')
         assert 1.5 < time.monotonic() - began < 12
         assert is_closed(client)
-        has_ended_well(proxy)
+        has_ended_well(proxy, ADMITTED + TOLD)
 
 
 def an_idle_program_stops_at_once():
@@ -67,7 +75,7 @@ def an_idle_program_stops_at_once():
             began = time.monotonic()
             assert stop(proxy.stats) == (0, '')
             assert time.monotonic() - began < 3
-            has_ended_well(proxy)
+            has_ended_well(proxy, TOLD)
 
 
 def who_can_not_be_stopped():
@@ -105,10 +113,10 @@ def a_blocked_signal_drains():
             with proxy.connect() as client:
                 assert is_greeted(client)
                 proxy.program.send_signal(made.kind)
-                wait_for('newcomers are refused', lambda proxy=proxy: is_refused(proxy), within=2)
+                came = newcomers_before_refusals(proxy, within=2)
                 client.sendall(b'still')
                 assert proxy.program.poll() is None
-            has_ended_well(proxy)
+            has_ended_well(proxy, ADMITTED, (1 + came) * ADMITTED)
     with watched() as proxy:
         proxy.program.send_signal(signal.SIGTERM)
         assert proxy.ended()[0] == -signal.SIGTERM
@@ -135,7 +143,9 @@ def clients_of_all_threads_are_drained():
         assert proxy.told('shutdown frontend www').strip() == ''
         status, written, said = proxy.ended()
         assert 0.9 < time.monotonic() - began < 8
-        assert status == 0 and re.fullmatch(SETTLED, written), (status, written, said)
+        calls = calls_of_clients(written, said, time.monotonic() - proxy.began)
+        # The report at the end is one more that is told.
+        assert status == 0 and calls == {'www': 200 * ADMITTED + TOLD}, (status, written, said)
         assert re.search(r'\b200 (?:closed|drained)', said) or 'drained' in said, said
         for client, far in pairs:
             assert read_all_or_reset(client) and read_all_or_reset(far)

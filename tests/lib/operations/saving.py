@@ -8,7 +8,9 @@ import socket
 import subprocess
 import tempfile
 import threading
+import time
 
+from lib.calls import ADMITTED, calls_of_clients
 from lib.operations.base import OTHER, asked
 from lib.operations.watched import Watched
 from lib.places import stickd
@@ -133,7 +135,9 @@ def a_restart_keeps_entries():
                 assert is_greeted(client)
             before, names = (proxy.command(f'show table {name}').splitlines() for name in ('www', 'other'))
             status, written, said = stopped(proxy)
-            assert status == 0 and written.count('settled') == 2, (status, written, said)
+            calls = calls_of_clients(written, said, time.monotonic() - proxy.began, shards=2)
+            # A listing asks both shards, and so does what `stickd stop` is told. What is saved is read without a call.
+            assert status == 0 and calls == {'www': 39 + ADMITTED + 4, 'other': 2 + 4}, (status, written, said)
             assert os.stat(path).st_mode & 0o777 == 0o600 and os.listdir(room) == ['saved']
             proxy.start()
             after, others = (proxy.command(f'show table {name}').splitlines() for name in ('www', 'other'))
@@ -161,7 +165,8 @@ def a_crash_leaves_the_file_of_before():
         nowhere = os.path.join(room, 'none', 'saved')
         with Watched(server.port, [TABLE], '--save', nowhere) as proxy:
             status, written, said = stopped(proxy)
-            assert status == 1 and re.fullmatch(r'settled www: \d+ calls, 0 references\n', written), (status, written)
+            calls = calls_of_clients(written, said, time.monotonic() - proxy.began)
+            assert status == 1 and calls == {'www': 1}, (status, written)
             assert f"stickd: {nowhere} can't be written: No such file or directory (os error 2)\n" in said, said
 
 

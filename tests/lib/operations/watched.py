@@ -3,6 +3,7 @@ import contextlib
 import os
 import re
 import socket
+import time
 
 from lib.proxy import PATIENCE, TABLE, TRACK, Proxy, Server, free_port, greets, read_all, reject_above
 
@@ -18,6 +19,8 @@ class Watched(Proxy):
         self.stats = os.path.join(self.room.name, 'stats')
         if '--stats-socket' not in self.words:
             self.words += ['--stats-socket', self.stats]
+        # When it was scraped, by any thread.
+        self.scrapes = []
         super().start()
 
     def stats_client(self):
@@ -54,6 +57,7 @@ class Watched(Proxy):
 
     def metrics(self):
         """What Prometheus is told: each sample by its name with its labels."""
+        self.scrapes.append(time.monotonic())
         status, head, body = self.fetched(b'GET /metrics HTTP/1.1\r\nHost: here\r\n\r\n')
         assert status == 200 and 'text/plain; version=0.0.4' in head, head
         return {name: int(value) for name, value in re.findall(r'^([a-z_]+(?:\{[^}]*\})?) (\d+)$', body, re.M)}
