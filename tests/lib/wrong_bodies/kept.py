@@ -34,6 +34,10 @@ class Kept:
         """Whether an edit is listed as one whose refusal is weak."""
         return self.results.get(self.name_of(edit), ('', ''))[0] == 'weak'
 
+    def is_refused(self, edit):
+        """Whether an edit is listed as refused, over whatever text."""
+        return self.results.get(self.name_of(edit), ('', ''))[0] == 'refused'
+
     def lacks(self):
         """How many edits are missing of those that were there."""
         return max(0, self.number - len(self.edits))
