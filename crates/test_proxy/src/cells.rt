@@ -13,7 +13,6 @@ fn publish_often(cells: &Cells) -> Counts {
     let mut counts = Counts::new();
     for client in 0..CLIENTS {
         counts.add(Count::Accepted, 1);
-        cells.publish(&counts);
         let verdict = if client % 3 == 0 {
             Count::Rejected
         } else {
