@@ -11,7 +11,7 @@ use tcp_stats::{Count, LastTimes, Occasion};
 const OFTEN: u32 = 1_000_000_000;
 
 /// How often what is read has changed, at the end.
-const CHANGES: u32 = 300;
+const CHANGES: u32 = 1_000;
 
 /// A client of IPv4, and an error.
 fn of_ipv4() -> Occasion {
@@ -53,13 +53,14 @@ fn what_is_noted_is_read(rt: HostRuntime) {
     }
 }
 
-/// Notes an occasion again and again, until the end.
-fn note_often(lasts: &LastTimes, occasion: Occasion, has_ended: &AtomicBool) {
+/// Notes both clients in turn, until the end.
+fn note_often(lasts: &LastTimes, has_ended: &AtomicBool) {
     for _ in 0..OFTEN {
         if has_ended.load(Ordering::SeqCst) {
             return;
         }
-        lasts.note(Count::ServerRefused, occasion);
+        lasts.note(Count::ServerRefused, of_ipv4());
+        lasts.note(Count::ServerRefused, of_ipv6());
     }
 }
 
@@ -91,6 +92,15 @@ fn is_read_whole_to_the_end(lasts: &LastTimes, has_ended: &AtomicBool) -> bool {
     is_whole
 }
 
+/// Notes both clients on two threads, until the end.
+fn note_twice<R: Threads + Wait + Sync>(rt: &R, lasts: &LastTimes, has_ended: &AtomicBool) {
+    thread::join(
+        rt,
+        || note_often(lasts, has_ended),
+        || note_often(lasts, has_ended),
+    );
+}
+
 /// Whether what is read while two others note is whole.
 fn note_and_read<R: Threads + Wait + Sync>(rt: &R) -> bool {
     let (lasts, has_ended) = (LastTimes::new(), AtomicBool::new(false));
@@ -98,18 +108,9 @@ fn note_and_read<R: Threads + Wait + Sync>(rt: &R) -> bool {
     let (is_whole, ()) = thread::join(
         rt,
         || is_read_whole_to_the_end(lasts, has_ended),
-        || note_both(rt, lasts, has_ended),
+        || note_twice(rt, lasts, has_ended),
     );
     is_whole
-}
-
-/// Notes both clients, each on a thread of its own.
-fn note_both<R: Threads + Wait + Sync>(rt: &R, lasts: &LastTimes, has_ended: &AtomicBool) {
-    thread::join(
-        rt,
-        || note_often(lasts, of_ipv4(), has_ended),
-        || note_often(lasts, of_ipv6(), has_ended),
-    );
 }
 
 #[test]
