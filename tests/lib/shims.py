@@ -3,6 +3,7 @@ import mmap
 import os
 import struct
 import subprocess
+import tempfile
 
 from lib.places import TOP
 
@@ -15,12 +16,23 @@ def build_shim(workplace, name='refuse_allocation'):
     return shim
 
 
-def run_words(words, shim, refused, text='', counted=''):
-    """The status, output and errors of a program with this allocation refused (0: none), its input being this text, a byte a
-    character. The file `counted` gets the number of its allocations."""
-    done = subprocess.run(words, input=text.encode('latin-1'), stdout=subprocess.PIPE, stderr=subprocess.PIPE, check=False,
-                          env={'LD_PRELOAD': shim, 'REFUSED_ALLOCATION': str(refused), 'COUNTED_ALLOCATIONS': counted})
-    return done.returncode, done.stdout.decode('latin-1'), done.stderr.decode('latin-1')
+class Ran(tuple):
+    """The status, output and errors of a run. Beside them, and not compared, stands how many allocations it asked for: none where
+    the library that counts them wasn't there."""
+
+    def __new__(cls, status, output, errors, allocations):
+        ran = super().__new__(cls, (status, output, errors))
+        ran.allocations = allocations
+        return ran
+
+
+def run_words(words, shim, refused, text=''):
+    """A run of a program with this allocation refused (0: none), its input being this text, a byte a character."""
+    with tempfile.NamedTemporaryFile(dir=os.path.dirname(shim)) as counted:
+        done = subprocess.run(words, input=text.encode('latin-1'), stdout=subprocess.PIPE, stderr=subprocess.PIPE, check=False,
+                              env={'LD_PRELOAD': shim, 'REFUSED_ALLOCATION': str(refused), 'COUNTED_ALLOCATIONS': counted.name})
+        count = counted.read()
+    return Ran(done.returncode, done.stdout.decode('latin-1'), done.stderr.decode('latin-1'), int(count) if count else None)
 
 
 class Refusals:

@@ -146,7 +146,9 @@ def connections_refused(given):
             report.check((found, after) in wanted, f'allocation {number} refused: {found!r}, {before} and {after} connections')
             return met
         refused.serve_one()
-        report.tell(f'{refused.each(come)} allocations refused')
+        met = refused.each(come)
+        report.check(met > 0, 'no allocation was met')
+        report.tell(f'{met} allocations refused')
         wait_for('one is served', lambda: visit(refused.proxy) == SAID)
     return report
 
@@ -169,8 +171,12 @@ def start_refused(shim, number):
     with tempfile.TemporaryDirectory(prefix='stickd-') as room:
         lines = ['listen www', f'bind 127.0.0.1:{free_port()}', TABLE, TRACK, 'server s 127.0.0.1:1', '']
         words = ['run', write_file(room, 'proxy.cfg', '\n'.join(lines)), '--socket', os.path.join(room, 's'), '--threads', '2']
-        ran = run([stickd(), *words, '--stop-after', '0'], env={'LD_PRELOAD': shim, 'REFUSED_ALLOCATION': str(number)})
-    return ran.status, ran.stdout.decode(), ran.stderr.decode(), ran.status != 0
+        counted = write_file(room, 'counted', b'')
+        ran = run([stickd(), *words, '--stop-after', '0'],
+                  env={'LD_PRELOAD': shim, 'REFUSED_ALLOCATION': str(number), 'COUNTED_ALLOCATIONS': counted})
+        with open(counted, encoding='ascii') as count:
+            asked_for = int(count.read() or 0)
+    return ran.status, ran.stdout.decode(), ran.stderr.decode(), asked_for >= number
 
 
 def refuse_ends(report, end):
@@ -185,6 +191,7 @@ def refuse_ends(report, end):
                 report.check(is_end(status, written, said), f'allocation {number} refused: {(status, written, said)}')
                 unmet = 0 if met else unmet + 1
                 outs += '1 references' in written
+    report.check(number > unmet, 'no allocation was met')
     report.tell(f'{number - unmet} allocations refused')
     return outs
 

@@ -1,4 +1,4 @@
-"""Runs of a program with its first allocation refused, the second, and so on; and what it says where memory is short."""
+"""Runs of a program with each of its allocations refused in turn, and what it says where memory is short."""
 import re
 
 # What a program says on standard error where a growth is refused, and its status: of the configuration, the file or the command
@@ -8,20 +8,23 @@ SHORT = re.compile(r"1 (?:stickd: line \d+: read past\n)*(?:stickd: line \d+: C1
 
 
 def refuse_runs(name, run, is_right):
-    """Refuses each allocation of a program in turn, until ten runs on end are as with none refused. How many runs were
-    right, and how many were not."""
+    """Refuses each allocation of a program in turn: all those that it asks for with none refused, which are counted. How many runs
+    were right, and how many were not."""
     wanted = run(0)
-    refused, same, passed, failed = 0, 0, 0, 0
-    while same < 10:
-        refused += 1
+    if not wanted.allocations:
+        print('%s: no allocation was counted' % name)
+        return 0, 1
+    passed, failed, met = 0, 0, 0
+    for refused in range(1, wanted.allocations + 1):
         found = run(refused)
-        same = same + 1 if found == wanted else 0
-        if found == wanted or is_right(found, wanted):
+        was_met = found.allocations is not None and found.allocations >= refused
+        met += was_met
+        if was_met and (found == wanted or is_right(found, wanted)):
             passed += 1
         else:
             failed += 1
-            print('%s with allocation %d refused: %r' % (name, refused, found))
-    print('%s: no run met the refusal of allocation %d' % (name, refused - 9))
+            print('%s with allocation %d refused%s: %r' % (name, refused, '' if was_met else ', which it never asked for', found))
+    print('%s: %d of %d allocations were refused' % (name, met, wanted.allocations))
     return passed, failed
 
 
