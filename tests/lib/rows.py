@@ -242,16 +242,25 @@ KINDS = {'.lines': rows_of_lines, '.prefixes': rows_of_prefixes, '.damaged': row
          '.sessions': rows_of_sessions, '.conditions': rows_of_conditions, '.runs': rows_of_runs}
 
 
-def all_rows():
-    """The rows of tests/rows, in the order of their files' names, and the examples of the manual page."""
+def all_rows(prefixes=('',)):
+    """The rows of tests/rows whose names have one of these prefixes, in the order of their files' names, and the examples of the manual
+    page. The name of a row begins with that of its block, so that others needn't be made."""
+    return (row for row in rows_of_blocks(prefixes) if row.name.startswith(prefixes))
+
+
+def rows_of_blocks(prefixes):
+    """The rows of all blocks that may have one whose name has one of these prefixes."""
+    def may_have(name):
+        return any(name.startswith(prefix) or prefix.startswith(name) for prefix in prefixes)
     for file in sorted(os.listdir(ROWS)):
         name, end = os.path.splitext(file)
         if end == '.args':
-            yield from rows_of_files(name)
+            yield from rows_of_files(name) if may_have(name) else []
         elif end in KINDS:
-            for block in blocks_of(os.path.join(ROWS, file)):
+            for block in filter(lambda block: may_have(block.name), blocks_of(os.path.join(ROWS, file))):
                 yield from KINDS[end](block)
         elif end not in ('.conf', '.stdin', '.stdout', '.stderr', '.status'):
             raise ValueError('%s is no file of a row' % file)
     for name, lines in blocks_of_page():
-        yield from rows_of_runs(Block(name, [], lines))
+        if may_have(name):
+            yield from rows_of_runs(Block(name, [], lines))
