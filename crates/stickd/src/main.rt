@@ -2,7 +2,8 @@
 //! proxy.
 #![tactic(auto)]
 
-ghost use Rattle.std.specs.Prelude.{◌≤◌};
+ghost use Rattle.std.specs.Prelude.{◌≡◌, ◌≤◌, if◌then◌else◌};
+ghost use Rattle.std.specs.Process.{exit_status};
 ghost use Rattle.rule_model.specs.Served.{AreTables};
 ghost use Rattle.admit_drive.specs.Tables.{CanOpen};
 
@@ -126,7 +127,9 @@ fn run_command<R: ProxyRuntime + Files + AllocGlobal + Eprint + RandomSource + E
 }
 
 /// The status of a command that was done, or wasn't.
-fn status_of(is_done: bool) -> ExitCode {
+fn status_of(is_done: bool) -> ExitCode
+    ensures { exit_status result ≡ (if is_done then 0 else 1) }
+{
     if is_done {
         ExitCode::SUCCESS
     } else {

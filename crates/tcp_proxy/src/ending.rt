@@ -1,58 +1,20 @@
 //! The tables of a setup are settled once nobody calls them; `running` calls it.
 
+ghost use Rattle.std.specs.Prelude.{◌≡◌, ◌&&◌, Err, IfErr, IfOk, is_ok};
+
+use crate::table_end::{TableEnd, Tally, tally_of};
 use rule_model::Setup;
 use shard_locks::{Shards, SharedRef, SharedSeat};
 use shard_record::Naming;
-use shard_settling::{Fault, Settled, Unsettled, settle};
+use shard_settling::{Fault, Unsettled, settle};
 use std::alloc::Global;
-use std::fmt::{Display, Formatter, Write};
-use std::{fmt, io, mem, str};
+use std::{io, mem, str};
 use stick_table::Table;
 
 /// What callers of the tables of a setup leave: of each table its seats, and the references that are out.
 pub(crate) struct Left<J: Naming> {
     pub seats: Vec<Vec<SharedSeat<J>>>,
     pub refs: Vec<Vec<SharedRef<J>>>,
-}
-
-/// How many events the shards of a settled table have counted, and how many references are out there.
-#[derive(Clone, Copy)]
-struct Tally {
-    calls: u64,
-    references: u64,
-}
-
-impl Display for Tally {
-    fn fmt<W: Write>(&self, f: &mut Formatter<W>) -> fmt::Result {
-        let Tally { calls, references } = *self;
-        write!(f, "{calls} calls, {references} references")
-    }
-}
-
-/// What a settled table has counted, up to 2^64 - 1.
-fn tally_of<T: Table, J: Naming>(settled: &Settled<T, J>) -> Tally {
-    let mut tally = Tally {
-        calls: 0,
-        references: 0,
-    };
-    for count in settled.counts.iter() {
-        tally.calls = tally.calls.saturating_add(*count);
-    }
-    for tickets in settled.tickets.iter() {
-        let references = tickets.as_slice().len() as u64;
-        tally.references = tally.references.saturating_add(references);
-    }
-    tally
-}
-
-/// What a table that isn't settled is said to lack.
-fn code_of(fault: Fault) -> &'static str {
-    match fault {
-        Fault::MissingCalls(_) => "S1",
-        Fault::MissingRefs(_) => "S2",
-        Fault::Mismatch(_) => "S3",
-        Fault::Memory => "S4",
-    }
 }
 
 /// The references are given up: their tickets stay out.
@@ -128,30 +90,39 @@ pub(crate) fn settle_all<T: Table, J: Naming, R: Print + Eprint>(
     for (place, table) in tables.into_iter().enumerate() {
         let seats = take_list(alloc, &mut seats, place);
         let refs = take_list(alloc, &mut refs, place);
-        let ended = settle_table(alloc, table, seats, refs);
-        all = print_end(rt, name_at(setup, place), ended, all);
+        let outcome = settle_table(alloc, table, seats, refs);
+        all = print_end(rt, name_at(setup, place), outcome, all);
     }
     give_up_all(refs);
     all
 }
 
-/// Prints how a table ended, unless printing failed before; answers whether all are settled so far.
+/// Prints how the table of a name ended, on standard output where it is settled and else on standard error, unless printing failed
+/// before. Answers whether all are settled so far.
 fn print_end<R: Print + Eprint>(
     rt: &R,
     name: &str,
-    ended: Result<Tally, Fault>,
+    outcome: Result<Tally, Fault>,
     before: io::Result<bool>,
-) -> io::Result<bool> {
-    let all = before?;
-    match ended {
-        Ok(tally) => {
-            println!(rt; "settled {name}: {tally}")?;
-            Ok(all)
-        }
-        Err(fault) => {
-            let code = code_of(fault);
-            eprintln!(rt; "unsettled {name}: {code}")?;
-            Ok(false)
-        }
+) -> io::Result<bool>
+    // Once printing has failed, nothing more is printed.
+    ensures failed { IfErr before (λ reason. result ≡ Err reason) }
+    // All are settled where this one is, and those before are.
+    ensures settled { IfOk before (λ all. IfOk result (λ now. now ≡ (is_ok outcome && all))) }
+{
+    let all = match before {
+        Ok(all) => all,
+        Err(reason) => return Err(reason),
+    };
+    let end = TableEnd { name, outcome };
+    if outcome.is_err() {
+        return match eprintln!(rt; "{end}") {
+            Ok(()) => Ok(false),
+            Err(reason) => Err(reason),
+        };
+    }
+    match println!(rt; "{end}") {
+        Ok(()) => Ok(all),
+        Err(reason) => Err(reason),
     }
 }

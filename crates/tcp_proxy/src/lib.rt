@@ -17,6 +17,7 @@ mod service_threads;
 mod serving;
 mod shared;
 mod sockets;
+mod table_end;
 mod timetable;
 
 pub use plan::{
