@@ -25,7 +25,8 @@ def blocks_of(text):
 
 
 def without(text, names):
-    """The text of a proof file without the definitions of these names, and without those that speak of one of them."""
+    """The text of a proof file without the definitions of these names, and without those that speak of one of them; and the names of
+    all that are gone."""
     pieces, gone = blocks_of(text), set(names)
     is_growing = True
     while is_growing:
@@ -33,4 +34,4 @@ def without(text, names):
         more = {name for name, lines in pieces if name and name not in gone and words.search('\n'.join(lines[1:]))}
         gone |= more
         is_growing = bool(more)
-    return '\n'.join(line for name, lines in pieces if name not in gone for line in lines)
+    return '\n'.join(line for name, lines in pieces if name not in gone for line in lines), gone

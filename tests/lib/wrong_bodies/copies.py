@@ -59,11 +59,12 @@ def add_copy(crate, room, edit, texts, written):
 
 
 def leave_out_answers(room, edit):
-    """Takes the answers that an edit leaves out from the proof files of its functions in the copy."""
+    """Takes the answers that an edit leaves out from the proof files of its functions in the copy, and notes which others go with them."""
     for function, names in zip(edit.functions, edit.dropped):
         file = os.path.join(room, 'proofs', *function.modules, 'Answers.antt')
         if names and os.path.isfile(file):
-            text = without(text_of(file), names)
+            text, gone = without(text_of(file), names)
+            names |= gone
             with open(file, 'w', encoding='utf-8') as proof:
                 proof.write(text)
 

@@ -65,7 +65,7 @@ def judged_function(function, dropped, messages):
 def judged(edit, messages):
     """What the checker says of an edit. It is refused where a goal of a function that it changes is false: the checker tells
     values for that, or a goal that needs no answer is open. Where only an answer no longer fits, that says nothing yet: its
-    goal is tried without it. If it is open then, the refusal is weak. Of each function the answers that no longer fit."""
+    goal is tried without it. If it is only open then, the refusal is weak. Of each function the answers that no longer fit."""
     verdicts = [judged_function(function, dropped, messages) for function, dropped in zip(edit.functions, edit.dropped)]
     said = [verdict for verdict, _ in verdicts]
     if REFUSED in said:
