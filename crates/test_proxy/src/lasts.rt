@@ -10,8 +10,10 @@ use tcp_stats::{Count, LastTimes, Occasion};
 /// How often a thread notes or reads at most.
 const OFTEN: u32 = 1_000_000_000;
 
-/// How often what is read has changed, at the end.
-const CHANGES: u32 = 1_000;
+/// How often it is read at least, and how often what is read has changed by then. A busy machine makes few changes a second.
+const READS: u32 = 100_000;
+
+const CHANGES: u32 = 50;
 
 /// A client of IPv4, and an error.
 fn of_ipv4() -> Occasion {
@@ -67,7 +69,7 @@ fn note_often(lasts: &LastTimes, has_ended: &AtomicBool) {
 /// Whether all that is read is one of both clients, whole, until it has changed often.
 fn is_read_whole(lasts: &LastTimes) -> bool {
     let (mut before, mut changes) = (of_nobody(), 0u32);
-    for _ in 0..OFTEN {
+    for read in 0..OFTEN {
         let Some(seen) = lasts.read(Count::ServerRefused) else {
             continue;
         };
@@ -78,7 +80,7 @@ fn is_read_whole(lasts: &LastTimes) -> bool {
             before = seen;
             changes = changes.wrapping_add(1);
         }
-        if changes == CHANGES {
+        if read >= READS && changes >= CHANGES {
             return true;
         }
     }
