@@ -1,5 +1,5 @@
-//! Calls of tables and of books, one in each function. What a table promises of a call is long, and the tests compare
-//! answers: so little or nothing is promised here, and the proofs of the tests have nothing of it to carry.
+//! Calls of tables, one in each function. What a table promises of a call is long, and the tests compare answers: so little or
+//! nothing is promised here, and the proofs of the tests have nothing of it to carry.
 
 ghost use Rattle.std.specs.Prelude.{◌≡◌, All, IfOk};
 ghost use Rattle.stick_model.specs.Limits.{IsTableEvent, IsTableSpec};
@@ -7,8 +7,7 @@ ghost use Rattle.stick_model.specs.Run.{CanRedo, CanRedoAll};
 ghost use Rattle.stick_model.specs.Step.{Step, slot_of};
 ghost use Rattle.stick_model.specs.declared.events.Stored.{Stored as ItsStored};
 
-use base_sequence::{NoMemory, Sequence};
-use shard_book::Book;
+use base_sequence::NoMemory;
 use std::alloc::Global;
 use stick_table::{Event, PlainTable, Refusal, Reply, Spec, Stored, Table, redo_all, run};
 
@@ -48,14 +47,14 @@ pub fn step_twice<T: Table>(table: &mut T, event: &Event) -> Answers
 }
 
 /// A plain copy of a table.
-pub fn copied<T: Table>(table: &T) -> Result<PlainTable, NoMemory>
+fn copied<T: Table>(table: &T) -> Result<PlainTable, NoMemory>
     ensures { IfOk result (λ copy. copy.now ≡ T.state table.now) }
 {
     table.to_plain()
 }
 
 /// What a table replies to an event, and the call by which it is made again.
-pub fn step_stored<T: Table>(table: &mut T, event: Event) -> Result<(Stored, Reply), Refusal>
+fn step_stored<T: Table>(table: &mut T, event: Event) -> Result<(Stored, Reply), Refusal>
     requires { IsTableEvent event }
     ensures step { IfOk result (λ told. Step (T.state table.old) told.0.event told.1 (T.state table.new)) }
     ensures slot { IfOk result (λ told. told.0.slot ≡ slot_of told.1) }
@@ -89,84 +88,31 @@ pub fn step_and_redo<T: Table>(table: &mut T, event: Event) -> Answers
     }
 }
 
-/// What a table answers events, one after another.
-pub fn run_all(
-    alloc: Global,
-    table: &mut PlainTable,
-    events: &[Event],
-) -> Result<Sequence<Reply>, Refusal>
+/// How many replies a table gives to events, one after another.
+pub fn run_all<T: Table>(alloc: Global, table: &mut T, events: &[Event]) -> Result<usize, Refusal>
     requires { All IsTableEvent events.now }
 {
-    run(alloc, table, events)
-}
-
-/// What a plain table answers calls that are made again, one after another.
-pub fn redo_run(
-    alloc: Global,
-    table: &mut PlainTable,
-    calls: &[Stored],
-) -> Result<Sequence<Reply>, Refusal>
-    requires events { All (λ (call : ItsStored). IsTableEvent call.event) calls.now }
-    requires slots { CanRedoAll table.old.now calls.now }
-{
-    redo_all(alloc, table, calls)
-}
-
-/// The book of an empty plain table.
-pub fn open_book(alloc: Global, spec: Spec) -> Result<Book<PlainTable>, NoMemory>
-    requires { IsTableSpec spec }
-{
-    Book::open(alloc, spec)
-}
-
-/// What a book answers an event. The call is recorded with seat 7.
-pub fn call(book: &mut Book<PlainTable>, event: Event) -> Answer
-    requires { IsTableEvent event }
-{
-    book.call(7, event)
-}
-
-/// What a book answers an event, twice. The call is recorded with seat 7.
-pub fn call_twice(book: &mut Book<PlainTable>, event: Event) -> Answers
-    requires { IsTableEvent event }
-{
-    match book.call_twice(7, event) {
-        Ok((reply, again)) => (Ok(reply), Ok(again)),
-        Err(refusal) => refused(refusal),
+    match run(alloc, table, events) {
+        Ok(replies) => Ok(replies.len()),
+        Err(refusal) => Err(refusal),
     }
 }
 
-/// The record of a book begins again at its live state.
-pub fn roll(book: &mut Book<PlainTable>) -> Result<(), NoMemory> {
-    book.roll()
+/// How many replies a plain table gives to calls that are made again, one after another.
+pub fn redo_run(alloc: Global, table: &mut PlainTable, calls: &[Stored]) -> Result<usize, Refusal>
+    requires events { All (λ (call : ItsStored). IsTableEvent call.event) calls.now }
+    requires slots { CanRedoAll table.old.now calls.now }
+{
+    match redo_all(alloc, table, calls) {
+        Ok(replies) => Ok(replies.len()),
+        Err(refusal) => Err(refusal),
+    }
 }
 
-/// Whether a book has counted so many events.
-pub fn has_counted(book: &Book<PlainTable>, events: u64) -> bool {
-    book.events() == events
-}
-
-/// How many events the live table of a book has counted.
-pub fn live_events(book: &Book<PlainTable>) -> u64 {
-    book.live().events()
-}
-
-/// Whether the base of a book is an empty table.
-pub fn is_base_new(book: &Book<PlainTable>) -> Result<bool, NoMemory> {
-    Ok(book.base()?.is_new())
-}
-
-/// How many events the base of a book has counted.
-pub fn base_events(book: &Book<PlainTable>) -> u64 {
-    book.live().base_events()
-}
-
-/// How many references are out at the base of a book.
-pub fn base_references(book: &Book<PlainTable>) -> Result<usize, NoMemory> {
-    Ok(book.base()?.tickets().len())
-}
-
-/// How many calls a book has recorded since its base.
-pub fn recorded(book: &Book<PlainTable>) -> usize {
-    book.calls().len()
+/// How many events a table had counted at its base, by itself and by a plain table in the state of the base, once what it is now
+/// is that base.
+pub fn based<T: Table>(table: &mut T) -> Result<[u64; 2], NoMemory> {
+    table.set_base()?;
+    let plain = table.base_to_plain()?;
+    Ok([table.base_events(), plain.events()])
 }

@@ -1,191 +1,276 @@
-//! The table of data, and columns of them.
+//! The table of data, and every act on all of them: on those that are no arrays, and on arrays.
 ghost use Rattle.std.specs.Prelude.{◌≡◌, ◌≤◌, ◌<◌, ◌^◌};
 ghost use Rattle.stored_data.specs.Data.{is_rate, is_array};
 ghost use Rattle.stored_data.specs.Stored.{IsPeriod, IsCount};
 
 use std::alloc::{AllocError, Global};
 use std::test::Fail;
-use stored_data::{Column, Datum, Field, StoredSet, in_range, name, read_datum, settable};
+use stored_data::{
+    Act, Column, Datum, Field, StoredSet, Values, in_range, name, read_datum, settable,
+};
 
 /// The greatest value of a number of 32 bits, and of one of 64.
-pub const GREATEST_32: u64 = 4_294_967_295;
+const SHORT: u64 = 4_294_967_295;
 
-pub const GREATEST_64: u64 = 18_446_744_073_709_551_615;
+const LONG: u64 = 18_446_744_073_709_551_615;
 
-/// Every datum that is no array, in the order of printing.
-pub static DATA: [Datum; 14] = [
-    Datum::Gpt0,
-    Datum::Gpc0,
-    Datum::Gpc0Rate,
-    Datum::ConnCnt,
-    Datum::ConnRate,
-    Datum::ConnCur,
-    Datum::SessCnt,
-    Datum::SessRate,
-    Datum::BytesInCnt,
-    Datum::BytesInRate,
-    Datum::BytesOutCnt,
-    Datum::BytesOutRate,
-    Datum::Gpc1,
-    Datum::Gpc1Rate,
+/// The name of a datum, its greatest value, whether it can be set, and whether it is a rate.
+type Said = (&'static str, u64, bool, bool);
+
+/// In the order of printing.
+const DATA: &[Said] = &[
+    ("gpt0", SHORT, true, false),
+    ("gpc0", SHORT, true, false),
+    ("gpc0_rate", SHORT, false, true),
+    ("conn_cnt", SHORT, true, false),
+    ("conn_rate", SHORT, false, true),
+    ("conn_cur", SHORT, false, false),
+    ("sess_cnt", SHORT, true, false),
+    ("sess_rate", SHORT, false, true),
+    ("bytes_in_cnt", LONG, true, false),
+    ("bytes_in_rate", SHORT, false, true),
+    ("bytes_out_cnt", LONG, true, false),
+    ("bytes_out_rate", SHORT, false, true),
+    ("gpc1", SHORT, true, false),
+    ("gpc1_rate", SHORT, false, true),
+    ("gpt", SHORT, true, false),
+    ("gpc", SHORT, true, false),
 ];
 
-/// The column of a datum, where it is a rate over this period, and where it is an array of three elements.
-pub fn column_of(datum: Datum, period: u32) -> Column
-    requires some { 1 ≤ period }
-    requires limit { period < 2 ^ 31 }
+/// Whether the datum of a name has this place in the order of printing, and is said so. A datum of 32 bits takes no value above.
+fn is_as_said(place: u8, said: &Said) -> bool {
+    let (text, greatest, can_be_set, rate) = *said;
+    let Some(datum) = read_datum(text.as_bytes()) else {
+        return false;
+    };
+    let field = Field::plain(datum);
+    (datum.place() == place)
+        & (name(datum) == text)
+        & (datum.greatest() == greatest)
+        & in_range(field, greatest)
+        & (in_range(field, LONG) == (greatest == LONG))
+        & (settable(datum) == can_be_set)
+        & (datum.is_rate() == rate)
+}
+
+#[test]
+fn data_are_in_their_table(rt: HostRuntime) {
+    let mut place = 0u8;
+    for said in DATA {
+        place = place.saturating_add(1);
+        assert!(rt; is_as_said(place, said), "{}", said.0);
+    }
+}
+
+/// The column of a datum, where it is a rate over 10 s, and where it is an array of three elements.
+fn column_of(datum: Datum) -> Column
     ensures same { result.datum ≡ datum }
     ensures period { IsPeriod (is_rate result.datum) result.period }
     ensures count { IsCount (is_array result.datum) result.count }
 {
     Column {
         datum,
-        period: if datum.is_rate() { period } else { 0 },
+        period: if datum.is_rate() { 10_000 } else { 0 },
         count: if datum.is_array() { 3 } else { 0 },
     }
 }
 
-/// The columns of these data, the rates over 10 s.
-pub fn columns_of(alloc: Global, data: &[Datum]) -> Result<StoredSet, AllocError> {
+/// The columns of the data of these names.
+fn columns_of(alloc: Global, names: &str) -> Result<StoredSet, AllocError> {
     let mut set = StoredSet::new(alloc);
-    for datum in data {
-        if !set.holds(*datum) && !set.excludes(*datum) {
-            set.add(column_of(*datum, 10_000))?;
+    for text in names.split_whitespace() {
+        let Some(datum) = read_datum(text.as_bytes()) else {
+            return Err(AllocError);
+        };
+        if !set.holds(datum) && !set.excludes(datum) {
+            set.add(column_of(datum))?;
         }
     }
     Ok(set)
 }
 
-/// The place of a datum in the order of printing, its name, its greatest value, whether it can be set, and whether it is a
-/// rate.
-type Said = (u8, Datum, &'static str, u64, bool, bool);
+/// A datum, an index, which is 0 for what is no array, and a number.
+type Number = (Datum, u32, u64);
 
-static DATA_SAID: [Said; 16] = [
-    (1, Datum::Gpt0, "gpt0", GREATEST_32, true, false),
-    (2, Datum::Gpc0, "gpc0", GREATEST_32, true, false),
-    (3, Datum::Gpc0Rate, "gpc0_rate", GREATEST_32, false, true),
-    (4, Datum::ConnCnt, "conn_cnt", GREATEST_32, true, false),
-    (5, Datum::ConnRate, "conn_rate", GREATEST_32, false, true),
-    (6, Datum::ConnCur, "conn_cur", GREATEST_32, false, false),
-    (7, Datum::SessCnt, "sess_cnt", GREATEST_32, true, false),
-    (8, Datum::SessRate, "sess_rate", GREATEST_32, false, true),
-    (
-        9,
-        Datum::BytesInCnt,
-        "bytes_in_cnt",
-        GREATEST_64,
-        true,
-        false,
-    ),
-    (
-        10,
-        Datum::BytesInRate,
-        "bytes_in_rate",
-        GREATEST_32,
-        false,
-        true,
-    ),
-    (
-        11,
-        Datum::BytesOutCnt,
-        "bytes_out_cnt",
-        GREATEST_64,
-        true,
-        false,
-    ),
-    (
-        12,
-        Datum::BytesOutRate,
-        "bytes_out_rate",
-        GREATEST_32,
-        false,
-        true,
-    ),
-    (13, Datum::Gpc1, "gpc1", GREATEST_32, true, false),
-    (14, Datum::Gpc1Rate, "gpc1_rate", GREATEST_32, false, true),
-    (15, Datum::Gpt, "gpt", GREATEST_32, true, false),
-    (16, Datum::Gpc, "gpc", GREATEST_32, true, false),
-];
+/// What is shown of up to fourteen fields, in the order of printing, and 0 for what isn't shown.
+type Row = [u64; 14];
 
-/// Whether a datum has this place and this name, and is read by it.
-fn is_named(said: &Said) -> bool {
-    let read = read_datum(said.2.as_bytes());
-    (said.1.place() == said.0) & (name(said.1) == said.2) & (read == Some(said.1))
+/// An act on a sample at 1000 ms, its answer, and which places then show another number.
+type Acted = (Act, Option<u64>, &'static [(usize, u64)]);
+
+/// The data of a table, the numbers that are put into them first, what is shown then, and acts.
+struct Tried {
+    data: &'static str,
+    numbers: &'static [Number],
+    shown: Row,
+    acts: &'static [Acted],
 }
 
-/// Whether a datum takes its greatest value and no greater one, and is set and is a rate as said.
-fn is_in_range(said: &Said) -> bool {
-    let (_, datum, _, greatest, can_be_set, rate) = *said;
-    let wide = greatest == GREATEST_64;
-    let kept = (datum.greatest() == greatest) & (datum.is_rate() == rate);
-    let field = Field::plain(datum);
-    let taken = (settable(datum) == can_be_set) & in_range(field, greatest);
-    let cut = (in_range(field, 4_294_967_296) == wide) & (in_range(field, GREATEST_64) == wide);
-    kept & taken & cut
+/// All data that are no arrays. That of the references, conn_cur, shows none here.
+static COUNTERS: Tried = Tried {
+    data: "gpt0 gpc0 gpc0_rate conn_cnt conn_rate conn_cur sess_cnt sess_rate bytes_in_cnt bytes_in_rate
+        bytes_out_cnt bytes_out_rate gpc1 gpc1_rate",
+    numbers: &[
+        (Datum::Gpt0, 0, 7),
+        (Datum::Gpc0, 0, 5),
+        (Datum::ConnCnt, 0, 11),
+        (Datum::SessCnt, 0, 13),
+        (Datum::BytesInCnt, 0, 17),
+        (Datum::BytesOutCnt, 0, 19),
+        (Datum::Gpc1, 0, 3),
+    ],
+    shown: [7, 5, 0, 11, 0, 0, 13, 0, 17, 0, 19, 0, 3, 0],
+    acts: &[
+        (Act::Connection, Some(12), &[(3, 12), (4, 1)]),
+        (Act::Session, Some(14), &[(6, 14), (7, 1)]),
+        (Act::BytesIn(100), Some(117), &[(8, 117), (9, 100)]),
+        (Act::BytesOut(200), Some(219), &[(10, 219), (11, 200)]),
+        (Act::IncGpc0, Some(6), &[(1, 6), (2, 1)]),
+        (Act::IncGpc1, Some(4), &[(12, 4), (13, 1)]),
+        (Act::ClrGpc0, Some(5), &[(1, 0)]),
+        (Act::ClrGpc1, Some(3), &[(12, 0)]),
+        (Act::SetGpt0(9), Some(9), &[(0, 9)]),
+    ],
+};
+
+/// Arrays of three elements, beside the rates of two of the counters: these are shown first, then the tags.
+static ELEMENTS: Tried = Tried {
+    data: "gpc gpc1_rate gpt gpc0_rate",
+    numbers: &[
+        (Datum::Gpt, 0, 7),
+        (Datum::Gpt, 2, 9),
+        (Datum::Gpc, 0, 5),
+        (Datum::Gpc, 1, 3),
+    ],
+    shown: [0, 0, 7, 0, 9, 5, 3, 0, 0, 0, 0, 0, 0, 0],
+    acts: &[
+        (Act::IncGpc0, Some(6), &[(0, 1), (5, 6)]),
+        (Act::IncGpc1, Some(4), &[(1, 1), (6, 4)]),
+        (Act::IncGpc(0), Some(6), &[(5, 6)]),
+        (Act::IncGpc(2), Some(1), &[(7, 1)]),
+        (Act::IncGpc(3), None, &[]),
+        (Act::ClrGpc0, Some(5), &[(5, 0)]),
+        (Act::ClrGpc1, Some(3), &[(6, 0)]),
+        (Act::SetGpt0(8), Some(8), &[(2, 8)]),
+        (Act::SetGpt(1, 4), Some(4), &[(3, 4)]),
+        (Act::SetGpt(3, 4), None, &[]),
+    ],
+};
+
+/// Values with these numbers.
+fn sample(alloc: Global, set: &StoredSet, numbers: &[Number]) -> Result<Values, AllocError> {
+    let mut values = Values::zero(alloc, set)?;
+    for (datum, index, number) in numbers {
+        let field = Field {
+            datum: *datum,
+            index: *index,
+        };
+        values.put(field, *number);
+    }
+    Ok(values)
 }
 
-#[test]
-fn data_are_in_their_table(rt: HostRuntime) {
-    for said in DATA_SAID.iter() {
-        assert!(rt; is_named(said) & is_in_range(said), "{}", said.2);
+/// What the fields show at 1000 ms.
+fn shown(set: &StoredSet, values: &Values) -> Row {
+    let mut row: Row = [0; 14];
+    for (place, field) in row.iter_mut().zip(set.fields()) {
+        *place = values.get(*field, 1000).unwrap_or(0);
+    }
+    row
+}
+
+/// What is shown, with other numbers in these places.
+fn with(mut shown: Row, changes: &[(usize, u64)]) -> Row {
+    for (place, number) in changes {
+        if let Some(shown) = shown.get_mut(*place) {
+            *shown = *number;
+        }
+    }
+    shown
+}
+
+/// Whether an act on a copy of a sample is answered and then shown so.
+fn acts_so(set: &StoredSet, before: &Values, was: Row, acted: &Acted) -> bool {
+    match before.copy() {
+        Ok(mut values) => {
+            (values.act(1000, acted.0) == acted.1) & (shown(set, &values) == with(was, acted.2))
+        }
+        Err(_) => false,
     }
 }
 
-static NO_DATA: [&str; 8] = [
-    "",
-    "gpc[0]",
-    "gpc2",
-    "GPC0",
-    " gpc0",
-    "gpc0 ",
-    "gpc0_rate(10s)",
-    "server_id",
-];
-
 #[test]
-fn other_words_are_no_data(rt: HostRuntime) {
-    for text in NO_DATA.iter() {
-        assert!(rt; read_datum(text.as_bytes()).is_none(), "{text}");
+fn acts_are_answered_and_shown(rt: HostRuntime) -> Result<(), Fail> {
+    for tried in [&COUNTERS, &ELEMENTS] {
+        let set = columns_of(rt.alloc(), tried.data)?;
+        let before = sample(rt.alloc(), &set, tried.numbers)?;
+        assert!(rt; shown(&set, &before) == tried.shown);
+        for acted in tried.acts {
+            assert!(rt; acts_so(&set, &before, tried.shown, acted), "{:?}", acted.0);
+        }
     }
+    Ok(())
 }
 
-static SOME_COLUMNS: [Column; 4] = [
-    Column {
-        datum: Datum::Gpt0,
-        period: 0,
-        count: 0,
-    },
-    Column {
-        datum: Datum::ConnRate,
-        period: 10_000,
-        count: 0,
-    },
-    Column {
-        datum: Datum::BytesInCnt,
-        period: 0,
-        count: 0,
-    },
-    Column {
-        datum: Datum::Gpc1,
-        period: 0,
-        count: 0,
-    },
+/// A rate, the counter beside it, an act that counts in both, and by how much.
+type Counting = (Datum, Datum, Act, u64);
+
+const COUNTINGS: &[Counting] = &[
+    (Datum::Gpc0Rate, Datum::Gpc0, Act::IncGpc0, 1),
+    (Datum::Gpc1Rate, Datum::Gpc1, Act::IncGpc1, 1),
+    (Datum::ConnRate, Datum::ConnCnt, Act::Connection, 1),
+    (Datum::SessRate, Datum::SessCnt, Act::Session, 1),
+    (Datum::BytesInRate, Datum::BytesInCnt, Act::BytesIn(4), 4),
+    (Datum::BytesOutRate, Datum::BytesOutCnt, Act::BytesOut(5), 5),
 ];
 
-static SOME_DATA: [Datum; 4] = [Datum::Gpc1, Datum::ConnRate, Datum::Gpt0, Datum::BytesInCnt];
+/// What values of a rate alone answer and show: an act, which counts though its counter isn't stored; puts, clears and the tag,
+/// which count in no rate; and then the rate at once, after half of the next period, and after the whole of it.
+fn alone(values: &mut Values, counting: &Counting) -> [Option<u64>; 7] {
+    let (rate, counter) = (Field::plain(counting.0), Field::plain(counting.1));
+    let counted = values.act(1000, counting.2);
+    values.put(rate, 77);
+    values.put(counter, 77);
+    [
+        counted,
+        values.act(1000, Act::ClrGpc0),
+        values.act(1000, Act::SetGpt0(3)),
+        values.get(counter, 1000),
+        values.get(rate, 1000),
+        values.get(rate, 15_000),
+        values.get(rate, 20_000),
+    ]
+}
 
-/// Whether a set has the four columns, and no others.
-fn has_some_columns(set: &StoredSet) -> bool {
-    (set.columns() == SOME_COLUMNS.as_slice())
-        & set.holds(Datum::ConnRate)
-        & !set.holds(Datum::ConnCnt)
+/// Whether values of a rate alone answer and show that.
+fn counts_alone(alloc: Global, counting: &Counting) -> Result<bool, AllocError> {
+    let set = columns_of(alloc, name(counting.0))?;
+    let mut values = Values::zero(alloc, &set)?;
+    let rates = [Some(counting.3), Some(counting.3 / 2), Some(0)];
+    let wanted = [None, None, None, None, rates[0], rates[1], rates[2]];
+    Ok(alone(&mut values, counting) == wanted)
+}
+
+/// Whether an act on a counter that has its greatest value leaves it there, and counts in the rate.
+fn stops(before: &Values, counting: &Counting) -> bool {
+    let (rate, counter) = (Field::plain(counting.0), Field::plain(counting.1));
+    let greatest = Some(counting.1.greatest());
+    let Ok(mut values) = before.copy() else {
+        return false;
+    };
+    values.put(counter, counting.1.greatest());
+    (values.act(2000, counting.2) == greatest)
+        & (values.get(counter, 2000) == greatest)
+        & (values.get(rate, 2000) == Some(counting.3))
 }
 
 #[test]
-fn columns_are_in_order(rt: HostRuntime) -> Result<(), Fail> {
-    assert!(rt; !StoredSet::new(rt.alloc()).holds(Datum::Gpc0));
-    let set = columns_of(rt.alloc(), &SOME_DATA)?;
-    assert!(rt; has_some_columns(&set));
-    assert!(rt; has_some_columns(&set.copy()?));
+fn rates_count_alone_and_counters_stop(rt: HostRuntime) -> Result<(), Fail> {
+    let set = columns_of(rt.alloc(), COUNTERS.data)?;
+    let before = Values::zero(rt.alloc(), &set)?;
+    for counting in COUNTINGS {
+        assert!(rt; counts_alone(rt.alloc(), counting)?, "{:?}", counting.0);
+        assert!(rt; stops(&before, counting), "{:?}", counting.1);
+    }
     Ok(())
 }

@@ -1,33 +1,33 @@
-//! Worked examples of tables, event by event: what is asked at a moment, and what is told of it. Each is asked of plain
-//! tables and of their books, and of pooled tables of short keys and of long ones.
+//! Worked examples of tables, event by event: what is asked at a moment, and what is told of it.
 
 ghost use Rattle.std.specs.Prelude.{◌≤◌, ◌<◌, ◌^◌, IfOk, IfSome};
-ghost use Rattle.stick_model.specs.Limits.{IsKeyType, IsTableEvent, IsTableSpec};
+ghost use Rattle.stick_model.specs.Limits.{IsTableEvent, IsTableSpec};
 
+use crate::calls::Answer;
 use base_sequence::{NoMemory, Sequence};
 use std::alloc::Global;
-use stick_key::{KeyType, Sample, StickKey, convert};
-use stick_table::{Cell, Event, Filter, Op, Refusal, Spec, Ticket};
+use stick_key::{KeyType, StickKey, read_key};
+use stick_table::{Cell, Event, Filter, Op, Refusal, Reply, Row, Rows, Spec, Ticket};
 use stored_data::{Act, Column, Datum, Field, StoredSet};
 
-/// Keys of 4 bytes, or of 24, which lie in memory of their own. The last byte tells a host.
-#[derive(Clone, Copy)]
-pub enum Keys {
-    Short,
-    Long,
-}
+/// Keys, in their order, which lie in memory of their own.
+const ANNA: &str = "anna, of a long name, and";
 
-/// What is asked: of a host, or of the ticket that was told last.
+const BERT: &str = "bert, of a long name, too";
+
+const CARL: &str = "carl, who isn't there yet";
+
+/// What is asked: of a key, or of the ticket that was told last.
 #[derive(Clone, Copy)]
 pub enum Ask {
-    Get(u8),
-    Track(u8),
+    Get(&'static str),
+    Track(&'static str),
     Look,
     IncGpc0,
     Release,
     /// Sets gpc0.
-    Put(u8, u32),
-    Clear(u8),
+    Put(&'static str, u32),
+    Clear(&'static str),
     /// By what gpc0 is compared with.
     ClearWhere(Op, u64),
     List(Op, u64),
@@ -35,8 +35,8 @@ pub enum Ask {
     Expire,
 }
 
-/// What a row shows: the host, its references, what is left of its life in ms, and gpc0.
-pub type Shown = (u8, u32, u64, u64);
+/// What a row shows: the key, its references, what is left of its life in ms, and gpc0.
+pub type Shown = (&'static str, u32, u64, u64);
 
 /// What is told.
 #[derive(Clone, Copy)]
@@ -50,6 +50,7 @@ pub enum Tell {
     Released,
     /// The entry was made.
     Created,
+    InUse,
     Cleared(u64, u64),
     /// How many entries there are, and those that are shown.
     Rows(u64, &'static [Shown]),
@@ -60,185 +61,71 @@ pub enum Tell {
 /// A moment in ms, what is asked at it, and what is told of it.
 pub type Told = (u32, Ask, Tell);
 
-/// What a table is made with, up to 100 entries and references and a life of 1,000 events, and what it is asked and
-/// tells, one after another.
+/// What a table of one reference is made with, and what it is asked and tells, one after another.
 pub struct Example {
     pub size: u32,
-    pub purge: u32,
     pub expire: Option<u32>,
-    pub max_refs: u32,
     pub life: u64,
     pub rows: &'static [Told],
 }
 
-/// The table has one event left for the release.
+/// Each event on a table of two entries. The third key takes the place of the second, since the first is tracked.
+pub static EACH_EVENT: Example = Example {
+    size: 2,
+    expire: Some(30_000),
+    life: 1_000,
+    rows: &[
+        (0, Ask::Get(ANNA), Tell::Absent),
+        (0, Ask::Put(ANNA, 7), Tell::Created),
+        (20_000, Ask::Get(ANNA), Tell::Row((ANNA, 0, 10_000, 7))),
+        (
+            29_999,
+            Ask::Track(ANNA),
+            Tell::Tracked(4, (ANNA, 1, 30_000, 7)),
+        ),
+        (29_999, Ask::Track(BERT), Tell::NoRefs),
+        (30_000, Ask::IncGpc0, Tell::Value(8)),
+        (30_999, Ask::Look, Tell::Row((ANNA, 1, 29_000, 8))),
+        (31_000, Ask::Put(BERT, 0), Tell::Created),
+        (
+            31_000,
+            Ask::List(Op::Ge, 1),
+            Tell::Rows(2, &[(ANNA, 1, 28_999, 8)]),
+        ),
+        (31_000, Ask::Put(CARL, 1), Tell::Created),
+        (
+            31_000,
+            Ask::ListAll,
+            Tell::Rows(2, &[(ANNA, 1, 28_999, 8), (CARL, 0, 30_000, 1)]),
+        ),
+        (31_000, Ask::Clear(ANNA), Tell::InUse),
+        (31_000, Ask::Clear(BERT), Tell::Absent),
+        (31_000, Ask::ClearWhere(Op::Eq, 1), Tell::Cleared(1, 0)),
+        (40_000, Ask::Release, Tell::Released),
+        (70_000, Ask::Expire, Tell::Expired(1)),
+    ],
+};
+
+/// The table has one event left for the release. No configuration makes a table of so short a life.
 pub static END_OF_LIFE: Example = Example {
     size: 10,
-    purge: 1,
     expire: None,
-    max_refs: 2,
     life: 4,
     rows: &[
         (0, Ask::Look, Tell::Refused(Refusal::Stale)),
         (0, Ask::IncGpc0, Tell::Refused(Refusal::Stale)),
-        (0, Ask::Track(1), Tell::Tracked(1, (1, 1, 0, 0))),
-        (0, Ask::Get(1), Tell::Row((1, 1, 0, 0))),
-        (0, Ask::Look, Tell::Row((1, 1, 0, 0))),
-        (0, Ask::Get(1), Tell::Refused(Refusal::Exhausted)),
+        (0, Ask::Track(ANNA), Tell::Tracked(1, (ANNA, 1, 0, 0))),
+        (0, Ask::Get(ANNA), Tell::Row((ANNA, 1, 0, 0))),
+        (0, Ask::Look, Tell::Row((ANNA, 1, 0, 0))),
+        (0, Ask::Get(ANNA), Tell::Refused(Refusal::Exhausted)),
         (0, Ask::Release, Tell::Released),
         (0, Ask::Release, Tell::Refused(Refusal::Stale)),
         (0, Ask::Expire, Tell::Refused(Refusal::Exhausted)),
     ],
 };
 
-pub static DATES: Example = Example {
-    size: 100,
-    purge: 1,
-    expire: Some(30_000),
-    max_refs: 8,
-    life: 1_000,
-    rows: &[
-        (0, Ask::Put(1, 7), Tell::Created),
-        (20_000, Ask::Get(1), Tell::Row((1, 0, 10_000, 7))),
-        (29_999, Ask::Get(1), Tell::Row((1, 0, 1, 7))),
-        (30_000, Ask::Get(1), Tell::Absent),
-        (31_000, Ask::Track(1), Tell::Tracked(5, (1, 1, 30_000, 0))),
-        (31_000, Ask::IncGpc0, Tell::Value(1)),
-        (31_500, Ask::Look, Tell::Row((1, 1, 29_500, 1))),
-        (40_000, Ask::Release, Tell::Released),
-        (70_000, Ask::Expire, Tell::Expired(1)),
-    ],
-};
-
-pub static ONE_REFERENCE: Example = Example {
-    size: 10,
-    purge: 1,
-    expire: None,
-    max_refs: 1,
-    life: 1_000,
-    rows: &[
-        (0, Ask::Track(1), Tell::Tracked(1, (1, 1, 0, 0))),
-        (0, Ask::Track(2), Tell::NoRefs),
-        (0, Ask::List(Op::Ge, 0), Tell::Rows(1, &[(1, 1, 0, 0)])),
-        (0, Ask::ListAll, Tell::Rows(1, &[(1, 1, 0, 0)])),
-        (0, Ask::Release, Tell::Released),
-        (0, Ask::Track(2), Tell::Tracked(6, (2, 1, 0, 0))),
-    ],
-};
-
-/// A full table of two entries, which tracks the first host at 1 ms, and purges the second for the third at 3 ms.
-pub static PURGING: Example = Example {
-    size: 2,
-    purge: 1,
-    expire: None,
-    max_refs: 8,
-    life: 1_000,
-    rows: &[
-        (0, Ask::Put(1, 1), Tell::Created),
-        (1, Ask::Track(1), Tell::Tracked(2, (1, 1, 0, 1))),
-        (2, Ask::Put(2, 0), Tell::Created),
-        (3, Ask::Track(3), Tell::Tracked(4, (3, 1, 0, 0))),
-        (3, Ask::Track(1), Tell::Tracked(5, (1, 2, 0, 1))),
-        (
-            3,
-            Ask::List(Op::Ge, 0),
-            Tell::Rows(2, &[(1, 2, 0, 1), (3, 1, 0, 0)]),
-        ),
-        (
-            3,
-            Ask::ListAll,
-            Tell::Rows(2, &[(1, 2, 0, 1), (3, 1, 0, 0)]),
-        ),
-        (3, Ask::Get(3), Tell::Row((3, 1, 0, 0))),
-    ],
-};
-
-/// A full table that purges two: the first host and the third, as the second is tracked. Then there is a place.
-pub static PURGING_TWO: Example = Example {
-    size: 4,
-    purge: 2,
-    expire: None,
-    max_refs: 8,
-    life: 1_000,
-    rows: &[
-        (0, Ask::Put(1, 1), Tell::Created),
-        (1, Ask::Track(2), Tell::Tracked(2, (2, 1, 0, 0))),
-        (2, Ask::Put(3, 3), Tell::Created),
-        (3, Ask::Put(4, 4), Tell::Created),
-        (4, Ask::Put(5, 5), Tell::Created),
-        (
-            4,
-            Ask::ListAll,
-            Tell::Rows(3, &[(2, 1, 0, 0), (4, 0, 0, 4), (5, 0, 0, 5)]),
-        ),
-        (5, Ask::Put(6, 6), Tell::Created),
-        (
-            5,
-            Ask::ListAll,
-            Tell::Rows(4, &[(2, 1, 0, 0), (4, 0, 0, 4), (5, 0, 0, 5), (6, 0, 0, 6)]),
-        ),
-    ],
-};
-
-/// A full table that purges all that it can, as they are fewer than it may.
-pub static PURGING_ALL: Example = Example {
-    size: 3,
-    purge: 8,
-    expire: None,
-    max_refs: 8,
-    life: 1_000,
-    rows: &[
-        (0, Ask::Track(1), Tell::Tracked(1, (1, 1, 0, 0))),
-        (1, Ask::Put(2, 2), Tell::Created),
-        (2, Ask::Put(3, 3), Tell::Created),
-        (3, Ask::Put(4, 4), Tell::Created),
-        (
-            3,
-            Ask::ListAll,
-            Tell::Rows(2, &[(1, 1, 0, 0), (4, 0, 0, 4)]),
-        ),
-    ],
-};
-
-/// Events that need no ticket.
-pub static RUN: Example = Example {
-    size: 10,
-    purge: 1,
-    expire: Some(1_000),
-    max_refs: 4,
-    life: 8,
-    rows: &[
-        (0, Ask::Put(1, 7), Tell::Created),
-        (0, Ask::List(Op::Gt, 6), Tell::Rows(1, &[(1, 0, 1_000, 7)])),
-        (0, Ask::ClearWhere(Op::Lt, 7), Tell::Cleared(0, 0)),
-        (0, Ask::Clear(2), Tell::Absent),
-        (1_000, Ask::Expire, Tell::Expired(1)),
-    ],
-};
-
 /// The ticket of no reference.
 pub const NO_TICKET: Ticket = Ticket { number: 9, slot: 0 };
-
-static SHORT_HEAD: [u8; 3] = [10, 0, 0];
-
-static LONG_HEAD: [u8; 23] = [b'a'; 23];
-
-/// What stands before the last byte of a key.
-pub fn head(keys: Keys) -> &'static [u8] {
-    match keys {
-        Keys::Short => SHORT_HEAD.as_slice(),
-        Keys::Long => LONG_HEAD.as_slice(),
-    }
-}
-
-fn kind(keys: Keys) -> KeyType
-    ensures { IsKeyType result }
-{
-    match keys {
-        Keys::Short => KeyType::Ip,
-        Keys::Long => KeyType::Text(32),
-    }
-}
 
 /// A life of entries that a table can have, near that of an example.
 fn expire(example: &Example) -> Option<u32>
@@ -251,7 +138,7 @@ fn expire(example: &Example) -> Option<u32>
 }
 
 /// What the table of an example is made with. It stores gpc0.
-pub fn spec(alloc: Global, keys: Keys, example: &Example) -> Result<Spec, NoMemory>
+pub fn spec(alloc: Global, example: &Example) -> Result<Spec, NoMemory>
     ensures { IfOk result IsTableSpec }
 {
     let mut columns = StoredSet::new(alloc);
@@ -261,35 +148,23 @@ pub fn spec(alloc: Global, keys: Keys, example: &Example) -> Result<Spec, NoMemo
         count: 0,
     })?;
     Ok(Spec {
-        kind: kind(keys),
+        kind: KeyType::Text(32),
         size: example.size.clamp(1, 100),
         expire: expire(example),
         nopurge: false,
-        purge: example.purge.clamp(1, 1_024),
+        purge: 1,
         columns,
-        max_refs: example.max_refs.clamp(1, 100),
+        max_refs: 1,
         life: example.life.min(1_000),
         seed: 0,
     })
 }
 
-/// The sample that a key is made of.
-fn sample(alloc: Global, keys: Keys, host: u8) -> Result<Sample, NoMemory> {
-    match keys {
-        Keys::Short => Ok(Sample::V4([10, 0, 0, host])),
-        Keys::Long => {
-            let mut text = Sequence::from_slice(alloc, head(keys))?;
-            text.push(host)?;
-            Ok(Sample::Text(text))
-        }
-    }
-}
-
-/// The key of a host.
-pub fn key(alloc: Global, keys: Keys, host: u8) -> Result<StickKey, NoMemory> {
-    match convert(alloc, &sample(alloc, keys, host)?, kind(keys)) {
-        Ok(Some(key)) => Ok(key),
-        _ => Err(NoMemory),
+/// The key of a text.
+fn key(alloc: Global, text: &str) -> Result<StickKey, NoMemory> {
+    match read_key(alloc, KeyType::Text(32), text.as_bytes()) {
+        Ok(key) => Ok(key),
+        Err(_) => Err(NoMemory),
     }
 }
 
@@ -305,19 +180,23 @@ fn put(alloc: Global, now: u64, key: StickKey, gpc0: u32) -> Result<Event, NoMem
     Ok(Event::Put(now, key, Sequence::from_slice(alloc, &[pair])?))
 }
 
-/// What is asked, as an event.
-pub fn event_of(alloc: Global, keys: Keys, row: Told, ticket: Ticket) -> Result<Event, NoMemory>
+fn by_gpc0(op: Op, bound: u64) -> Filter {
+    Filter::Compare(Field::plain(Datum::Gpc0), op, bound)
+}
+
+/// What is asked in a row, as an event.
+pub fn event_of(alloc: Global, row: &Told, ticket: Ticket) -> Result<Event, NoMemory>
     ensures { IfOk result IsTableEvent }
 {
     let now = u64::from(row.0);
     match row.1 {
-        Ask::Get(host) => Ok(Event::Get(now, key(alloc, keys, host)?)),
-        Ask::Track(host) => Ok(Event::Track(now, key(alloc, keys, host)?)),
+        Ask::Get(text) => Ok(Event::Get(now, key(alloc, text)?)),
+        Ask::Track(text) => Ok(Event::Track(now, key(alloc, text)?)),
         Ask::Look => Ok(Event::Look(now, ticket)),
         Ask::IncGpc0 => Ok(Event::Count(now, ticket, Act::IncGpc0)),
         Ask::Release => Ok(Event::Release(now, ticket)),
-        Ask::Put(host, gpc0) => put(alloc, now, key(alloc, keys, host)?, gpc0),
-        Ask::Clear(host) => Ok(Event::Clear(now, key(alloc, keys, host)?)),
+        Ask::Put(text, gpc0) => put(alloc, now, key(alloc, text)?, gpc0),
+        Ask::Clear(text) => Ok(Event::Clear(now, key(alloc, text)?)),
         Ask::ClearWhere(op, bound) => Ok(Event::ClearWhere(now, by_gpc0(op, bound))),
         Ask::List(op, bound) => Ok(Event::List(now, by_gpc0(op, bound))),
         Ask::ListAll => Ok(Event::List(now, Filter::Everything)),
@@ -325,6 +204,56 @@ pub fn event_of(alloc: Global, keys: Keys, row: Told, ticket: Ticket) -> Result<
     }
 }
 
-fn by_gpc0(op: Op, bound: u64) -> Filter {
-    Filter::Compare(Field::plain(Datum::Gpc0), op, bound)
+/// Whether a row shows that.
+fn is_row(row: &Row, shown: Shown) -> bool {
+    row.key.bytes() == shown.0.as_bytes()
+        && (row.refs, row.left) == (shown.1, shown.2)
+        && matches!(row.cells.as_slice(), [cell] if cell.field == Field::plain(Datum::Gpc0) && cell.value == shown.3)
+}
+
+/// Whether these rows show that, one after another.
+fn are_rows(rows: &[Row], shown: &[Shown]) -> bool {
+    for (row, shown) in rows.iter().zip(shown) {
+        if !is_row(row, *shown) {
+            return false;
+        }
+    }
+    rows.len() == shown.len()
+}
+
+/// Whether a listing shows that, row by row.
+fn is_listed(rows: &Rows, shown: &[Shown]) -> bool {
+    match rows.read() {
+        Ok(reading) => are_rows(reading.as_slice(), shown),
+        Err(_) => false,
+    }
+}
+
+/// Whether a reply tells that.
+fn is_told(reply: &Reply, tell: Tell) -> bool {
+    match (reply, tell) {
+        (Reply::Row(row), Tell::Row(shown)) => is_row(row, shown),
+        (Reply::Tracked { ticket, row }, Tell::Tracked(number, shown)) => ticket.number == number
+            && is_row(row, shown),
+        (Reply::Value(value), Tell::Value(wanted)) => *value == Some(wanted),
+        (Reply::Written { created }, Tell::Created) => *created,
+        (Reply::Cleared { removed, kept }, Tell::Cleared(gone, left)) => (*removed, *kept)
+            == (gone, left),
+        (Reply::Rows { used, rows }, Tell::Rows(count, shown)) => *used == count
+            && is_listed(rows, shown),
+        (Reply::Expired(count), Tell::Expired(wanted)) => *count == wanted,
+        (Reply::Absent, Tell::Absent)
+        | (Reply::NoRefs, Tell::NoRefs)
+        | (Reply::InUse, Tell::InUse)
+        | (Reply::Released, Tell::Released) => true,
+        _ => false,
+    }
+}
+
+/// Whether that is the answer.
+pub fn is_answer(answer: &Answer, tell: Tell) -> bool {
+    match answer {
+        Ok(reply) => is_told(reply, tell),
+        Err(refusal) => matches!(tell, Tell::Refused(wanted) if *refusal == wanted),
+    }
 }

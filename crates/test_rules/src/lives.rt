@@ -5,60 +5,19 @@
 ghost use Rattle.std.specs.Prelude.{◌≡◌, false, is_some};
 ghost use Rattle.admit_core.specs.Conn.{progress_of};
 
+use crate::setups::setup_of;
 use admit_core::{Conn, Need, Phase};
-use base_sequence::{NoMemory, Sequence};
-use rule_addresses::{Address, Prefixes};
+use rule_addresses::Address;
 use rule_eval::{Answer, Samples};
-use rule_model::{Action, KeyExpression, NamedSpec, Rule, Setup, Slot};
 use std::alloc::Global;
-use stick_key::KeyType;
-use stick_model::Spec;
-use stored_data::StoredSet;
 
-/// A rule without a condition.
-fn rule(action: Action) -> Rule {
-    Rule {
-        action,
-        unless: false,
-        condition: None,
-    }
-}
+/// A table of addresses, and the rules `track-sc0 src` and perhaps `reject`.
+const ACCEPTING: &[u8] =
+    b"listen t\nstick-table type ip size 10\ntcp-request connection track-sc0 src\n";
 
-/// A table `t` of addresses, and the rules `track-sc0 src table t` and perhaps `reject`.
-fn setup(alloc: Global, rejects: bool) -> Result<Setup, NoMemory> {
-    let mut tables = Sequence::new(alloc);
-    let spec = Spec {
-        kind: KeyType::Ip,
-        size: 10,
-        expire: None,
-        nopurge: false,
-        purge: 1,
-        columns: StoredSet::new(alloc),
-        max_refs: 10,
-        life: 1000,
-        seed: 0,
-    };
-    let name = Sequence::from_slice(alloc, b"t")?;
-    tables.push(NamedSpec { name, spec })?;
-    let mut rules = Sequence::new(alloc);
-    let table = Sequence::from_slice(alloc, b"t")?;
-    rules.push(rule(Action::Track {
-        slot: Slot::Sc0,
-        key: KeyExpression::Source,
-        table,
-    }))?;
-    if rejects {
-        rules.push(rule(Action::Reject))?;
-    }
-    Ok(Setup {
-        tables,
-        rules,
-        bind: None,
-        server: None,
-        shards: 1,
-        prefixes: Prefixes::whole(),
-    })
-}
+const REJECTING: &[u8] =
+    b"listen t\nstick-table type ip size 10\ntcp-request connection track-sc0 src\n\
+    tcp-request connection reject\n";
 
 /// A reference. It isn't `Drop`: who has it has to take it apart, or to hand it on.
 struct Reference {
@@ -141,8 +100,8 @@ fn has_ended(conn: Conn<'_, Reference>) -> bool {
 }
 
 /// Whether a connection's wants are these, its first releases being refused, until it ends with nothing held.
-fn lives(alloc: Global, rejects: bool, refused: u32, wanted: &[u8]) -> bool {
-    let Ok(setup) = setup(alloc, rejects) else {
+fn lives(alloc: Global, text: &[u8], refused: u32, wanted: &[u8]) -> bool {
+    let Some(setup) = setup_of(alloc, text, 1) else {
         return false;
     };
     let samples = Samples {
@@ -160,17 +119,12 @@ fn lives(alloc: Global, rejects: bool, refused: u32, wanted: &[u8]) -> bool {
 }
 
 #[test]
-fn accepted_counts_its_session_and_its_bytes(rt: HostRuntime) {
-    assert!(rt; lives(rt.alloc(), false, 0, b"tc>-ccr>."));
-}
-
-#[test]
-fn rejected_counts_nothing(rt: HostRuntime) {
-    assert!(rt; lives(rt.alloc(), true, 0, b"t>r>."));
-}
-
-#[test]
-fn a_refused_release_is_wanted_again(rt: HostRuntime) {
-    assert!(rt; lives(rt.alloc(), false, 2, b"tc>-ccxxr>."));
-    assert!(rt; lives(rt.alloc(), true, 1, b"t>xr>."));
+fn connections_want_what_the_manual_has(rt: HostRuntime) {
+    let alloc = rt.alloc();
+    // One that is accepted counts its session and its bytes; one that is rejected counts nothing.
+    assert!(rt; lives(alloc, ACCEPTING, 0, b"tc>-ccr>."));
+    assert!(rt; lives(alloc, REJECTING, 0, b"t>r>."));
+    // A release that is refused is wanted again.
+    assert!(rt; lives(alloc, ACCEPTING, 2, b"tc>-ccxxr>."));
+    assert!(rt; lives(alloc, REJECTING, 1, b"t>xr>."));
 }
