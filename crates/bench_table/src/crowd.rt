@@ -15,19 +15,22 @@ use std::thread::Threads;
 use std::{fmt, io};
 use stick_pooled::StickTable;
 use stick_table::{Refusal, Table};
-use test_calls::{Client, Planned, Records, admit_all, key, spec};
+use test_calls::{Client, Planned, TablePlan, admit_all, key, open_alone, open_record};
 
 /// How many clients come at once, each on a thread of its own, and how many of them may stay.
 const CLIENTS: u32 = 16;
 
 const LIMIT: u32 = 3;
 
-/// In how many shards the table is, of how many entries, and with so many references for each shard.
-const SHARDS: u32 = 4;
-
-const PLACES: u32 = 64;
-
-const REFERENCES: u32 = 64;
+/// The table that they come to.
+const TABLE: TablePlan = TablePlan {
+    size: 64,
+    max_refs: 64,
+    life: 1 << 62,
+    shards: 4,
+    seats: CLIENTS,
+    keep: false,
+};
 
 /// How a round ended: how many clients stayed, and how many references were out then.
 #[derive(Clone, Copy)]
@@ -98,9 +101,7 @@ fn round_recorded<J: Naming + Send + Sync, T: Table + Send, R: Threads + Wait + 
 ) -> Result<Stayed, Refusal>
     requires record { IsNamed opened J.record_id J.books J.specs }
 {
-    let spec = spec(alloc, PLACES, REFERENCES, 1 << 62)?;
-    let records = Records::<J>::new(alloc, opened)?;
-    let (_left, (table, seats)) = records.open::<T>(alloc, spec, SHARDS, CLIENTS, false)?;
+    let (table, seats) = open_alone::<T, J>(alloc, TABLE, opened)?;
     let clients = stay(rt, alloc, &table, seats)?;
     Ok(Stayed {
         clients,
@@ -113,8 +114,7 @@ fn run_round<T: Table + Send, R: Threads + Wait + Sync>(
     rt: &R,
     alloc: Global,
 ) -> Result<Stayed, Refusal> {
-    let spec = spec(alloc, PLACES, REFERENCES, 1 << 62)?;
-    let opened = Planned::alone(alloc, &spec, SHARDS, CLIENTS)?;
+    let opened = open_record(alloc, &[TABLE])?;
     round_recorded::<Brand, T, R>(rt, alloc, opened)
 }
 

@@ -6,11 +6,11 @@ mod locked;
 mod opening;
 mod runner;
 
-ghost use Rattle.std.specs.Prelude.{◌≡◌, ◌≤◌};
+ghost use Rattle.std.specs.Prelude.{◌≡◌};
 ghost use Rattle.test_calls.specs.Planned.{IsNamed};
 
 use base_sequence::NoMemory;
-use opening::{bare_callers, locked_callers, open_record, open_table};
+use opening::{bare_callers, locked_callers, plan_of};
 use runner::{Timed, Work, measure};
 use shard_locks::{Shards, SharedSeat};
 use shard_record::Naming;
@@ -22,7 +22,7 @@ use std::sync::Wait;
 use std::thread::Threads;
 use stick_pooled::StickTable;
 use stick_table::Table;
-use test_calls::Planned;
+use test_calls::{Planned, open_alone, open_record};
 
 /// How many rounds there are where no times are printed.
 const FEW: u32 = 100;
@@ -50,9 +50,7 @@ fn time_bare<T: Table + Send, R: Threads + Clock + Sync + AllocGlobal>(
     rt: &R,
     setting: Setting,
     work: Work,
-) -> io::Result<Timed>
-    requires { (1 ≤ setting.shards) × (setting.shards ≤ 64) }
-{
+) -> io::Result<Timed> {
     let mut runners = bare_callers::<T>(rt.alloc(), setting.shards, setting.threads)?;
     let rounds = setting.rounds.unwrap_or(FEW);
     Ok(measure(rt, runners.as_mut_slice(), work, rounds)?)
@@ -80,11 +78,10 @@ fn locked_recorded<
     T: Table + Send,
     R: Threads + Wait + Clock + Sync + AllocGlobal,
 >(rt: &R, setting: Setting, work: Work, opened: Planned) -> io::Result<Timed>
-    requires shards { (1 ≤ setting.shards) × (setting.shards ≤ 64) }
-    requires threads { (1 ≤ setting.threads) × (setting.threads ≤ 64) }
     requires record { IsNamed opened J.record_id J.books J.specs }
 {
-    let (table, seats) = open_table::<T, J>(rt.alloc(), setting.shards, setting.threads, opened)?;
+    let plan = plan_of(setting.shards, setting.threads);
+    let (table, seats) = open_alone::<T, J>(rt.alloc(), plan, opened)?;
     Ok(time_seats(rt, &table, seats, work, setting.rounds.unwrap_or(FEW))?)
 }
 
@@ -93,11 +90,9 @@ fn time_locked<T: Table + Send, R: Threads + Wait + Clock + Sync + AllocGlobal>(
     rt: &R,
     setting: Setting,
     work: Work,
-) -> io::Result<Timed>
-    requires shards { (1 ≤ setting.shards) × (setting.shards ≤ 64) }
-    requires threads { (1 ≤ setting.threads) × (setting.threads ≤ 64) }
-{
-    let opened = open_record(rt.alloc(), setting.shards, setting.threads)?;
+) -> io::Result<Timed> {
+    let plan = plan_of(setting.shards, setting.threads);
+    let opened = open_record(rt.alloc(), &[plan])?;
     locked_recorded::<Brand, T, R>(rt, setting, work, opened)
 }
 
@@ -134,10 +129,7 @@ fn print_line<R: Print>(rt: &R, name: &str, setting: Setting, both: Both) -> io:
 fn print_setting<T: Table + Send, R: Threads + Wait + Clock + Sync + Print + AllocGlobal>(
     rt: &R,
     setting: Setting,
-) -> io::Result<()>
-    requires shards { (1 ≤ setting.shards) × (setting.shards ≤ 64) }
-    requires threads { (1 ≤ setting.threads) × (setting.threads ≤ 64) }
-{
+) -> io::Result<()> {
     for (name, work) in WORKS.iter() {
         let bare = time_bare::<T, R>(rt, setting, *work)?;
         let locked = time_locked::<T, R>(rt, setting, *work)?;
@@ -146,38 +138,7 @@ fn print_setting<T: Table + Send, R: Threads + Wait + Clock + Sync + Print + All
     Ok(())
 }
 
-/// Prints the times of a table in so many shards, by so many threads.
-fn print_threads<T: Table + Send, R: Threads + Wait + Clock + Sync + Print + AllocGlobal>(
-    rt: &R,
-    shards: u32,
-    threads: u32,
-    rounds: Option<u32>,
-) -> io::Result<()>
-    requires shards { (1 ≤ shards) × (shards ≤ 64) }
-    requires threads { (1 ≤ threads) × (threads ≤ 64) }
-{
-    let setting = Setting {
-        shards,
-        threads,
-        rounds,
-    };
-    print_setting::<T, R>(rt, setting)
-}
-
-/// Prints the times of a table in so many shards, by 1, 2 and 4 threads.
-fn print_shards<T: Table + Send, R: Threads + Wait + Clock + Sync + Print + AllocGlobal>(
-    rt: &R,
-    shards: u32,
-    rounds: Option<u32>,
-) -> io::Result<()>
-    requires { (1 ≤ shards) × (shards ≤ 64) }
-{
-    print_threads::<T, R>(rt, shards, 1, rounds)?;
-    print_threads::<T, R>(rt, shards, 2, rounds)?;
-    print_threads::<T, R>(rt, shards, 4, rounds)
-}
-
-/// Prints all times.
+/// Prints all times: of 1 and of 8 shards, by 1, 2 and 4 threads.
 fn print_all<T: Table + Send, R: Threads + Wait + Clock + Sync + Print + AllocGlobal>(
     rt: &R,
     rounds: Option<u32>,
@@ -186,8 +147,17 @@ fn print_all<T: Table + Send, R: Threads + Wait + Clock + Sync + Print + AllocGl
         Some(_) => println!(rt; "round shards threads bare-ns locked-ns refused")?,
         None => println!(rt; "round shards threads refused")?,
     }
-    print_shards::<T, R>(rt, 1, rounds)?;
-    print_shards::<T, R>(rt, 8, rounds)
+    for shards in [1, 8] {
+        for threads in [1, 2, 4] {
+            let setting = Setting {
+                shards,
+                threads,
+                rounds,
+            };
+            print_setting::<T, R>(rt, setting)?;
+        }
+    }
+    Ok(())
 }
 
 /// Prints the times of calls of pooled tables in shards, of so many rounds; or else how many of a few calls are refused.

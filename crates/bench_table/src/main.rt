@@ -1,10 +1,8 @@
 //! Times the events of a table that is full, the parts of the pooled table, the reading and the printing of keys, and calls
-//! of tables that threads share; or has many threads call such tables, and settles them; or has crowds come to a limit. It is
-//! run by hand, with what is done, how many entries a table has, and how many rounds there are. Without arguments it makes a
-//! few calls of tables that threads share, has crowds come, and prints no times.
+//! of tables that threads share. Or it has many threads call such tables, and settles them; has crowds come to a limit; or makes
+//! each call once, so that its allocations can be refused. It is run by hand, with what is done, how many entries a table has,
+//! and how many rounds there are. Without arguments it does a little of all but the first, and prints no times.
 #![tactic(auto)]
-
-ghost use Rattle.std.specs.Prelude.{◌≤◌};
 
 mod converting;
 mod crowd;
@@ -16,6 +14,7 @@ mod keys;
 mod locks;
 mod parts;
 mod random;
+mod refusals;
 mod stress;
 mod tables;
 
@@ -23,7 +22,7 @@ use crowd::run_crowds;
 use keys::print_key_times;
 use locks::print_lock_times;
 use parts::print_part_times;
-use std::io::Print;
+use refusals::run_refusals;
 use std::process::ExitCode;
 use std::rt::Clock;
 use std::sync::Wait;
@@ -31,64 +30,53 @@ use std::thread::Threads;
 use std::{env, io};
 use stick_pooled::StickTable;
 use stick_table::PlainTable;
-use stress::{Request, request_of, run_stress};
+use stress::{Series, rounds_of, run_few, run_rounds};
 use tables::print_table_times;
 
 /// How many crowds come without arguments.
 const FEW_CROWDS: u32 = 200;
 
-/// What is timed.
+/// What is done.
 #[derive(Clone, Copy)]
-enum Subject {
+enum Work {
+    /// A few calls of tables that threads share, crowds, and what is done with memory refused.
+    Few,
     Plain,
     Pooled,
     Parts,
     Keys,
-}
-
-/// What is done.
-#[derive(Clone, Copy)]
-enum Work {
-    /// A few calls of tables that threads share.
-    Few,
-    Times(Subject),
     Locks,
-    Stress,
     Crowds,
-    Usage,
+    /// What the words behind it ask, where they can be read.
+    Stress(Option<Series>),
+    Refusals,
 }
 
-/// What a word of the command line asks for.
-fn subject_of(word: &str) -> Option<Subject> {
+/// What the first word of the command line asks for.
+fn work_of(word: &str) -> Option<Work> {
     match word {
-        "plain" => Some(Subject::Plain),
-        "pooled" => Some(Subject::Pooled),
-        "parts" => Some(Subject::Parts),
-        "keys" => Some(Subject::Keys),
+        "plain" => Some(Work::Plain),
+        "pooled" => Some(Work::Pooled),
+        "parts" => Some(Work::Parts),
+        "keys" => Some(Work::Keys),
+        "locks" => Some(Work::Locks),
+        "crowds" => Some(Work::Crowds),
+        "stress" => Some(Work::Stress(None)),
+        "refusals" => Some(Work::Refusals),
         _ => None,
     }
 }
 
-/// What the first word of the command line asks for.
-fn work_of(word: &str) -> Work {
-    match word {
-        "locks" => Work::Locks,
-        "stress" => Work::Stress,
-        "crowds" => Work::Crowds,
-        _ => match subject_of(word) {
-            Some(subject) => Work::Times(subject),
-            None => Work::Usage,
-        },
-    }
-}
-
 /// What the command line asks for.
-fn asked_for(rt: &HostRuntime) -> io::Result<Work> {
+fn asked_for(rt: &HostRuntime) -> io::Result<Option<Work>> {
     Ok(match env::args(rt)?.nth(1) {
         Some(word) => work_of(word.as_str()),
-        None => Work::Few,
+        None => Some(Work::Few),
     })
 }
+
+/// The numbers behind the first word.
+type Numbers = [Option<u32>; 3];
 
 /// The number that a word of the command line is.
 fn number_of(rt: &HostRuntime, place: usize) -> io::Result<Option<u32>> {
@@ -98,93 +86,89 @@ fn number_of(rt: &HostRuntime, place: usize) -> io::Result<Option<u32>> {
     })
 }
 
-fn print_usage<R: Print>(rt: &R) -> io::Result<()> {
-    println!(rt;
-        "usage: bench_table plain|pooled SIZE COUNT [PURGE], or parts|keys COUNT, or locks|crowds ROUNDS, or stress --help"
-    )
+/// Says how the program is called; answers that nothing was done.
+fn print_usage<R: Eprint>(rt: &R) -> io::Result<bool> {
+    eprintln!(rt;
+        "usage: bench_table plain|pooled SIZE COUNT [PURGE], or parts|keys COUNT, or locks|crowds ROUNDS, or stress [--pooled] [--rolling ROLLS] CALLS [ROUNDS], or refusals"
+    )?;
+    Ok(false)
 }
 
-/// Times what is asked for, by the numbers of the command line. A full table removes so many entries at once.
-fn print_times(
-    rt: &HostRuntime,
-    subject: Subject,
-    first: u32,
-    second: Option<u32>,
-    purge: u32,
-) -> io::Result<()>
-    requires { (1 ≤ purge) × (purge ≤ 1024) }
-{
-    match (subject, second) {
-        (Subject::Plain, Some(count)) if 1 <= first && first <= 1 << 30 => {
-            print_table_times::<PlainTable, HostRuntime>(rt, rt.alloc(), first, count, purge)
-        }
-        (Subject::Pooled, Some(count)) if 1 <= first && first <= 1 << 30 => {
-            print_table_times::<StickTable, HostRuntime>(rt, rt.alloc(), first, count, purge)
-        }
-        (Subject::Parts, None) => print_part_times(rt, rt.alloc(), first),
-        (Subject::Keys, None) => print_key_times(rt, rt.alloc(), first),
-        _ => print_usage(rt),
-    }
-}
-
-/// Times what is asked for, where the command line has the number that each has. A full table removes one entry at once
-/// where the fourth word doesn't say how many, 1 to 1,024.
-fn print_subject(rt: &HostRuntime, subject: Subject) -> io::Result<()> {
-    let purge = number_of(rt, 4)?.unwrap_or(1);
-    match number_of(rt, 2)? {
-        Some(first) if 1 <= purge && purge <= 1024 => {
-            print_times(rt, subject, first, number_of(rt, 3)?, purge)
-        }
-        _ => print_usage(rt),
-    }
-}
-
-/// Times calls of tables that threads share, of so many rounds.
-fn print_locks<R: Threads + Wait + Clock + Sync + Print + AllocGlobal>(
+/// Times the events of a table, of a plain or a pooled one. A full table removes one entry at once where the last number doesn't
+/// say how many, 1 to 1,024.
+fn time_tables<R: Clock + Print + Eprint + AllocGlobal>(
     rt: &R,
-    rounds: Option<u32>,
-) -> io::Result<()> {
-    match rounds {
-        Some(rounds) => print_lock_times(rt, Some(rounds)),
-        None => print_usage(rt),
-    }
-}
-
-/// Has so many crowds come to a limit; answers the program's status.
-fn print_crowds<R: Threads + Wait + Sync + Print + Eprint + AllocGlobal>(
-    rt: &R,
-    rounds: Option<u32>,
-) -> io::Result<ExitCode> {
-    let Some(rounds) = rounds else {
-        print_usage(rt)?;
-        return Ok(ExitCode::SUCCESS);
+    pooled: bool,
+    size: u32,
+    numbers: Numbers,
+) -> io::Result<bool> {
+    let purge = numbers[2].unwrap_or(1);
+    let Some(count) = numbers[1] else {
+        return print_usage(rt);
     };
-    if run_crowds(rt, rounds)? {
-        Ok(ExitCode::SUCCESS)
-    } else {
-        Ok(ExitCode::FAILURE)
+    if size == 0 || size > 1 << 30 || purge == 0 || purge > 1024 {
+        return print_usage(rt);
     }
+    if pooled {
+        print_table_times::<StickTable, R>(rt, rt.alloc(), size, count, purge)?;
+    } else {
+        print_table_times::<PlainTable, R>(rt, rt.alloc(), size, count, purge)?;
+    }
+    Ok(true)
 }
 
-/// A few calls of tables that threads share, and crowds; answers the program's status.
-fn print_few<R: Threads + Wait + Clock + Sync + Print + Eprint + AllocGlobal>(
+/// Does a work, so many times; answers whether all went well.
+fn run_counted<R: Threads + Wait + Clock + Sync + Print + Eprint + AllocGlobal>(
     rt: &R,
-) -> io::Result<ExitCode> {
-    print_lock_times(rt, None)?;
-    if !run_crowds(rt, FEW_CROWDS)? {
-        return Ok(ExitCode::FAILURE);
+    work: Work,
+    count: u32,
+    numbers: Numbers,
+) -> io::Result<bool> {
+    match work {
+        Work::Crowds => return run_crowds(rt, count),
+        Work::Plain => return time_tables(rt, false, count, numbers),
+        Work::Pooled => return time_tables(rt, true, count, numbers),
+        Work::Parts => print_part_times(rt, rt.alloc(), count)?,
+        Work::Keys => print_key_times(rt, rt.alloc(), count)?,
+        _ => print_lock_times(rt, Some(count))?,
     }
-    run_stress(rt, Some(Request::Small))
+    Ok(true)
+}
+
+/// A little of all that isn't timed; answers whether all went well.
+fn run_all_few<R: Threads + Wait + Clock + Sync + Print + Eprint + AllocGlobal>(
+    rt: &R,
+) -> io::Result<bool> {
+    print_lock_times(rt, None)?;
+    Ok(run_crowds(rt, FEW_CROWDS)? && run_few(rt)? && run_refusals(rt)?)
+}
+
+/// Does a work; answers whether all went well.
+fn run<R: Threads + Wait + Clock + Sync + Print + Eprint + AllocGlobal>(
+    rt: &R,
+    work: Work,
+    numbers: Numbers,
+) -> io::Result<bool> {
+    match (work, numbers[0]) {
+        (Work::Few, _) => run_all_few(rt),
+        (Work::Stress(Some(rounds)), _) => run_rounds(rt, rounds),
+        (Work::Stress(None), _) => print_usage(rt),
+        (Work::Refusals, _) => run_refusals(rt),
+        (_, Some(count)) => run_counted(rt, work, count, numbers),
+        (_, None) => print_usage(rt),
+    }
 }
 
 fn main(rt: HostRuntime) -> io::Result<ExitCode> {
-    match asked_for(&rt)? {
-        Work::Few => return print_few(&rt),
-        Work::Stress => return run_stress(&rt, request_of(&rt)?),
-        Work::Crowds => return print_crowds(&rt, number_of(&rt, 2)?),
-        Work::Locks => print_locks(&rt, number_of(&rt, 2)?)?,
-        Work::Times(subject) => print_subject(&rt, subject)?,
-        Work::Usage => print_usage(&rt)?,
-    }
-    Ok(ExitCode::SUCCESS)
+    let numbers = [number_of(&rt, 2)?, number_of(&rt, 3)?, number_of(&rt, 4)?];
+    let is_done = match asked_for(&rt)? {
+        Some(Work::Stress(_)) => run(&rt, Work::Stress(rounds_of(&rt)?), numbers)?,
+        Some(work) => run(&rt, work, numbers)?,
+        None => print_usage(&rt)?,
+    };
+    Ok(if is_done {
+        ExitCode::SUCCESS
+    } else {
+        ExitCode::FAILURE
+    })
 }

@@ -1,13 +1,12 @@
 //! An event, asked of a table in shards.
 
-ghost use Rattle.std.specs.Prelude.{◌≡◌, ◌<◌, ◌^◌};
+ghost use Rattle.std.specs.Prelude.{◌<◌, ◌^◌};
 ghost use Rattle.stored_data.specs.Laws.{HasTag};
 ghost use Rattle.stick_model.specs.Limits.{IsTableEvent};
 ghost use Rattle.shard_book.specs.Keeping.{MayAsk};
 
-use crate::Held;
-use crate::purse::Purse;
-use shard_locks::{Shards, SharedRef, SharedSeat, Tracking};
+use crate::purse::{Held, Purse};
+use shard_locks::{Shards, SharedSeat, Tracking};
 use shard_record::Naming;
 use std::sync::Wait;
 use stick_key::{StickKey, shard_of};
@@ -125,22 +124,16 @@ pub fn ask<T: Table, J: Naming>(
     requires event { IsTableEvent event }
 {
     match event {
+        Event::Track(now, key) => track(rt, table, seat, purse, now, key),
+        Event::Look(now, ticket) => look(rt, table, seat, purse, now, Held { shard, ticket }),
+        Event::Count(now, ticket, act) => {
+            count(rt, table, seat, purse, now, Held { shard, ticket }, act)
+        }
+        Event::Release(now, ticket) => release(rt, table, seat, purse, now, Held { shard, ticket }),
         Event::Get(now, key) => {
             let place = shard_of(&key, table.shards());
             call(rt, table, seat, place, Event::Get(now, key))
         }
-        Event::Track(now, key) => track(rt, table, seat, purse, now, key),
-        Event::Look(now, ticket) => look(rt, table, seat, purse, now, Held { shard, ticket }),
-        Event::Count(now, ticket, act) => count(
-            rt,
-            table,
-            seat,
-            purse,
-            now,
-            Held { shard, ticket },
-            act,
-        ),
-        Event::Release(now, ticket) => release(rt, table, seat, purse, now, Held { shard, ticket }),
         Event::Put(now, key, pairs) => {
             let place = shard_of(&key, table.shards());
             call(rt, table, seat, place, Event::Put(now, key, pairs))
@@ -149,13 +142,9 @@ pub fn ask<T: Table, J: Naming>(
             let place = shard_of(&key, table.shards());
             call(rt, table, seat, place, Event::Clear(now, key))
         }
-        Event::ClearWhere(now, filter) => call(
-            rt,
-            table,
-            seat,
-            shard,
-            Event::ClearWhere(now, filter),
-        ),
+        Event::ClearWhere(now, filter) => {
+            call(rt, table, seat, shard, Event::ClearWhere(now, filter))
+        }
         Event::List(now, filter) => call(rt, table, seat, shard, Event::List(now, filter)),
         Event::Expire(now) => call(rt, table, seat, shard, Event::Expire(now)),
     }

@@ -1,42 +1,28 @@
-//! A caller of a table in shards, who asks events drawn at random.
+//! A caller of a table in shards, who asks events that are given, or drawn at random.
 
-ghost use Rattle.std.specs.Prelude.{◌≤◌, ◌<◌, ◌^◌, IfOk};
+ghost use Rattle.std.specs.Prelude.{◌<◌, ◌^◌, IfOk};
 ghost use Rattle.stick_model.specs.Limits.{IsTableEvent};
 
 use crate::asking::ask;
 use crate::draws::{event, filter};
-use crate::purse::Purse;
+use crate::purse::{Held, Purse};
 use crate::random_numbers::Random;
+use crate::telling::{Asked, Told, told_of};
 use base_sequence::NoMemory;
-use shard_book::{Receipt, Seat};
 use shard_locks::{Listing, Shards, SharedSeat};
 use shard_record::Naming;
 use std::alloc::Global;
 use std::sync::Wait;
-use stick_key::shard_of;
-use stick_table::{Event, Refusal, Reply, Table, Ticket};
-
-/// A reference as its shard and its ticket, so that it can be dropped.
-#[derive(Clone, Copy)]
-pub struct Held {
-    pub shard: u32,
-    pub ticket: Ticket,
-}
-
-/// A reference that was never told.
-const NONE: Held = Held {
-    shard: 0,
-    ticket: Ticket { number: 0, slot: 0 },
-};
+use stick_table::{Event, Filter, Refusal, Reply, Table};
 
 /// The last moment that an event can have.
 const LAST_MOMENT: u64 = (1 << 62) - 1;
 
-/// What is drawn: by this seed, of keys below this number and of moments in ms below this one, or as much later as the
-/// caller has waited.
+/// What is drawn: by this seed and the number of the seat, of keys below this number and of moments in ms below this one,
+/// or as much later as the caller has waited.
 #[derive(Clone, Copy)]
 pub struct Drawing {
-    pub seed: u64,
+    pub seed: u32,
     pub keys: u32,
     pub moments: u32,
 }
@@ -51,40 +37,27 @@ pub struct Caller<'a, T: Table, J: Naming> {
     drawing: Drawing,
     /// The ms that it has waited.
     waited: u64,
-    held: Vec<Held>,
-    /// The same, as references.
     purse: Purse<J>,
 }
 
-/// The shard of an event: that of its key, or else this one.
-fn shard_for(event: &Event, shards: u32, other: u32) -> u32
-    requires { 1 ≤ shards }
-    ensures { result < shards }
-{
-    match event {
-        Event::Get(_, key) | Event::Track(_, key) | Event::Put(_, key, _) | Event::Clear(_, key) =>
-            shard_of(key, shards),
-        _ => other % shards,
-    }
-}
-
 impl<'a, T: Table, J: Naming> Caller<'a, T, J> {
-    /// A caller who holds nothing yet.
+    /// A caller who holds what the purse has.
     pub fn new(
         alloc: Global,
         table: &'a Shards<T, J>,
         seat: SharedSeat<J>,
+        purse: Purse<J>,
         drawing: Drawing,
     ) -> Caller<'a, T, J> {
+        let seed = u64::from(drawing.seed) << 32 | u64::from(seat.seat().number());
         Caller {
             alloc,
             table,
             seat,
-            random: Random::new(drawing.seed),
+            random: Random::new(seed),
             drawing,
             waited: 0,
-            held: Vec::new(alloc),
-            purse: Purse::new(alloc),
+            purse,
         }
     }
 
@@ -103,13 +76,6 @@ impl<'a, T: Table, J: Naming> Caller<'a, T, J> {
             .min(LAST_MOMENT)
     }
 
-    /// A reference that it holds.
-    fn any(&mut self) -> Held {
-        let count = self.held.len().min(1_000) as u32;
-        let place = self.random.below(count.max(1));
-        self.held.get(place as usize).copied().unwrap_or(NONE)
-    }
-
     /// The event that it asks next: one of a reference only where it holds one.
     fn next(&mut self, held: Held) -> Result<Event, NoMemory>
         ensures { IfOk result IsTableEvent }
@@ -124,28 +90,14 @@ impl<'a, T: Table, J: Naming> Caller<'a, T, J> {
         )?;
         match drawn {
             Event::Look(_, _) | Event::Count(_, _, _) | Event::Release(_, _)
-                if self.held.is_empty() => Ok(Event::Expire(now)),
+                if self.purse.count() == 0 => Ok(Event::Expire(now)),
             _ => Ok(drawn),
         }
     }
 
-    /// Keeps account of the references that it holds.
-    fn note(&mut self, shard: u32, event: &Event, reply: &Reply) -> Result<(), NoMemory> {
-        if let Event::Release(_, gone) = event {
-            let gone = *gone;
-            self.held
-                .retain(|held| held.shard != shard || held.ticket != gone);
-        }
-        if let Reply::Tracked { ticket, .. } = reply {
-            let ticket = *ticket;
-            self.held.push(Held { shard, ticket })?;
-        }
-        Ok(())
-    }
-
-    /// An event drawn at random, asked of the table; answers what was asked of which shard, and what was told of it.
-    pub fn call(&mut self, rt: &impl Wait) -> Result<Receipt, Refusal> {
-        let held = self.any();
+    /// An event drawn at random, asked of the table.
+    pub fn call(&mut self, rt: &impl Wait) -> Result<Reply, Refusal> {
+        let held = self.purse.any(&mut self.random);
         let event = self.next(held)?;
         let other = self.random.below(self.table.shards());
         let shard = match &event {
@@ -155,42 +107,61 @@ impl<'a, T: Table, J: Naming> Caller<'a, T, J> {
         self.ask(rt, shard, event)
     }
 
-    /// This event, asked of the shard of its key, or else of this one; answers what was asked of which shard, and what was
-    /// told of it.
-    pub fn ask(&mut self, rt: &impl Wait, shard: u32, event: Event) -> Result<Receipt, Refusal>
+    /// This event, asked of the shard of its key, or else of this one.
+    pub fn ask(&mut self, rt: &impl Wait, shard: u32, event: Event) -> Result<Reply, Refusal>
         requires { IsTableEvent event }
     {
-        let shard = shard_for(&event, self.table.shards(), shard);
-        let asked = event.copy()?;
-        let reply = ask(
+        let place = shard % self.table.shards();
+        ask(
             rt,
             self.table,
             &mut self.seat,
             &mut self.purse,
-            shard,
+            place,
             event,
-        )?;
-        self.note(shard, &asked, &reply)?;
-        Ok(Receipt {
-            shard,
-            event: asked,
-            reply,
-        })
+        )
     }
 
-    /// Lists all shards by a filter drawn at random; answers how many rows were shown.
-    pub fn list(&mut self, rt: &impl Wait) -> Result<usize, Refusal> {
+    /// What is told where this is asked of the shard of its key or its reference, or else of this one.
+    pub fn say(&mut self, rt: &impl Wait, shard: u32, asked: Asked) -> Told {
+        let held = self.purse.held_at(asked.place());
+        let shard = if asked.is_of_reference() {
+            held.shard
+        } else {
+            shard
+        };
+        match asked.event(self.alloc, held.ticket) {
+            Ok(event) => told_of(self.ask(rt, shard, event)),
+            Err(_) => Told::Refused(Refusal::Memory),
+        }
+    }
+
+    /// Lists all shards; answers how many entries there are, and how many rows were shown. A refusal says of how many shards the
+    /// call was made.
+    pub fn list(
+        &mut self,
+        rt: &impl Wait,
+        now: u64,
+        filter: &Filter,
+    ) -> Result<(u64, usize), (u32, Refusal)>
+        requires { now < 2 ^ 62 }
+    {
+        match self.table.list(rt, self.alloc, &mut self.seat, now, filter) {
+            Ok(Listing::Rows { used, rows }) => match rows.read() {
+                Ok(reading) => Ok((used, reading.as_slice().len())),
+                Err(_) => Err((self.table.shards(), Refusal::Memory)),
+            },
+            Ok(Listing::NotStored(_)) => Ok((0, 0)),
+            Err(refused) => Err(refused),
+        }
+    }
+
+    /// Lists all shards by a filter drawn at random; answers whether it was answered.
+    pub fn list_any(&mut self, rt: &impl Wait) -> Result<(), Refusal> {
         let now = self.moment();
         let filter = filter(self.alloc, &mut self.random, self.drawing.keys)?;
-        match self
-            .table
-            .list(rt, self.alloc, &mut self.seat, now, &filter)
-        {
-            Ok(Listing::Rows { rows, .. }) => match rows.read() {
-                Ok(reading) => Ok(reading.as_slice().len()),
-                Err(_) => Err(Refusal::Memory),
-            },
-            Ok(Listing::NotStored(_)) => Ok(0),
+        match self.list(rt, now, &filter) {
+            Ok(_) => Ok(()),
             Err((_, refusal)) => Err(refusal),
         }
     }
@@ -198,30 +169,24 @@ impl<'a, T: Table, J: Naming> Caller<'a, T, J> {
     /// Gives back the references that it holds; answers how many.
     pub fn release_all(&mut self, rt: &impl Wait) -> Result<u64, Refusal> {
         let mut released = 0u64;
-        let shards = self.table.shards();
-        for held in self.held.iter() {
+        for _ in 0..self.purse.count() {
+            let held = self.purse.held_at(0);
             let event = Event::Release(0, held.ticket);
-            ask(
-                rt,
-                self.table,
-                &mut self.seat,
-                &mut self.purse,
-                held.shard % shards,
-                event,
-            )?;
-            released = released.saturating_add(1);
+            match self.ask(rt, held.shard, event) {
+                Ok(_) => released = released.saturating_add(1),
+                Err(refusal) => return Err(refusal),
+            }
         }
-        self.held.clear();
         Ok(released)
     }
 
-    /// Its seat, with its calls.
-    pub fn into_seat(self) -> SharedSeat<J> {
-        self.seat
+    /// The seat of the caller, who goes on.
+    pub fn seat(&self) -> &SharedSeat<J> {
+        &self.seat
     }
 
-    /// Its seat, with its calls, and the references that it holds, by their tickets and in a purse.
-    pub fn into_parts(self) -> (SharedSeat<J>, Vec<Held>, Purse<J>) {
-        (self.seat, self.held, self.purse)
+    /// Its seat, with its calls, and the references that it holds.
+    pub fn into_parts(self) -> (SharedSeat<J>, Purse<J>) {
+        (self.seat, self.purse)
     }
 }

@@ -1,10 +1,24 @@
 //! The references that a caller of a table in shards holds, so that they can be dropped.
 
-use crate::Held;
+use crate::random_numbers::Random;
 use base_sequence::NoMemory;
 use shard_locks::SharedRef;
 use shard_record::Naming;
 use std::alloc::Global;
+use stick_table::Ticket;
+
+/// A reference as its shard and its ticket.
+#[derive(Clone, Copy)]
+pub struct Held {
+    pub shard: u32,
+    pub ticket: Ticket,
+}
+
+/// A reference that was never told.
+const NONE: Held = Held {
+    shard: 0,
+    ticket: Ticket { number: 0, slot: 0 },
+};
 
 /// References. Where it is dropped, they are given up.
 pub struct Purse<J: Naming> {
@@ -47,9 +61,31 @@ impl<J: Naming> Purse<J> {
         references.destroy_empty();
     }
 
+    /// How many there are.
+    pub fn count(&self) -> usize {
+        self.refs.as_slice().len()
+    }
+
     /// The reference of a place, if it is there.
     pub fn at(&self, place: usize) -> Option<&SharedRef<J>> {
         self.refs.get(place)
+    }
+
+    /// The reference of a place by its shard and its ticket, or one that was never told.
+    pub fn held_at(&self, place: usize) -> Held {
+        match self.refs.get(place) {
+            Some(reference) => Held {
+                shard: reference.shard(),
+                ticket: reference.ticket(),
+            },
+            None => NONE,
+        }
+    }
+
+    /// A reference drawn at random, or one that was never told.
+    pub fn any(&self, random: &mut Random) -> Held {
+        let count = self.count().clamp(1, 1_000) as u32;
+        self.held_at(random.below(count) as usize)
     }
 
     /// A reference by its shard and its ticket, if it is there.
@@ -83,22 +119,6 @@ impl<J: Naming> Purse<J> {
         }
         None
     }
-}
-
-/// The references that are named, in their order, taken out of a purse; fewer where some aren't there, or where there is no memory
-/// for them.
-pub fn references_of<J: Naming>(
-    alloc: Global,
-    purse: &mut Purse<J>,
-    held: &[Held],
-) -> Vec<SharedRef<J>> {
-    let mut named = Purse::new(alloc);
-    for one in held {
-        if let Some(reference) = purse.take(*one) {
-            named.put(reference);
-        }
-    }
-    named.into_refs()
 }
 
 /// Gives references up.

@@ -1,4 +1,4 @@
-//! The record of the calls of a test's tables.
+//! The record of the calls of some tables, and the tables.
 
 ghost use Rattle.std.specs.Prelude.{◌≡◌, ◌≤◌, ◌+◌, ℕ, IfOk, true};
 ghost use Rattle.stick_model.specs.Limits.{IsTableSpec};
@@ -16,21 +16,34 @@ use stick_key::size_of_shard;
 use stick_table::{Spec, Table};
 use stored_data::Column;
 
-/// How many books a test's record has, and how many seats.
-const BOOKS: u32 = 8;
-
-const SEATS: u32 = 8;
-
-/// A table that a test is to open: what `spec` makes it of, and its shards.
+/// A table that is to be opened: what `spec` makes it of, its shards, and its seats, which keep receipts or don't.
 #[derive(Clone, Copy)]
 pub struct TablePlan {
     pub size: u32,
     pub max_refs: u32,
     pub life: u64,
     pub shards: u32,
+    pub seats: u32,
+    pub keep: bool,
 }
 
-/// The record of the calls of a test's tables, which has no name yet; and what its books are to be made with.
+impl TablePlan {
+    /// What the whole table is made of.
+    fn whole(self, alloc: Global) -> Result<Spec, NoMemory>
+        ensures limits { IfOk result IsTableSpec }
+        ensures size { IfOk result (λ spec. spec.size ≡ self.size) }
+    {
+        if self.size == 0 || self.size > 1 << 30 {
+            return Err(NoMemory);
+        }
+        if self.max_refs == 0 || self.max_refs > 1 << 20 || self.life > 1 << 62 {
+            return Err(NoMemory);
+        }
+        spec(alloc, self.size, self.max_refs, self.life)
+    }
+}
+
+/// The record of the calls of some tables, which has no name yet; and what its books are to be made with.
 #[derive(Drop)]
 pub struct Planned {
     pub opened: Opened,
@@ -38,70 +51,33 @@ pub struct Planned {
 }
 
 impl Planned {
-    /// A record of so many books and seats, of which no book is planned.
-    pub fn new(alloc: Global, books: u32, seats: u32) -> Result<Planned, AllocError> {
-        Ok(Planned {
-            opened: Opened::new(alloc, books, seats)?,
-            specs: Vec::new(alloc),
-        })
-    }
-
-    /// A record of one table, made so, in so many shards, with so many seats.
-    pub fn alone(alloc: Global, whole: &Spec, shards: u32, seats: u32) -> Result<Planned, NoMemory>
-        requires { 1 ≤ shards }
-    {
-        let mut planned = Planned::new(alloc, shards, seats)?;
-        planned.add(whole, shards)?;
-        Ok(planned)
-    }
-
     /// Its next books are the shards of such a table.
-    pub fn add(&mut self, whole: &Spec, shards: u32) -> Result<(), NoMemory>
-        requires { 1 ≤ shards }
-    {
-        for shard in 0..shards {
+    fn add(&mut self, alloc: Global, plan: TablePlan) -> Result<(), NoMemory> {
+        let whole = plan.whole(alloc)?;
+        for shard in 0..plan.shards {
             let mut part = whole.copy()?;
-            part.size = size_of_shard(whole.size, shards, shard);
+            part.size = size_of_shard(whole.size, plan.shards, shard);
             self.specs.push(part)?;
         }
         Ok(())
     }
-
-    /// The same of a table of a plan; answers whether it could be planned.
-    fn add_planned(&mut self, alloc: Global, plan: TablePlan) -> bool {
-        if plan.shards == 0 || plan.size == 0 || plan.size > 1 << 30 {
-            return false;
-        }
-        if plan.max_refs == 0 || plan.max_refs > 1 << 20 || plan.life > 1 << 62 {
-            return false;
-        }
-        match spec(alloc, plan.size, plan.max_refs, plan.life) {
-            Ok(whole) => self.add(&whole, plan.shards).is_ok(),
-            Err(_) => false,
-        }
-    }
 }
 
-/// The record of the calls of a test's tables, which are to be opened in this order, and has no name yet.
-pub fn open_record(alloc: Global, tables: &[TablePlan]) -> Option<Planned> {
-    let mut planned = Planned::new(alloc, BOOKS, SEATS).ok()?;
-    for table in tables {
-        if !planned.add_planned(alloc, *table) {
-            return None;
-        }
+/// The record of the calls of these tables, which are to be opened in this order; it has no name yet.
+pub fn open_record(alloc: Global, plans: &[TablePlan]) -> Result<Planned, NoMemory> {
+    let (mut books, mut seats) = (0u32, 0u32);
+    for plan in plans {
+        books = books.saturating_add(plan.shards);
+        seats = seats.saturating_add(plan.seats);
     }
-    Some(planned)
-}
-
-/// The same of so many tables, each made so, in so many shards.
-pub fn open_record_of(alloc: Global, whole: &Spec, shards: u32, tables: u32) -> Option<Planned>
-    requires { 1 ≤ shards }
-{
-    let mut planned = Planned::new(alloc, BOOKS, SEATS).ok()?;
-    for _table in 0..tables {
-        planned.add(whole, shards).ok()?;
+    let mut planned = Planned {
+        opened: Opened::new(alloc, books, seats)?,
+        specs: Vec::new(alloc),
+    };
+    for plan in plans {
+        planned.add(alloc, *plan)?;
     }
-    Some(planned)
+    Ok(planned)
 }
 
 /// Whether two tables store the same.
@@ -196,36 +172,30 @@ impl<J: Naming> Records<J> {
         })
     }
 
-    /// A table's empty shards, and its seats, as `Shards::new` makes them; and what is left of the record. Refused where another
-    /// table was planned.
+    /// The empty shards of the next table, and its seats; and what is left of the record. Refused where another was planned.
     pub fn open<T: Table>(
         self,
         alloc: Global,
-        spec: Spec,
-        shards: u32,
-        seats: u32,
-        keep: bool,
-    ) -> Result<(Records<J>, OpenTable<T, J>), NoMemory>
-        requires spec { IsTableSpec spec }
-        requires some { 1 ≤ shards }
-        requires few { shards ≤ 64 }
-        requires places { shards ≤ spec.size }
-        requires callers { (1 ≤ seats) × (seats ≤ 1024) }
-        ensures { IfOk result (λ made. made.1.0.shards ≡ shards) }
-    {
+        plan: TablePlan,
+    ) -> Result<(Records<J>, OpenTable<T, J>), NoMemory> {
         let Records {
             mut dealer,
             specs,
             books: had,
             seats: free,
         } = self;
-        if had < shards || free < seats {
+        let TablePlan { shards, seats, .. } = plan;
+        if shards == 0 || shards > 64 || plan.size < shards || had < shards {
             return Err(NoMemory);
         }
+        if seats == 0 || seats > 1024 || free < seats {
+            return Err(NoMemory);
+        }
+        let spec = plan.whole(alloc)?;
         if !are_planned(specs.as_slice(), dealer.kept(), &spec, shards) {
             return Err(NoMemory);
         }
-        let opened = Shards::new(alloc, &mut dealer, spec, shards, seats, keep)?;
+        let opened = Shards::new(alloc, &mut dealer, spec, shards, seats, plan.keep)?;
         let left = Records {
             dealer,
             specs,
@@ -234,4 +204,17 @@ impl<J: Naming> Records<J> {
         };
         Ok((left, opened))
     }
+}
+
+/// The only table of a record, and its seats.
+pub fn open_alone<T: Table, J: Naming>(
+    alloc: Global,
+    plan: TablePlan,
+    planned: Planned,
+) -> Result<OpenTable<T, J>, NoMemory>
+    requires { IsNamed planned J.record_id J.books J.specs }
+{
+    let records = Records::<J>::new(alloc, planned)?;
+    let (_left, opened) = records.open(alloc, plan)?;
+    Ok(opened)
 }

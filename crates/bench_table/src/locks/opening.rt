@@ -1,6 +1,6 @@
 //! The callers whose calls are timed.
 
-ghost use Rattle.std.specs.Prelude.{◌≡◌, ◌≤◌};
+ghost use Rattle.std.specs.Prelude.{◌≡◌};
 ghost use Rattle.test_calls.specs.Planned.{IsNamed};
 
 use crate::locks::bare::BareCaller;
@@ -14,37 +14,18 @@ use std::alloc::Global;
 use std::marker::Brand;
 use std::sync::Wait;
 use stick_table::Table;
-use test_calls::{OpenTable, Planned, Records, books_of, spec};
+use test_calls::{Planned, TablePlan, books_of, open_alone, open_record};
 
-/// How many entries a table has places for.
-const PLACES: u32 = 8_192;
-
-/// How many references a shard may have.
-const REFERENCES: u32 = 1_024;
-
-/// The record of such a table, which has no name yet.
-pub fn open_record(alloc: Global, shards: u32, seats: u32) -> Result<Planned, NoMemory>
-    requires { 1 ≤ shards }
-{
-    let spec = spec(alloc, PLACES, REFERENCES, 1 << 62)?;
-    Planned::alone(alloc, &spec, shards, seats)
-}
-
-/// A table in so many shards, and so many seats without receipts, whose calls a record keeps.
-pub fn open_table<T: Table, J: Naming>(
-    alloc: Global,
-    shards: u32,
-    seats: u32,
-    opened: Planned,
-) -> Result<OpenTable<T, J>, NoMemory>
-    requires shards { (1 ≤ shards) × (shards ≤ 64) }
-    requires seats { (1 ≤ seats) × (seats ≤ 1024) }
-    requires record { IsNamed opened J.record_id J.books J.specs }
-{
-    let spec = spec(alloc, PLACES, REFERENCES, 1 << 62)?;
-    let records = Records::<J>::new(alloc, opened)?;
-    let (_left, table) = records.open(alloc, spec, shards, seats, false)?;
-    Ok(table)
+/// A table in so many shards, and so many seats without receipts.
+pub fn plan_of(shards: u32, seats: u32) -> TablePlan {
+    TablePlan {
+        size: 8_192,
+        max_refs: 1_024,
+        life: 1 << 62,
+        shards,
+        seats,
+        keep: false,
+    }
 }
 
 /// The caller of a seat.
@@ -78,10 +59,9 @@ fn bare_recorded<J: Naming, T: Table>(
     number: u32,
     opened: Planned,
 ) -> Result<Runner<BareCaller<T>>, NoMemory>
-    requires shards { (1 ≤ shards) × (shards ≤ 64) }
     requires record { IsNamed opened J.record_id J.books J.specs }
 {
-    let (table, _seats) = open_table::<T, J>(alloc, shards, 1, opened)?;
+    let (table, _seats) = open_alone::<T, J>(alloc, plan_of(shards, 1), opened)?;
     let books = books_of(alloc, table)?;
     let seat = Seat::new(alloc, number, false);
     Ok(Runner::new(BareCaller::new(alloc, books, seat)))
@@ -92,10 +72,8 @@ fn bare_caller<T: Table>(
     alloc: Global,
     shards: u32,
     number: u32,
-) -> Result<Runner<BareCaller<T>>, NoMemory>
-    requires { (1 ≤ shards) × (shards ≤ 64) }
-{
-    let opened = open_record(alloc, shards, 1)?;
+) -> Result<Runner<BareCaller<T>>, NoMemory> {
+    let opened = open_record(alloc, &[plan_of(shards, 1)])?;
     bare_recorded::<Brand, T>(alloc, shards, number, opened)
 }
 
@@ -104,9 +82,7 @@ pub fn bare_callers<T: Table>(
     alloc: Global,
     shards: u32,
     callers: u32,
-) -> Result<Vec<Runner<BareCaller<T>>>, NoMemory>
-    requires { (1 ≤ shards) × (shards ≤ 64) }
-{
+) -> Result<Vec<Runner<BareCaller<T>>>, NoMemory> {
     let mut runners = Vec::new(alloc);
     for number in 0..callers {
         runners.push(bare_caller(alloc, shards, number)?)?;

@@ -1,13 +1,9 @@
 //! A round: a table is opened, called, rolled or not, and settled.
 
-ghost use Rattle.std.specs.Prelude.{◌≡◌, ◌≤◌};
+ghost use Rattle.std.specs.Prelude.{◌≡◌};
 ghost use Rattle.test_calls.specs.Planned.{IsNamed};
 
-use crate::stress::calling::call_all;
-use crate::stress::closing::{Shown, close};
-use crate::stress::plan::Plan;
-use crate::stress::progress::Progress;
-use crate::stress::rolling::roll_often;
+use crate::stress::calling::{Progress, call_all, close};
 use base_sequence::NoMemory;
 use shard_locks::{Shards, SharedSeat};
 use shard_record::Naming;
@@ -17,17 +13,47 @@ use std::fmt::{Display, Formatter, Write};
 use std::marker::Brand;
 use std::rt::Clock;
 use std::sync::Wait;
+use std::sync::atomic::AtomicU64;
 use std::thread::Threads;
+use std::time::Duration;
 use std::{fmt, thread};
 use stick_pooled::StickTable;
 use stick_table::{PlainTable, Refusal, Table};
-use test_calls::{OpenTable, Planned, Records, abandon_all, references_of, spec};
+use test_calls::{Planned, Purse, TablePlan, abandon_all, open_alone, open_record};
 
 /// How many entries each shard has places for.
 const PLACES: u32 = 48;
 
 /// How many references each shard may have: more than places, so that some shard is full of tracked entries at times.
 const REFERENCES: u32 = 64;
+
+/// The ms for which a roll waits at most.
+const PATIENCE: u32 = 60_000;
+
+/// So many threads call a table in so many shards, so often each: a plain one, or a pooled one. With `rolls`, no receipts are
+/// kept, and the records are rolled so often meanwhile.
+#[derive(Clone, Copy)]
+pub struct Plan {
+    pub pooled: bool,
+    pub threads: u32,
+    pub shards: u32,
+    pub calls: u32,
+    pub rolls: Option<u32>,
+}
+
+impl Plan {
+    /// The table.
+    fn table(self) -> TablePlan {
+        TablePlan {
+            size: self.shards.saturating_mul(PLACES),
+            max_refs: REFERENCES,
+            life: 1 << 62,
+            shards: self.shards,
+            seats: self.threads,
+            keep: self.rolls.is_none(),
+        }
+    }
+}
 
 /// How a round ended that was settled: how many calls the books have counted, how many references were shown, and how often
 /// a record was rolled.
@@ -83,66 +109,34 @@ impl Display for Trouble {
     }
 }
 
-/// What the threads have done.
-#[derive(Drop)]
-struct Done<J: Naming> {
-    seats: Vec<SharedSeat<J>>,
-    /// How many references were given back at the end.
-    released: u64,
-    rolled: u32,
+/// Waits until so many calls were made, or all callers have ended.
+fn wait_for<R: Clock>(rt: &R, progress: &Progress, calls: u64, callers: u32) {
+    for _ in 0..PATIENCE {
+        if progress.has(calls, callers) {
+            return;
+        }
+        thread::sleep(rt, Duration::from_millis(1));
+    }
 }
 
-/// The calls, and the rolls beside them. Where no thread can be made the rolls come behind the calls.
-fn call_and_roll<T: Table + Send, J: Naming + Send + Sync, R: Threads + Wait + Clock + Sync>(
+/// Rolls the record of each shard in turn, so often in all, evenly over the calls; answers how often it was done.
+fn roll_often<T: Table, J: Naming, R: Wait + Clock>(
     rt: &R,
-    alloc: Global,
     table: &Shards<T, J>,
-    seats: Vec<SharedSeat<J>>,
     plan: Plan,
-    seed: u32,
-) -> Result<Done<J>, Refusal> {
-    let progress = Progress::new();
-    let (rolled, called) = thread::join(
-        rt,
-        || roll_often(rt, table, plan, &progress),
-        || call_all(rt, alloc, table, seats, plan, seed, &progress),
-    );
-    let rolled = rolled?;
-    let (seats, released) = called?;
-    Ok(Done {
-        seats,
-        released,
-        rolled,
-    })
-}
-
-/// Settles a table, its callers showing their seats and references.
-fn settle_with<T: Table, J: Naming>(
-    alloc: Global,
-    table: Shards<T, J>,
-    shown: Shown<J>,
-    rolls: Option<u32>,
-) -> Result<Ended, Trouble> {
-    let Shown {
-        seats,
-        held,
-        mut purse,
-    } = shown;
-    let refs = references_of(alloc, &mut purse, &held);
-    match settle(alloc, table, seats, refs) {
-        Ok(settled) => Ok(tally_of(&settled, rolls)),
-        Err(unsettled) => {
-            let Unsettled {
-                fault,
-                found: _,
-                shards: _,
-                seats: _,
-                refs,
-            } = unsettled;
-            abandon_all(refs);
-            Err(Trouble::Unsettled(fault))
+    progress: &Progress,
+) -> Result<u32, NoMemory> {
+    let rolls = plan.rolls.unwrap_or(0);
+    let calls = u64::from(plan.threads) * u64::from(plan.calls);
+    let mut rolled = 0u32;
+    for number in 0..rolls {
+        let due = calls / u64::from(rolls.max(1)) * u64::from(number);
+        wait_for(rt, progress, due, plan.threads);
+        if table.roll(rt, number % table.shards(), 0)? {
+            rolled = rolled.saturating_add(1);
         }
     }
+    Ok(rolled)
 }
 
 /// What a settled table has counted.
@@ -162,45 +156,33 @@ fn tally_of<T: Table, J: Naming>(settled: &Settled<T, J>, rolls: Option<u32>) ->
     }
 }
 
-/// The record of such a table, which has no name yet.
-fn open_record(alloc: Global, plan: Plan) -> Result<Planned, NoMemory>
-    requires { (1 ≤ plan.shards) × (plan.shards ≤ 64) }
-{
-    let spec = spec(alloc, PLACES * plan.shards, REFERENCES, 1 << 62)?;
-    Planned::alone(alloc, &spec, plan.shards, plan.threads)
-}
-
-/// The table of a plan, and the seats of its callers.
-fn open_table<T: Table, J: Naming>(
+/// Settles a table, its callers showing their seats and references.
+fn settle_with<T: Table, J: Naming>(
     alloc: Global,
-    plan: Plan,
-    opened: Planned,
-) -> Result<OpenTable<T, J>, NoMemory>
-    requires threads { (1 ≤ plan.threads) × (plan.threads ≤ 1024) }
-    requires shards { (1 ≤ plan.shards) × (plan.shards ≤ 64) }
-    requires record { IsNamed opened J.record_id J.books J.specs }
-{
-    let spec = spec(alloc, PLACES * plan.shards, REFERENCES, 1 << 62)?;
-    let keep = plan.rolls.is_none();
-    let records = Records::<J>::new(alloc, opened)?;
-    let (_left, table) = records.open(alloc, spec, plan.shards, plan.threads, keep)?;
-    Ok(table)
-}
-
-/// Has the callers of a table end. For each reference that could have come back beside at their end, one event is asked: how
-/// many calls there are doesn't depend on how the threads met.
-fn close_all<T: Table, J: Naming>(
-    rt: &impl Wait,
-    alloc: Global,
-    table: &Shards<T, J>,
+    table: Shards<T, J>,
     seats: Vec<SharedSeat<J>>,
-    released: u64,
-) -> Result<Shown<J>, Refusal> {
-    let most = u64::from(REFERENCES) * u64::from(table.shards());
-    close(rt, alloc, table, seats, most.saturating_sub(released))
+    purse: Purse<J>,
+    rolls: Option<u32>,
+) -> Result<Ended, Trouble> {
+    match settle(alloc, table, seats, purse.into_refs()) {
+        Ok(settled) => Ok(tally_of(&settled, rolls)),
+        Err(unsettled) => {
+            let Unsettled {
+                fault,
+                found: _,
+                shards: _,
+                seats: _,
+                refs,
+            } = unsettled;
+            abandon_all(refs);
+            Err(Trouble::Unsettled(fault))
+        }
+    }
 }
 
-/// The calls of a round, the rolls beside them, and what the callers show at their end; with the number of rolls.
+/// The calls of a round, the rolls beside them, and what the callers have at their end; with the number of rolls. For each
+/// reference that could have come back beside at their end, one event is asked: how many calls there are doesn't depend on how the
+/// threads met. Where no thread can be made the rolls come after the calls.
 fn call_and_close<T: Table + Send, J: Naming + Send + Sync, R: Threads + Wait + Clock + Sync>(
     rt: &R,
     alloc: Global,
@@ -208,14 +190,21 @@ fn call_and_close<T: Table + Send, J: Naming + Send + Sync, R: Threads + Wait + 
     seats: Vec<SharedSeat<J>>,
     plan: Plan,
     seed: u32,
-) -> Result<(Shown<J>, u32), Refusal> {
-    let Done {
-        seats,
-        released,
-        rolled,
-    } = call_and_roll(rt, alloc, table, seats, plan, seed)?;
-    let shown = close_all(rt, alloc, table, seats, released)?;
-    Ok((shown, rolled))
+) -> Result<(Vec<SharedSeat<J>>, Purse<J>, u32), Refusal> {
+    let progress = Progress {
+        calls: AtomicU64::new(0),
+        ended: AtomicU64::new(0),
+    };
+    let (rolled, called) = thread::join(
+        rt,
+        || roll_often(rt, table, plan, &progress),
+        || call_all(rt, alloc, table, seats, plan, seed, &progress),
+    );
+    let rolled = rolled?;
+    let (seats, released) = called?;
+    let most = u64::from(REFERENCES) * u64::from(table.shards());
+    let (seats, purse) = close(rt, alloc, table, seats, most.saturating_sub(released))?;
+    Ok((seats, purse, rolled))
 }
 
 /// A round of a plan on tables of this kind, whose numbers are drawn by this seed, its calls in a record.
@@ -226,17 +215,15 @@ fn round_recorded<J: Naming + Send + Sync, T: Table + Send, R: Threads + Wait + 
     seed: u32,
     opened: Planned,
 ) -> Result<Ended, Trouble>
-    requires threads { (1 ≤ plan.threads) × (plan.threads ≤ 1024) }
-    requires shards { (1 ≤ plan.shards) × (plan.shards ≤ 64) }
     requires record { IsNamed opened J.record_id J.books J.specs }
 {
-    let (table, seats) = open_table::<T, J>(alloc, plan, opened)?;
-    let (shown, rolled) = call_and_close(rt, alloc, &table, seats, plan, seed)?;
+    let (table, seats) = open_alone::<T, J>(alloc, plan.table(), opened)?;
+    let (seats, purse, rolled) = call_and_close(rt, alloc, &table, seats, plan, seed)?;
     let rolls = match plan.rolls {
         Some(_) => Some(rolled),
         None => None,
     };
-    settle_with(alloc, table, shown, rolls)
+    settle_with(alloc, table, seats, purse, rolls)
 }
 
 /// A round of a plan on tables of this kind, whose numbers are drawn by this seed.
@@ -245,13 +232,8 @@ fn run_round<T: Table + Send, R: Threads + Wait + Clock + Sync>(
     alloc: Global,
     plan: Plan,
     seed: u32,
-) -> Result<Ended, Trouble>
-    requires threads { (1 ≤ plan.threads) × (plan.threads ≤ 1024) }
-    requires shards { (1 ≤ plan.shards) × (plan.shards ≤ 64) }
-{
-    let Ok(opened) = open_record(alloc, plan) else {
-        return Err(Trouble::Refused(Refusal::Memory));
-    };
+) -> Result<Ended, Trouble> {
+    let opened = open_record(alloc, &[plan.table()])?;
     round_recorded::<Brand, T, R>(rt, alloc, plan, seed, opened)
 }
 
@@ -261,10 +243,7 @@ pub fn run_planned<R: Threads + Wait + Clock + Sync>(
     alloc: Global,
     plan: Plan,
     seed: u32,
-) -> Result<Ended, Trouble>
-    requires threads { (1 ≤ plan.threads) × (plan.threads ≤ 1024) }
-    requires shards { (1 ≤ plan.shards) × (plan.shards ≤ 64) }
-{
+) -> Result<Ended, Trouble> {
     if plan.pooled {
         return run_round::<StickTable, R>(rt, alloc, plan, seed);
     }

@@ -1,6 +1,0 @@
-use Rattle.std.proofs.Common.{◌≡◌, length}
-use Rattle.test_refusals.proofs.worlds.lead.Given as goal
-
--- four connections on one table in one shard, as far as the schedule went
-abbrev pub invariant-loop-place : goal.invariant-loop-place
-invariant-loop-place g l = (length l.world.visitors ≡ 4) × (length l.world.setup.tables ≡ 1) × (l.world.setup.shards ≡ 1)

@@ -1,2 +1,0 @@
-pub mod RecordLemmas
-mod VisitLemmas

@@ -1,5 +1,0 @@
-use Rattle.test_calls.specs.Planned.{specs_in}
-use Rattle.test_shards.proofs.locks.commands.is_behind.Given as goal
-
-abbrev pub ghosts-behind_recorded : goal.ghosts-behind_recorded
-ghosts-behind_recorded g a = record { record_id = a.opened.opened.first.table_id; books = a.opened.opened.books; specs = specs_in a.opened.specs.items }

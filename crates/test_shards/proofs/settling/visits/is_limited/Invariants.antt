@@ -1,5 +1,0 @@
-use Rattle.test_calls.specs.Planned.{specs_in}
-use Rattle.test_shards.proofs.settling.visits.is_limited.Given as goal
-
-abbrev pub ghosts-limited_recorded : goal.ghosts-limited_recorded
-ghosts-limited_recorded g a = record { record_id = a.opened.opened.first.table_id; books = a.opened.opened.books; specs = specs_in a.opened.specs.items }
