@@ -168,9 +168,13 @@ fn passes_recorded<J: Naming + Send + Sync, R: Threads + Wait + Clock + Sync>(
     let Ok(desks) = open_two::<J>(alloc, trial.table(), planned) else {
         return false;
     };
-    match desks {
-        (Some(own), Some(other)) => passes_on(rt, alloc, trial, own, other),
-        _ => false,
+    let (own, other) = desks;
+    let Some(own) = own else {
+        return false;
+    };
+    match other {
+        Some(other) => passes_on(rt, alloc, trial, own, other),
+        None => false,
     }
 }
 
