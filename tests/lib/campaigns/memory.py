@@ -181,8 +181,9 @@ def start_refused(shim, number):
 
 def refuse_ends(report, end):
     """Has runs end with the first allocation refused, the second, and so on, several side by side, until some on end meet none. Each
-    settles its table, or says on one line that memory is short. How many times a reference stayed out."""
-    outs, number, unmet = 0, 0, 0
+    settles its table, or says on one line that memory is short. How many times a reference stayed out, and how many times the table
+    was said to be unsettled."""
+    outs, unsettled, number, unmet = 0, 0, 0, 0
     with tempfile.TemporaryDirectory() as room, concurrent.futures.ThreadPoolExecutor(os.cpu_count()) as pool:
         shim = build_shim(room)
         while unmet < UNMET:
@@ -191,17 +192,20 @@ def refuse_ends(report, end):
                 report.check(is_end(status, written, said), f'allocation {number} refused: {(status, written, said)}')
                 unmet = 0 if met else unmet + 1
                 outs += '1 references' in written
+                unsettled += 'unsettled www: S4\n' in said
     report.check(number > unmet, 'no allocation was met')
     report.tell(f'{number - unmet} allocations refused')
-    return outs
+    return outs, unsettled
 
 
 def settling_refused(given):
     """A connection and the settling behind it, each allocation refused in turn, with receipts: the table is settled, with the reference
     that couldn't be given back if there is one, or it is said that there was no memory for it."""
     report = Report()
-    outs = refuse_ends(report, settle_refused)
+    outs, unsettled = refuse_ends(report, settle_refused)
     report.check(outs == 1, f'of a release one allocation is refused, and {outs} references stayed out')
+    report.check(unsettled > 0, 'no table is unsettled for want of memory')
+    report.tell(f'{unsettled} times unsettled')
     return report
 
 
