@@ -155,7 +155,7 @@ static void swap_verdict(struct text text)
     }
 }
 
-/* Has the first two rows behind a head change places. */
+/* Has the first two rows after a head change places. */
 static void swap_rows(struct text text)
 {
     char *first = end_of_line(text, text.bytes), *second = end_of_line(text, first), *third = end_of_line(text, second);
