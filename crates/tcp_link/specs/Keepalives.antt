@@ -1,5 +1,5 @@
 -- When a silent peer is asked whether it is still there.
-use Rattle.std.specs.Prelude.{ℕ, ◌+◌, ◌*◌, max, min}
+use Rattle.std.specs.Prelude.{ℕ, max, min}
 use Rattle.std.specs.Int.{div_ceil}
 use Rattle.tcp_link.specs.declared.keepalive.Keepalive.{Keepalive}
 
@@ -7,11 +7,10 @@ use Rattle.tcp_link.specs.declared.keepalive.Keepalive.{Keepalive}
 abbrev pub seconds : ℕ → ℕ
 seconds time = max 1 (min (div_ceil time 1000) 32767)
 
--- a peer that has been silent for so long, in ms, is asked three times within as long again; so long bytes may stay unacknowledged
+-- a peer that has been silent for so long, in ms, is asked three times within as long again
 abbrev pub keepalive : ℕ → Keepalive
 keepalive time = record {
   idle = seconds time;
   interval = div_ceil (seconds time) 3;
   probes = 3;
-  unacknowledged = (seconds time + 3 * div_ceil (seconds time) 3) * 1000;
 }

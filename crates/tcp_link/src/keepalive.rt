@@ -7,8 +7,7 @@ ghost use Rattle.tcp_link.specs.Keepalives.{keepalive};
 
 use crate::calls::checked;
 use libc::net::{
-    IPPROTO_TCP, SO_KEEPALIVE, SOL_SOCKET, TCP_KEEPCNT, TCP_KEEPIDLE, TCP_KEEPINTVL,
-    TCP_USER_TIMEOUT, setsockopt,
+    IPPROTO_TCP, SO_KEEPALIVE, SOL_SOCKET, TCP_KEEPCNT, TCP_KEEPIDLE, TCP_KEEPINTVL, setsockopt,
 };
 use std::io;
 use std::net::Net;
@@ -20,7 +19,8 @@ const PROBES: u32 = 3;
 /// How long a peer may be silent at most before it is asked, in seconds (tcp(7), `TCP_KEEPIDLE`).
 const LONGEST: u64 = 32_767;
 
-/// When the system asks a silent peer whether it is still there, and when it gives a connection up (tcp(7)).
+/// When the system asks a silent peer whether it is still there (tcp(7)). How long bytes may stay unacknowledged
+/// (`TCP_USER_TIMEOUT`) it doesn't say: the system counts a peer that answers, but has no room, as one that acknowledges nothing.
 #[derive(Clone, Copy, Debug, PartialEq, Eq)]
 pub struct Keepalive {
     /// After how many seconds of silence it is asked (`TCP_KEEPIDLE`).
@@ -29,8 +29,6 @@ pub struct Keepalive {
     pub interval: u32,
     /// How often it is asked (`TCP_KEEPCNT`).
     pub probes: u32,
-    /// How long bytes may stay unacknowledged, in ms (`TCP_USER_TIMEOUT`).
-    pub unacknowledged: u32,
 }
 
 impl Keepalive {
@@ -45,7 +43,6 @@ impl Keepalive {
             idle,
             interval,
             probes: PROBES,
-            unacknowledged: (idle + PROBES * interval) * 1000,
         }
     }
 
@@ -56,8 +53,7 @@ impl Keepalive {
         set(socket, SOL_SOCKET, SO_KEEPALIVE, 1)?;
         set(socket, IPPROTO_TCP, TCP_KEEPIDLE, self.idle)?;
         set(socket, IPPROTO_TCP, TCP_KEEPINTVL, self.interval)?;
-        set(socket, IPPROTO_TCP, TCP_KEEPCNT, self.probes)?;
-        set(socket, IPPROTO_TCP, TCP_USER_TIMEOUT, self.unacknowledged)
+        set(socket, IPPROTO_TCP, TCP_KEEPCNT, self.probes)
     }
 }
 

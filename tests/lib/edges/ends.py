@@ -6,7 +6,7 @@ import subprocess
 import threading
 import time
 
-from lib.proxy import (PATIENCE, TABLE, TRACK, FarServer, Proxy, closed_after, end_of, hears_end, read_all, reset, wait_for)
+from lib.proxy import (PATIENCE, TABLE, TRACK, FarServer, Proxy, Server, closed_after, end_of, hears_end, read_all, reset, wait_for)
 from lib.trials import wants
 
 # How soon something is to be seen that happens at once, in seconds.
@@ -150,6 +150,17 @@ def both_sides_are_asked_whether_they_live():
         assert far.recv(1) == b'+', 'it is open'
 
 
+def one_that_pauses_is_not_cut():
+    """With --keepalive 1s a client that reads nothing for 8 seconds of what its server sends gets all of it, as its system answers
+    each probe."""
+    count = 10_000_000
+    with Server(lambda client: client.sendall(b'+' * count)) as server:
+        with Proxy(server.port, [TABLE, TRACK], '--keepalive', '1s', threads=1) as proxy, proxy.connect() as client:
+            assert client.recv(1) == b'+', 'it is served'
+            time.sleep(8)
+            assert (came := 1 + len(read_all(client))) == count, f'{came} bytes'
+
+
 def one_way_alone_has_its_time():
     """With --timeout-fin 500ms a connection of which one way has ended is closed when nothing has passed for so long, whichever side
     ended it; one of which both are open stays."""
@@ -172,4 +183,4 @@ def one_way_alone_has_its_time():
 
 
 TRIALS = [one_way_may_end_before_the_server_accepts, netcat_may_end_its_way_before_the_server_accepts, an_end_passes_as_it_came, a_reset_behind_an_end_is_heard,
-          both_sides_are_asked_whether_they_live, one_way_alone_has_its_time]
+          both_sides_are_asked_whether_they_live, one_that_pauses_is_not_cut, one_way_alone_has_its_time]
