@@ -166,12 +166,13 @@ class FarServer:
 class Proxy:
     """The program at work on a configuration, in a folder of its own."""
 
-    def __init__(self, server, lines, *words, threads=8, descriptors=None, others='', environment=None, umask=-1):
+    def __init__(self, server, lines, *words, threads=8, descriptors=None, others='', environment=None, umask=-1,
+                 host='127.0.0.1'):
         self.room = tempfile.TemporaryDirectory(prefix='stickd-')
         self.port, self.path = free_port(), os.path.join(self.room.name, 'commands')
         conf = os.path.join(self.room.name, 'proxy.cfg')
         with open(conf, 'w', encoding='utf-8') as file:
-            file.write('\n    '.join(['listen www', f'bind 127.0.0.1:{self.port}', *lines, f'server one 127.0.0.1:{server}']) + '\n' + others)
+            file.write('\n    '.join(['listen www', f'bind 127.0.0.1:{self.port}', *lines, f'server one {host}:{server}']) + '\n' + others)
         self.descriptors, self.environment, self.umask = descriptors, environment, umask
         self.words = ['run', conf, '--socket', self.path, '--threads', str(threads), *words]
         self.start()

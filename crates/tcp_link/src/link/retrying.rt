@@ -6,6 +6,7 @@ ghost use Rattle.tcp_link.specs.Retries.{IfRetried, is_due, may_retry, noted, re
 ghost use Rattle.tcp_link.specs.Ways.{Advances};
 
 use super::Link;
+use crate::connect_fault::connect_fault_of;
 use crate::end::{End, Side};
 use crate::way::Way;
 use crate::{Buffer, Ready, ServerSocket};
@@ -41,7 +42,7 @@ impl Link {
         ensures there { IfRetried self.old self.new (Advances self.old.there self.new.there) }
         ensures back { IfRetried self.old self.new (self.new.back ≡ self.old.back) }
         ensures heard { IfRetried self.old self.new (IsHeard moment (retried_at moment self.old) self.new) }
-        ensures ends { IfRetried self.old self.new (HandsOn (retried_at moment self.old) self.new) }
+        ensures ends { IfRetried self.old self.new (HandsOn false (retried_at moment self.old) self.new) }
         ensures going { IsTrue result → is_over self.new ≡ false }
         ensures watched { IfRetried self.old self.new (IsTrue result → IsWatched self.new) }
         ensures tries { IfRetried self.old self.new (self.new.tries ≡ self.old.tries) }
@@ -57,7 +58,7 @@ impl Link {
         }
         self.carry_there(moment, buffer);
         self.hand_on();
-        if self.is_over() {
+        if self.is_over() || self.is_settled(moment) {
             return false;
         }
         let token = Side::Server.token(number);
@@ -77,6 +78,11 @@ impl Link {
     {
         let is_accepted = self.is_accepted || self.has_passed();
         self.tries > 0 && !is_accepted && !matches!(self.there.step, Step::Failed(_))
+    }
+
+    /// Whether the error by which its server failed is that of a connect, so that it never accepted (connect(2)).
+    pub(super) fn was_refused(&self) -> bool {
+        self.server.error().and_then(connect_fault_of).is_some()
     }
 
     /// Has it wait, as its server refuses it at a moment in ms.
@@ -110,12 +116,13 @@ impl Link {
         self.refused = None;
     }
 
-    /// Keeps what is told of the client, for the next try.
+    /// Keeps what is told of the client, for the next try. There is none for one that has failed.
     pub(super) fn note(&mut self, ready: Ready)
         ensures { self.new ≡ noted ready.side ready.ahead ready.has_failed self.old }
     {
         if ready.side == Side::Client {
-            self.there.hear_of(ready.ahead, ready.has_failed);
+            self.there.hear_of(ready.ahead);
+            self.is_gone = self.is_gone || ready.has_failed;
         }
     }
 }
