@@ -152,7 +152,7 @@ impl Link {
         ensures watched { IfTried self.old self.new (IsTrue result → IsWatched self.new) }
         ensures tries { IfTried self.old self.new (self.new.tries ≡ self.old.tries) }
         ensures unrefused { IfTried self.old self.new (tells_refusal self.old ready.side ready.has_failed ≡ true → fails_unread self.new.back ≡ true → self.new.accepted ≡ true) }
-        ensures refused { waits self.old ≡ false → waits self.new ≡ true → IsRefused ready.side ready.has_failed moment self.old self.new × IsTrue result }
+        ensures refused { waits self.old ≡ false → waits self.new ≡ true → IsRefused ready.side ready.has_failed moment self.old self.new × (result ≡ not (is_over self.new)) }
         ensures waiting { waits self.old ≡ true → (self.new ≡ noted ready.side ready.ahead ready.has_failed self.old) × (result ≡ not (is_over self.new)) }
     {
         if self.waits() {
@@ -160,7 +160,7 @@ impl Link {
             return !self.is_over();
         }
         if self.turn_side(ready, moment, buffer) {
-            return true;
+            return !self.is_over();
         }
         self.note_failure(ready);
         self.drop_rests(buffer);

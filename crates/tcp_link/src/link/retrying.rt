@@ -1,6 +1,6 @@
 //! How a link waits where its server refuses it, and how that is tried again; `tcp_relay` calls `retry` once it is due.
 
-ghost use Rattle.std.specs.Prelude.{◌≡◌, true, false, not, IsTrue};
+ghost use Rattle.std.specs.Prelude.{◌≡◌, ◌&&◌, true, false, not, IsTrue};
 ghost use Rattle.tcp_link.specs.Links.{HandsOn, IsHeard, IsWatched, is_over, waits};
 ghost use Rattle.tcp_link.specs.Retries.{IfRetried, is_due, may_retry, noted, refused_again, refused_at, retried_at};
 ghost use Rattle.tcp_link.specs.Ways.{Advances};
@@ -46,7 +46,7 @@ impl Link {
         ensures going { IsTrue result → is_over self.new ≡ false }
         ensures watched { IfRetried self.old self.new (IsTrue result → IsWatched self.new) }
         ensures tries { IfRetried self.old self.new (self.new.tries ≡ self.old.tries) }
-        ensures refused { waits self.old ≡ true → waits self.new ≡ true → (self.new ≡ refused_again moment self.old) × (result ≡ may_retry self.old) }
+        ensures refused { waits self.old ≡ true → waits self.new ≡ true → (self.new ≡ refused_again moment self.old) × (result ≡ (may_retry self.old && not (is_over self.new))) }
         ensures idle { waits self.old ≡ false → (self.new ≡ self.old) × (result ≡ not (is_over self.old)) }
     {
         if !self.waits() {
@@ -54,7 +54,7 @@ impl Link {
         }
         match server.connect() {
             Ok(socket) => self.connect_anew(socket, moment),
-            Err(refusal) => return self.refuse_again(refusal.number, moment),
+            Err(refusal) => return self.refuse_again(refusal.number, moment) && !self.is_over(),
         }
         self.carry_there(moment, buffer);
         self.hand_on();
@@ -98,6 +98,7 @@ impl Link {
     fn refuse_again(&mut self, number: u32, moment: u64) -> bool
         ensures new { self.new ≡ refused_again moment self.old }
         ensures may { result ≡ may_retry self.old }
+        ensures waits { waits self.old ≡ true → waits self.new ≡ true }
     {
         self.server.note(number);
         if !self.may_retry() {
