@@ -162,9 +162,7 @@ impl Link {
         if self.turn_side(ready, moment, buffer) {
             return !self.is_over();
         }
-        self.note_failure(ready);
-        self.drop_rests(buffer);
-        self.hand_on();
+        self.finish_turn(ready, buffer);
         !self.is_over() && !self.is_settled(moment) && self.watch_on(registry, ready.number).is_ok()
     }
 

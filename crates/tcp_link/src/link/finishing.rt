@@ -2,7 +2,7 @@
 
 ghost use Rattle.std.specs.Prelude.{◌≡◌, ◌||◌, ◌&&◌, true, false, not, IsTrue};
 ghost use Rattle.tcp_link.specs.Closing.{reader_failed};
-ghost use Rattle.tcp_link.specs.Links.{DropsOnly, IsGone, client_fails, is_broken, is_done, is_finished, is_over, is_reset_due, must_be_accepted, owes_reset};
+ghost use Rattle.tcp_link.specs.Links.{DropsOnly, HandsOn, IsGone, client_fails, is_broken, is_done, is_finished, is_over, is_reset_due, must_be_accepted, owes_reset};
 
 use super::Link;
 use crate::closing::{lost_bytes, reader_failed, writer_failed};
@@ -54,8 +54,22 @@ impl Link {
         owes_reset(there, back) && self.server.is_quiet(moment) && self.server.has_taken_all()
     }
 
+    /// What a turn ends with, once all is moved: a failure is noted, what nobody takes is dropped, and each side is told that
+    /// the other has ended.
+    pub(super) fn finish_turn(&mut self, ready: Ready, buffer: &mut Buffer)
+        ensures ends { HandsOn ready.has_failed self.old self.new }
+        ensures drops { DropsOnly self.old self.new }
+        ensures gone { IsGone ready.side ready.has_failed self.old self.new }
+        ensures stays { self.old.accepted ≡ true → self.new.accepted ≡ true }
+        ensures same { self.new ≡ record self.old { accepted = self.new.accepted; client_told = self.new.client_told; server_told = self.new.server_told; client_loss = self.new.client_loss; server_loss = self.new.server_loss; gone = self.new.gone } }
+    {
+        self.note_failure(ready);
+        self.drop_rests(buffer);
+        self.hand_on();
+    }
+
     /// Notes that its client has failed and no server has accepted, where a report tells so. Only then the system is asked.
-    pub(super) fn note_failure(&mut self, ready: Ready)
+    fn note_failure(&mut self, ready: Ready)
         ensures gone { IsGone ready.side ready.has_failed self.old self.new }
         ensures same { self.new ≡ record self.old { accepted = self.new.accepted; gone = self.new.gone } }
         ensures asked { client_fails ready.side ready.has_failed ≡ false → self.new.accepted ≡ self.old.accepted }
@@ -68,7 +82,7 @@ impl Link {
     }
 
     /// Drops what a side still sends to one that has failed.
-    pub(super) fn drop_rests(&mut self, buffer: &mut Buffer)
+    fn drop_rests(&mut self, buffer: &mut Buffer)
         ensures drops { DropsOnly self.old self.new }
         ensures same { self.new ≡ record self.old { client_loss = self.new.client_loss; server_loss = self.new.server_loss } }
     {
