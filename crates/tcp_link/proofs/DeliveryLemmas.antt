@@ -1,13 +1,12 @@
 -- What is delivered where nothing more passes.
-use Rattle.std.proofs.Common.{◌≡◌, ◌⊎◌, inl, inr, refl, ℕ, Bool, true, false, ◌&&◌, ◌||◌, not, Option}
-use Rattle.tcp_flow.specs.Passage.{Passage}
+use Rattle.std.proofs.Common.{◌≡◌, inl, inr, refl, Bool, true, false, ◌&&◌, ◌||◌, not}
 use Rattle.tcp_flow.specs.declared.steps.Cause.TheVariants.{Memory, Read, Write}
 use Rattle.tcp_flow.specs.declared.steps.Step.{Step}
 use Rattle.tcp_flow.specs.declared.steps.Step.TheVariants.{Ended, Failed, WaitsToRead, WaitsToWrite, Yields}
-use Rattle.tcp_link.specs.Closing.{closing, is_cut, lost_bytes, reader_failed, writer_failed}
-use Rattle.tcp_link.specs.Delivery.{DeliveryLaw, DropsNothing, IsDelivered, IsGivenAll, ResetLaw, side_failed}
-use Rattle.tcp_link.specs.Links.{LinkState, is_broken, is_done, is_finished, is_reset_due, must_be_accepted, owes_reset}
-use Rattle.tcp_link.specs.Ways.{Accounts, IsWay}
+use Rattle.tcp_link.specs.Closing.{is_cut, reader_failed, writer_failed}
+use Rattle.tcp_link.specs.Delivery.{DeliveryLaw, IsDelivered, IsGivenAll, ResetLaw, side_failed}
+use Rattle.tcp_link.specs.Links.{is_done, must_be_accepted, owes_reset}
+use Rattle.tcp_link.specs.Ways.{Accounts}
 use Rattle.tcp_link.specs.declared.loss.Loss.{Loss}
 use Rattle.tcp_link.specs.declared.way.Way.{Way}
 
