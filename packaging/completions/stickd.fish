@@ -59,6 +59,7 @@ complete -c stickd -n '__stickd_at run' -l timeout-client -x -d 'How long a clie
 complete -c stickd -n '__stickd_at run' -l timeout-server -x -d 'How long a server may be silent [default: for ever]'
 complete -c stickd -n '__stickd_at run' -l timeout-fin -x -d 'How long a connection may be silent once one side has ended [default: as the other timeouts]'
 complete -c stickd -n '__stickd_at run' -l keepalive -x -d 'Ask silent peers whether they are still there after TIME (TCP keepalive) [default: never]'
+complete -c stickd -n '__stickd_at run' -l tcp-user-timeout -x -d 'Give a peer up that acknowledges nothing for TIME (TCP_USER_TIMEOUT) [default: as the system does]'
 complete -c stickd -n '__stickd_at run' -l socket-mode -x -d 'The permissions of the socket\'s file, in octal, up to 0777 [default: 600]'
 complete -c stickd -n '__stickd_at run' -l socket-group -x -a '(__fish_complete_groups)' -d 'The group of the socket\'s file, a name or a number [default: the program\'s]'
 complete -c stickd -n '__stickd_at run' -l socket-clients -x -d 'How many clients of the socket are answered at once, 1 to 64 [default: 4]'

@@ -9,10 +9,10 @@ use rule_words::read_time;
 use std::alloc::Global;
 use stickd_input::{
     BIND, CLIENT, CONNECT, DRAIN, FIN, KEEPALIVE, LOAD, LOG_REJECTED, METRICS, REPORT, SAVE,
-    SERVER, SOCKET, STATS, VERSION,
+    SERVER, SOCKET, STATS, USER_TIMEOUT, VERSION,
 };
 use table_socket::read_mode;
-use tcp_link::{Keepalive, Timeouts};
+use tcp_link::{Keepalive, Liveness, Timeouts, UserTimeout};
 use tcp_proxy::{About, KeepPlan, Plan, SocketPlan, StatsPlan, WatchPlan};
 use tcp_relay::Limits;
 use tcp_watch::Surroundings;
@@ -76,6 +76,14 @@ fn read_timeouts<'a>(arguments: &ArgMatches<'a>) -> Result<Timeouts, BadWord<'a>
         client: read_timeout(arguments, CLIENT)?,
         server: read_timeout(arguments, SERVER)?,
         fin: read_timeout(arguments, FIN)?,
+    })
+}
+
+/// How the system finds out that a peer is gone.
+fn read_liveness<'a>(arguments: &ArgMatches<'a>) -> Result<Liveness, BadWord<'a>> {
+    Ok(Liveness {
+        keepalive: read_timeout(arguments, KEEPALIVE)?.map(Keepalive::of),
+        user_timeout: read_timeout(arguments, USER_TIMEOUT)?.map(UserTimeout::of),
     })
 }
 
@@ -220,7 +228,7 @@ pub fn read_plan<'a>(
             connections,
             timeouts: read_timeouts(arguments)?,
             retries: arguments.get_one::<u32>("retries").unwrap_or(0),
-            keepalive: read_timeout(arguments, KEEPALIVE)?.map(Keepalive::of),
+            liveness: read_liveness(arguments)?,
         },
         stop_after: arguments.get_one::<u64>("stop-after"),
         keep: KeepPlan {

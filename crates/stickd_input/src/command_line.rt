@@ -10,6 +10,7 @@ use crate::options::{
     keepalive_option, load_option, metrics_option, mode_option, purge_option, rejected_option,
     report_option, retries_option, roll_option, save_option, server_option, shards_option,
     socket_option, socket_time_option, stats_option, stop_option, stopped_option, threads_option,
+    user_timeout_option,
 };
 use clap::{Arg, ArgMatches, Command, Error};
 use std::alloc::{AllocError, Global};
@@ -198,6 +199,7 @@ fn run_command<'a>(alloc: Global) -> Result<Command<'a>, AllocError> {
     let command = add_argument(command, server_option(alloc));
     let command = add_argument(command, fin_option(alloc));
     let command = add_argument(command, keepalive_option(alloc));
+    let command = add_argument(command, user_timeout_option(alloc));
     let command = add_argument(command, mode_option(alloc));
     let command = add_argument(command, group_option(alloc));
     let command = add_argument(command, clients_option(alloc));

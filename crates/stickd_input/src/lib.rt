@@ -30,7 +30,7 @@ use explanation::{explain_fault, explain_warnings};
 pub use keeping::{Keeping, read_keeping};
 pub use options::{
     BIND, CLIENT, CONNECT, DRAIN, FIN, KEEPALIVE, LOAD, LOG_REJECTED, METRICS, REPORT, SAVE,
-    SERVER, SOCKET, STATS,
+    SERVER, SOCKET, STATS, USER_TIMEOUT,
 };
 use rule_config::{ConfigFault, read_config};
 use rule_model::{Config, Name, NamedSpec, ReadError, Section, Setup};

@@ -25,6 +25,9 @@ pub const FIN: &str = "timeout-fin";
 /// The option that says after how long a silent peer is asked whether it is still there.
 pub const KEEPALIVE: &str = "keepalive";
 
+/// The option that says how long bytes may stay unacknowledged.
+pub const USER_TIMEOUT: &str = "tcp-user-timeout";
+
 /// The option that says how long open connections may go on once the program is to stop.
 pub const DRAIN: &str = "drain";
 
@@ -265,6 +268,16 @@ pub(crate) fn keepalive_option<'a>(alloc: Global) -> Arg<'a> {
         KEEPALIVE,
         "TIME",
         "Ask silent peers whether they are still there after TIME (TCP keepalive) [default: never]",
+    )
+}
+
+/// How long bytes may stay unacknowledged.
+pub(crate) fn user_timeout_option<'a>(alloc: Global) -> Arg<'a> {
+    value_option(
+        alloc,
+        USER_TIMEOUT,
+        "TIME",
+        "Give a peer up that acknowledges nothing for TIME (TCP_USER_TIMEOUT) [default: as the system does]",
     )
 }
 

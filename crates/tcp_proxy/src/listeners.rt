@@ -90,9 +90,7 @@ fn take_listener<R: ProxyRuntime + Files + AllocGlobal + Eprint>(
     plan: Plan<'_>,
 ) -> io::Result<TcpListener> {
     let listener = take_tcp(number)?;
-    if let Some(keepalive) = plan.limits.keepalive {
-        keepalive.apply(rt, &listener)?;
-    }
+    plan.limits.liveness.apply(rt, &listener)?;
     Ok(listener)
 }
 
@@ -114,9 +112,7 @@ fn bind_listener<R: ProxyRuntime + Files + AllocGlobal + Eprint>(
     plan: Plan<'_>,
 ) -> io::Result<TcpListener> {
     let listener = TcpListener::bind(rt, socket_address(bind))?;
-    if let Some(keepalive) = plan.limits.keepalive {
-        keepalive.apply(rt, &listener)?;
-    }
+    plan.limits.liveness.apply(rt, &listener)?;
     let places = i32::try_from(plan.backlog).unwrap_or(i32::MAX);
     if libc::net::listen(listener.as_raw_fd(), places) != 0 {
         return Err(io::Error::from_raw_os_error(os::errno()));

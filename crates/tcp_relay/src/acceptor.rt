@@ -8,7 +8,7 @@ use crate::connection_counter::ConnectionCounter;
 use std::io;
 use std::net::{Net, SocketAddr};
 use std::sync::Wait;
-use tcp_link::{Keepalive, ServerSocket};
+use tcp_link::{Liveness, ServerSocket};
 
 /// How long a worker waits until something is ready.
 #[derive(Clone, Copy, Debug, PartialEq, Eq)]
@@ -178,7 +178,7 @@ impl Acceptor {
         &mut self,
         rt: &impl Net,
         server: SocketAddr,
-        keepalive: Option<Keepalive>,
+        liveness: Liveness,
     ) -> io::Result<()>
         ensures ready { IsOk result → is_some self.new.server ≡ true }
         ensures same { (self.new.number ≡ self.old.number) × (self.new.may_have ≡ self.old.may_have) }
@@ -187,7 +187,7 @@ impl Acceptor {
         if self.server.is_some() {
             return Ok(());
         }
-        match ServerSocket::open(rt, server, keepalive) {
+        match ServerSocket::open(rt, server, liveness) {
             Ok(socket) => {
                 self.server = Some(socket);
                 Ok(())

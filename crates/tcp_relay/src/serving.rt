@@ -249,7 +249,7 @@ fn serve_wide<
         server: socket_address(server),
         timeouts: limits.timeouts,
         retries: limits.retries,
-        keepalive: limits.keepalive,
+        liveness: limits.liveness,
         gate,
         control,
         start,

@@ -221,7 +221,7 @@ fn try_to_accept<'a, T: Table, J: Naming, R: ServeRuntime, G: Gate, W: Width>(
 ) {
     let ready = event_loop
         .acceptor
-        .ready_server(shared.rt, shared.server, shared.keepalive);
+        .ready_server(shared.rt, shared.server, shared.liveness);
     if let Err(error) = ready {
         let error = error.raw_os_error().map(i32::unsigned_abs);
         note_short(shared, worker, &mut event_loop.acceptor, error);
