@@ -10,10 +10,31 @@ use log::{Log, warn};
 use rule_model::Setup;
 use std::alloc::Global;
 use std::rt::Files;
-use std::{fs, str};
+use std::{fs, io, str};
 use tcp_relay::{Control, Drain, socket_address};
 use tcp_stats::{Cells, Gauge, LastTimes};
 use tcp_watch::{Notifier, ProcessStatus};
+
+/// Why a run has nothing to count and to be stopped by.
+#[derive(Debug, Drop, thiserror::Error)]
+pub(crate) enum InstrumentFault {
+    #[error("out of memory")]
+    NoMemory,
+    #[error("what wakes threads can't be had: {0}")]
+    NoLatch(io::Error),
+}
+
+impl From<NoMemory> for InstrumentFault {
+    fn from(_refused: NoMemory) -> InstrumentFault {
+        InstrumentFault::NoMemory
+    }
+}
+
+impl From<io::Error> for InstrumentFault {
+    fn from(reason: io::Error) -> InstrumentFault {
+        InstrumentFault::NoLatch(reason)
+    }
+}
 
 /// Where the system says the machine's name.
 const HOSTNAME: &str = "/proc/sys/kernel/hostname";
@@ -104,7 +125,7 @@ impl Instruments {
         rt: &R,
         setup: &Setup,
         plan: Plan<'_>,
-    ) -> Result<Instruments, NoMemory> {
+    ) -> Result<Instruments, InstrumentFault> {
         let watched = if plan.is_watched() { plan.threads } else { 0 };
         Ok(Instruments {
             board: Board::new(),
@@ -112,7 +133,7 @@ impl Instruments {
             lasts: lasts_where(plan.is_watched()),
             notes_rejected: plan.watch.log_rejected,
             gauge: Gauge::new(),
-            drain: Drain::new(),
+            drain: Drain::open()?,
             notifier: open_notifier(rt, plan),
             status: open_status(),
             node: read_node(alloc, rt),

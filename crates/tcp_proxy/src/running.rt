@@ -85,9 +85,12 @@ pub fn run_proxy<
         eprintln!(rt; "stickd: the configuration has no server")?;
         return Ok(false);
     }
-    let Ok(instruments) = Instruments::new(alloc, rt, setup, plan) else {
-        report(rt, FaultKind::NoMemory)?;
-        return Ok(false);
+    let instruments = match Instruments::new(alloc, rt, setup, plan) {
+        Ok(instruments) => instruments,
+        Err(fault) => {
+            eprintln!(rt; "stickd: {fault}")?;
+            return Ok(false);
+        }
     };
     let clients = plan.duties(instruments.awaits_signals()).sum();
     let calls = match open_record(alloc, rt, setup, plan.threads, clients) {

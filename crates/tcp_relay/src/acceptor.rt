@@ -1,10 +1,11 @@
 //! When a worker accepts clients, and how long it may wait; `turning` asks it in each turn.
 
 ghost use Rattle.std.specs.Prelude.{◌≡◌, ◌≢◌, ◌&&◌, true, false, is_some, IsOk};
-ghost use Rattle.tcp_relay.specs.Accepting.{can_accept, is_shortage, pause_of};
+ghost use Rattle.tcp_relay.specs.Accepting.{can_accept, is_shortage, pause_of, sleep_of};
 
 use crate::accept_errors::AcceptFault;
 use crate::connection_counter::ConnectionCounter;
+use crate::sweep::TICK;
 use std::io;
 use std::net::{Net, SocketAddr};
 use std::sync::Wait;
@@ -18,6 +19,19 @@ pub(crate) enum Pause {
     Tick,
     /// Until something is ready, or a drain begins.
     UntilReady,
+}
+
+impl Pause {
+    /// For how many ms a worker sleeps at most. None where it sleeps until it is woken.
+    pub(crate) fn most(self) -> Option<u64>
+        ensures { result ≡ sleep_of self }
+    {
+        match self {
+            Pause::NotAtAll => Some(0),
+            Pause::Tick => Some(TICK),
+            Pause::UntilReady => None,
+        }
+    }
 }
 
 /// What a worker accepts clients by. A client is accepted only with a socket for its server at hand, so that no client is accepted

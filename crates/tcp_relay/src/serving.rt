@@ -20,7 +20,7 @@ use crate::turning::{EventLoop, turn_all};
 use crate::watch::Watch;
 use crate::width::Width;
 use crate::worker::Worker;
-use crate::{Control, FaultKind, Gate, Limits, ServeFault, ServeRuntime, Served};
+use crate::{Control, Drain, FaultKind, Gate, Limits, ServeFault, ServeRuntime, Served};
 use base_clock::{Clock, RunningClock, Start};
 use rule_model::Setup;
 use shard_locks::{Shards, SharedSeat};
@@ -65,14 +65,15 @@ fn serve_each<'a, T: Table, J: Naming, R: ServeRuntime, G: Gate, W: Width>(
     }
 }
 
-/// A watch of the listeners for the next worker, of this number. None where the system refuses it.
+/// A watch of the listeners and of a drain for the next worker, of this number. None where the system refuses it.
 fn watch_one(
     rt: &impl Net,
     listeners: &Listeners<'_>,
+    drain: &Drain,
     number: u32,
     parts: &mut TurnParts,
 ) -> Option<Watch> {
-    let watch = Watch::new(rt, listeners.watched()?, number).ok()?;
+    let watch = Watch::new(rt, listeners.watched()?, drain, number).ok()?;
     let registry = watch.registry().try_clone().ok()?;
     if parts.add(registry) {
         Some(watch)
@@ -81,17 +82,18 @@ fn watch_one(
     }
 }
 
-/// Has each worker watch the listeners, before the connections of one take the descriptors that another needs for that. One that
+/// Has each worker watch the listeners and the drain, before the connections of one take the descriptors that another needs for that. One that
 /// can't has failed.
 fn watch_each<T: Table, J: Naming, R, W: Width>(
     rt: &impl Net,
     listeners: &Listeners<'_>,
+    drain: &Drain,
     workers: &mut [Worker<'_, T, J, R, W>],
     parts: &mut TurnParts,
 ) {
     let mut number = 0u32;
     for worker in workers.iter_mut() {
-        worker.watch = watch_one(rt, listeners, number, parts);
+        worker.watch = watch_one(rt, listeners, drain, number, parts);
         if worker.watch.is_none() {
             worker.tally.has_failed = true;
         }
@@ -103,12 +105,13 @@ fn watch_each<T: Table, J: Naming, R, W: Width>(
 fn watch_all<T: Table, J: Naming, R, W: Width>(
     rt: &impl Net,
     listeners: &Listeners<'_>,
+    drain: &Drain,
     workers: &mut Vec<Worker<'_, T, J, R, W>>,
     parts: &mut TurnParts,
 )
     ensures workers { vec_len workers.new ≡ vec_len workers.old }
 {
-    watch_each(rt, listeners, workers.as_mut_slice(), parts);
+    watch_each(rt, listeners, drain, workers.as_mut_slice(), parts);
 }
 
 /// Whether a worker has failed.
@@ -236,7 +239,7 @@ fn serve_wide<
     } = room;
     seat_workers(rt, tables, &mut seats, &mut seated, rooms, connections);
     let listeners = Listeners::new(rt, listeners);
-    watch_all(rt, &listeners, &mut seated, &mut parts);
+    watch_all(rt, &listeners, control.drain, &mut seated, &mut parts);
     let listener_turn = ListenerTurn::new(listeners.watched(), parts);
     let counter = ConnectionCounter::new(stop_after, listener_turn);
     let mut workers = seated;
@@ -285,7 +288,7 @@ fn without_memory<J: Naming>(alloc: Global, seats: Vec<Vec<SharedSeat<J>>>) -> S
 /// thread ends with the last of its connections. Without, it goes on until a drain begins.
 ///
 /// Meanwhile others see by `control` what was counted so far, and how many connections are open. Once they begin a drain there,
-/// no client is accepted any more; an idle thread ends within 100 ms. At the moment that the drain says, what is still open is
+/// no client is accepted any more; an idle thread ends at once. At the moment that the drain says, what is still open is
 /// closed. `Listener::refuse` has clients refused at once in place of waiting in vain.
 ///
 /// Where the system hasn't what a further connection takes, such as descriptors, that is counted, and tried again after a
