@@ -7,13 +7,14 @@ use crate::accepting::ClientListener;
 use crate::client_server::ClientServer;
 use crate::patience::patiences_of;
 use crate::patient_stream::PatientStream;
+use base_latch::Latch;
 use byte_ports::{
     FlushingSource, GatheringSink, SharedSink, StreamSink, StreamSource, flush_shared,
 };
 use std::cell::RefCell;
 use std::io::ErrorKind;
+use std::os::fd::AsRawFd;
 use std::sync::Wait;
-use std::sync::atomic::{AtomicBool, Ordering};
 use std::thread;
 use std::time::{Clock, Duration};
 
@@ -31,14 +32,15 @@ fn serve_stream<S: ClientServer>(service: &mut S, stream: PatientStream<'_>) -> 
 }
 
 /// Serves the clients of a listener, one after the other, until `stop` is set; several threads may serve one listener, each by a
-/// service of its own. The flag is looked at each 100 ms, and before a client is asked for more. One that fails ends its own turn
-/// alone; so does one that has sent or taken nothing for `silence`, in ms. Where no client can be accepted, as for want of file
-/// descriptors, that is counted, and the next try comes 10 ms later.
-pub fn serve_clients<L: ClientListener, S: ClientServer, R: Wait + Clock>(
+/// service of its own. A thread without a client sleeps until one comes or `stop` is set; one with a client looks at it each 100 ms,
+/// and before the client is asked for more. A client that fails ends its own turn alone; so does one that has sent or taken
+/// nothing for `silence`, in ms. Where no client can be accepted, as for want of file descriptors, that is counted, and the
+/// next try comes 10 ms later.
+pub fn serve_clients<L: ClientListener + AsRawFd, S: ClientServer, R: Wait + Clock>(
     rt: &R,
     listener: &L,
     service: &mut S,
-    stop: &AtomicBool,
+    stop: &Latch,
     silence: u64,
 ) -> Served
     ensures { ServesClients S.visits (S.state service.old) result (S.state service.new) }
@@ -50,12 +52,13 @@ pub fn serve_clients<L: ClientListener, S: ClientServer, R: Wait + Clock>(
         unaccepted: 0,
     };
     for _ in rt.forever() {
-        let accepted = listener.accept_client();
-        if stop.load(Ordering::SeqCst) {
+        stop.wait_beside(rt, listener);
+        if stop.is_set() {
             return served;
         }
-        let stream = match accepted {
+        let stream = match listener.accept_client() {
             Ok(stream) => stream,
+            // Another thread was sooner.
             Err(reason) if reason.kind() == ErrorKind::WouldBlock => continue,
             Err(_reason) => {
                 served.note_unaccepted();
@@ -65,13 +68,10 @@ pub fn serve_clients<L: ClientListener, S: ClientServer, R: Wait + Clock>(
         };
         let stream = PatientStream {
             stream: &stream,
-            stop,
+            stop: stop.flag(),
             most,
         };
         served.note_client(serve_stream(service, stream));
-        if stop.load(Ordering::SeqCst) {
-            return served;
-        }
     }
     served
 }

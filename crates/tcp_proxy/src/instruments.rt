@@ -5,6 +5,7 @@ use crate::reporting::Reports;
 use crate::running_program::{Board, Running};
 use crate::shared::ProxyRuntime;
 use crate::sockets::Sockets;
+use base_latch::Latch;
 use base_sequence::NoMemory;
 use log::{Log, warn};
 use rule_model::Setup;
@@ -50,6 +51,8 @@ pub(crate) struct Instruments {
     notes_rejected: bool,
     gauge: Gauge,
     drain: Drain,
+    /// Set once the threads beside the listener are to end.
+    stop: Latch,
     notifier: Option<Notifier>,
     /// The status of the process, where a signal that stops the run may wait in it.
     status: Option<ProcessStatus>,
@@ -134,6 +137,7 @@ impl Instruments {
             notes_rejected: plan.watch.log_rejected,
             gauge: Gauge::new(),
             drain: Drain::open()?,
+            stop: Latch::open()?,
             notifier: open_notifier(rt, plan),
             status: open_status(),
             node: read_node(alloc, rt),
@@ -144,6 +148,11 @@ impl Instruments {
     /// Whether a signal that stops the run may wait for it.
     pub fn awaits_signals(&self) -> bool {
         self.status.is_some()
+    }
+
+    /// What ends the threads beside the listener.
+    pub fn stop(&self) -> &Latch {
+        &self.stop
     }
 
     /// What the threads that serve connections publish in, and are drained by.

@@ -26,7 +26,6 @@ use std::io;
 use std::marker::Brand;
 use std::random::RandomSource;
 use std::rt::Files;
-use std::sync::atomic::AtomicBool;
 use stick_pooled::StickTable;
 use stick_table::Table;
 use tcp_relay::{FaultKind, ServeFault, Served};
@@ -292,7 +291,6 @@ fn serve_and_settle<
     requires seats { AreSeats (length tables.items) plan.threads workers }
     requires threads { (1 ≤ plan.threads) × (plan.threads ≤ 64) }
 {
-    let stop = AtomicBool::new(false);
     let running = instruments.running(rt, plan, sockets);
     running.notify(Notice::Ready.bytes());
     let shared = Shared {
@@ -309,7 +307,7 @@ fn serve_and_settle<
         roll_at: plan.roll_at,
         start: sockets.start,
         running: &running,
-        stop: &stop,
+        stop: instruments.stop(),
     };
     let ended = end_of(serve_all(&shared, workers, service_threads.as_mut_slice()));
     running.say_stopping();

@@ -8,6 +8,7 @@ use crate::reporting::report_on;
 use crate::running_program::{Running, ServiceCounts};
 use crate::shared::{ProxyRuntime, Shared};
 use base_clock::{Clock, RunningClock};
+use base_latch::Latch;
 use base_sequence::NoMemory;
 use rule_model::{Name, Setup};
 use shard_book::{Keeper, Named};
@@ -17,9 +18,7 @@ use std::alloc::Global;
 use std::net::TcpListener;
 use std::os::unix::net::UnixListener;
 use std::sync::Wait;
-use std::sync::atomic::{AtomicBool, Ordering};
-use std::time::{self, Duration};
-use std::{mem, thread};
+use std::{mem, time};
 use stick_table::Table;
 use table_cli::CommandService;
 use table_socket::{Served, serve_clients};
@@ -112,10 +111,10 @@ fn await_memory<'a, T: Table, J: Naming, R: ProxyRuntime>(
         if let (Ok(tables), Ok(back)) = (tables, back) {
             return Some(Asked { tables, back });
         }
-        if shared.stop.load(Ordering::SeqCst) {
+        if shared.stop.is_set() {
             return None;
         }
-        thread::sleep(shared.rt, Duration::from_millis(NAP));
+        shared.stop.wait(shared.rt, Some(NAP));
     }
     None
 }
@@ -159,7 +158,7 @@ fn serve_commands<K: Keeper, C: Clock + Drop, R: Wait + time::Clock>(
     listener: &UnixListener,
     service: CommandService<K, C>,
     counts: &ServiceCounts,
-    stop: &AtomicBool,
+    stop: &Latch,
     silence: u64,
 ) -> (Vec<Named<K>>, Served) {
     let mut counted = Counted::new(service, counts);
@@ -173,7 +172,7 @@ fn serve_stats<K: Keeper, C: Clock + Drop, P: Program, R: Wait + time::Clock>(
     listener: &UnixListener,
     teller: Teller<'_, K, C, P>,
     counts: &ServiceCounts,
-    stop: &AtomicBool,
+    stop: &Latch,
 ) -> Vec<Named<K>> {
     let mut counted = Counted::new(StatsService { teller }, counts);
     let _ = serve_clients(rt, listener, &mut counted, stop, STATS_SILENCE);
@@ -185,7 +184,7 @@ fn serve_scrapes<K: Keeper, C: Clock + Drop, P: Program, R: Wait + time::Clock>(
     rt: &R,
     listener: &TcpListener,
     teller: Teller<'_, K, C, P>,
-    stop: &AtomicBool,
+    stop: &Latch,
 ) -> Vec<Named<K>> {
     let mut service = MetricsService { teller };
     let _ = serve_clients(rt, listener, &mut service, stop, METRICS_SILENCE);
@@ -282,7 +281,7 @@ fn report_seated<T: Table, J: Naming, R: ProxyRuntime>(
         Err(seats) => return seats,
     };
     let mut teller = teller_of(shared, tables);
-    report_on(shared.running, &mut teller, shared.stop);
+    report_on(shared.running, &mut teller, shared.stop.flag());
     seats_of(teller.tables, back)
 }
 

@@ -5,6 +5,7 @@ ghost use Rattle.tcp_relay.specs.Serving.{AreTablesOf};
 
 use crate::running_program::Running;
 use base_clock::Start;
+use base_latch::Latch;
 use log::Log;
 use rule_model::Setup;
 use shard_locks::Shards;
@@ -13,7 +14,6 @@ use std::alloc::Global;
 use std::net::{Net, TcpListener, TcpStream};
 use std::os::unix::net::UnixListener;
 use std::sync::Wait;
-use std::sync::atomic::AtomicBool;
 use std::thread::Threads;
 use std::time::Clock;
 use stick_table::Table;
@@ -54,7 +54,7 @@ pub(crate) struct Shared<'a, T: Table, J: Naming, R> {
     pub start: Start,
     /// What is known of the run, and who looks at it.
     pub running: &'a Running<'a, R>,
-    pub stop: &'a AtomicBool,
+    pub stop: &'a Latch,
     ghost are_tables: { AreTablesOf setup.now tables.now },
     ghost has_server: { is_some setup.now.server ≡ true },
     ghost few: { (1 ≤ threads) × (threads ≤ 64) },
