@@ -64,6 +64,7 @@ complete -c stickd -n '__stickd_at run' -l socket-group -x -a '(__fish_complete_
 complete -c stickd -n '__stickd_at run' -l socket-clients -x -d 'How many clients of the socket are answered at once, 1 to 64 [default: 4]'
 complete -c stickd -n '__stickd_at run' -l timeout-socket -x -d 'How long a client of the socket may send nothing, or take nothing [default: 10s]'
 complete -c stickd -n '__stickd_at run' -l stats-socket -r -F -d 'The Unix socket that speaks as HAProxy\'s stats socket does [default: none]'
+complete -c stickd -n '__stickd_at run' -l stats-clients -x -d 'How many clients of the stats socket are answered at once, 1 to 32, and a line of each further one [default: 4]'
 complete -c stickd -n '__stickd_at run' -l metrics -x -d 'Answer GET /metrics there, in Prometheus\' text format [default: nowhere]'
 complete -c stickd -n '__stickd_at run' -l report -x -d 'Write a line of counts to standard error each TIME, and one at the end [default: never]'
 complete -c stickd -n '__stickd_at run' -l log-rejected -d 'Say on standard error that connections were rejected, at most once a second'
@@ -74,7 +75,7 @@ complete -c stickd -n '__stickd_at run' -s h -l help -d 'Print help'
 complete -c stickd -n '__stickd_at run' -F
 
 complete -c stickd -n '__stickd_at stop' -l stats-socket -r -F -d 'The stats socket of the program that is to stop'
-complete -c stickd -n '__stickd_at stop' -l drain -x -d 'How long open connections may go on once it is to stop [default: 30s]'
+complete -c stickd -n '__stickd_at stop' -l drain -x -d 'How long open connections may go on [default: as its own --drain says]'
 complete -c stickd -n '__stickd_at stop' -s h -l help -d 'Print help'
 
 complete -c stickd -n '__stickd_at top' -l socket -r -F -d 'The Unix socket on which commands are answered'

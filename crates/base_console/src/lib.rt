@@ -18,7 +18,7 @@ mod way;
 
 pub use attempt::{Attempt, attempt_of};
 pub use attended::{Attended, Lines};
-pub use console::Console;
+pub use console::{Console, PATIENCE};
 pub use marks::{LostLines, mark_of};
 pub use outlet::Outlet;
 pub use patience::{STEP, left_after};

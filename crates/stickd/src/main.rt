@@ -10,10 +10,11 @@ ghost use Rattle.admit_drive.specs.Tables.{CanOpen};
 mod run_plan;
 
 use adopt::{Asked, Wishes, adopt_file, text_of};
+use base_console::{Attended, Console};
 use base_sequence::NoMemory;
 use byte_ports::{StreamSink, StreamSource};
 use clap::ArgMatches;
-use log::Log;
+use log::{Log, error};
 use rule_model::{Config, Setup};
 use run_plan::{BadWord, read_binds, read_drain, read_plan, with_frontend};
 use std::alloc::Global;
@@ -32,7 +33,7 @@ use stickd_input::{
 };
 use stickd_script::{BadLines, FaultKind, ReplayFault, Stopped, replay_loaded, replay_script};
 use tcp_proxy::{Plan, ProxyRuntime, run_pooled};
-use tcp_watch::read_surroundings;
+use tcp_watch::{Surroundings, read_surroundings};
 
 /// The status of a bad command line.
 const BAD_COMMAND_LINE: u8 = 2;
@@ -68,14 +69,19 @@ fn collect_words(rt: &HostRuntime) -> Result<Vec<String>, WordsFault> {
     }
 }
 
-/// Does what the command line asks, and answers the status. An error is one of writing. The bounds are a `ProxyRuntime`'s and
-/// more, one by one: no proof covers that trait at the runtime itself.
+/// What the proxy asks of the system, but for where its lines go.
+trait Machine: Net<Listener = TcpListener, Stream = TcpStream> + Threads + Wait + Clock + Sync {}
+
+impl<R: Net<Listener = TcpListener, Stream = TcpStream> + Threads + Wait + Clock + Sync> Machine
+    for R {}
+
+/// Does what the command line asks, and answers the status. An error is one of writing. The bounds are a `Machine`'s and more, one by
+/// one: no proof covers that trait at the runtime itself.
 fn run<
     R: Net<Listener = TcpListener, Stream = TcpStream>
         + Threads
         + Wait
         + Clock
-        + Log
         + Sync
         + RandomSource
         + Files
@@ -106,7 +112,7 @@ fn run<
 }
 
 /// Does what a command asks. The status is 1 where that fails, which is then said on standard error.
-fn run_command<R: ProxyRuntime + Files + AllocGlobal + Eprint + RandomSource + Env + Input + Print>(
+fn run_command<R: Machine + Files + AllocGlobal + Eprint + RandomSource + Env + Input + Print>(
     rt: &R,
     matches: &ArgMatches<'_>,
 ) -> io::Result<ExitCode> {
@@ -114,7 +120,7 @@ fn run_command<R: ProxyRuntime + Files + AllocGlobal + Eprint + RandomSource + E
         Some(("adopt", arguments)) => return adopt_named(rt, arguments),
         Some(("check", arguments)) => check(rt, arguments)?,
         Some(("ctl", arguments)) => return ask_named(rt, arguments),
-        Some(("run", arguments)) => return serve(rt, arguments),
+        Some(("run", arguments)) => return Ok(serve(rt, arguments)),
         Some(("stop", arguments)) => return stop_named(rt, arguments),
         Some(("top", arguments)) => return show_greatest(rt, arguments),
         Some((_, arguments)) => {
@@ -333,16 +339,34 @@ fn report_bad_lines<R: Eprint>(rt: &R, bad: &BadLines) -> io::Result<()> {
     Ok(())
 }
 
-/// Runs the proxy of a configuration, each of its tables kept as the command line says.
-fn serve<R: ProxyRuntime + Files + AllocGlobal + Eprint + RandomSource + Env + Print>(
+/// Runs the proxy of a configuration, and waits meanwhile for nobody who reads what it says. Where its results can't be written, that is
+/// said, and the status is 1.
+fn serve<R: Machine + Files + AllocGlobal + RandomSource + Env>(
     rt: &R,
     arguments: &ArgMatches<'_>,
+) -> ExitCode {
+    let console = Console::open(rt);
+    let attended = Attended::new(rt, &console);
+    match serve_file(&attended, arguments, read_surroundings(rt)) {
+        Ok(status) => status,
+        Err(reason) => {
+            error!(attended; "writing failed: {reason}");
+            ExitCode::FAILURE
+        }
+    }
+}
+
+/// Runs the proxy of a configuration, each of its tables kept as the command line says.
+fn serve_file<R: ProxyRuntime + Files + AllocGlobal + Eprint + RandomSource + Print>(
+    rt: &R,
+    arguments: &ArgMatches<'_>,
+    manager: Surroundings,
 ) -> io::Result<ExitCode> {
     let binds = match read_binds(rt.alloc(), arguments) {
         Ok(binds) => binds,
         Err(bad) => return refuse(rt, bad),
     };
-    let plan = match read_plan(arguments, binds.as_slice(), read_surroundings(rt)) {
+    let plan = match read_plan(arguments, binds.as_slice(), manager) {
         Ok(plan) => plan,
         Err(bad) => return refuse(rt, bad),
     };

@@ -13,7 +13,7 @@ use stickd_input::{
 };
 use table_socket::read_mode;
 use tcp_link::{Keepalive, Timeouts};
-use tcp_proxy::{About, KeepPlan, Plan, SocketPlan, StatsPlan, WatchPlan};
+use tcp_proxy::{About, KeepPlan, Plan, STATS_CLIENTS, SocketPlan, StatsPlan, WatchPlan};
 use tcp_relay::Limits;
 use tcp_watch::Surroundings;
 
@@ -180,9 +180,9 @@ fn read_metrics<'a>(arguments: &ArgMatches<'a>) -> Result<Option<Endpoint>, BadW
     }
 }
 
-/// How long open connections may go on once the program is to stop, in ms.
-pub fn read_drain<'a>(arguments: &ArgMatches<'a>) -> Result<u64, BadWord<'a>> {
-    Ok(read_timeout(arguments, DRAIN)?.unwrap_or(DRAIN_TIME))
+/// How long open connections may go on once the program is to stop, in ms. None where that isn't said.
+pub fn read_drain<'a>(arguments: &ArgMatches<'a>) -> Result<Option<u64>, BadWord<'a>> {
+    read_timeout(arguments, DRAIN)
 }
 
 /// What `stickd run` is asked. That its numbers are in their ranges was seen as the command line was read. The connections are
@@ -230,6 +230,9 @@ pub fn read_plan<'a>(
         watch: WatchPlan {
             report: read_timeout(arguments, REPORT)?,
             stats: read_stats(arguments)?,
+            stats_clients: arguments
+                .get_one::<u32>("stats-clients")
+                .unwrap_or(STATS_CLIENTS),
             metrics: read_metrics(arguments)?,
             log_rejected: arguments.get_flag(LOG_REJECTED),
             about: About {
@@ -238,7 +241,7 @@ pub fn read_plan<'a>(
                 frontend: "",
             },
         },
-        drain: read_drain(arguments)?,
+        drain: read_drain(arguments)?.unwrap_or(DRAIN_TIME),
         manager,
         roll_at: u64::from(arguments.get_one::<u32>("roll-at").unwrap_or(65_536)),
     })

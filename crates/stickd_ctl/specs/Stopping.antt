@@ -1,5 +1,5 @@
 -- The end of a running stickd, as its operator sees it.
-use Rattle.std.specs.Prelude.{ℕ, nat_lt, Bool, ◌||◌, not, Option, None, List, [], ◌∷◌, codes, if◌then◌else◌}
+use Rattle.std.specs.Prelude.{ℕ, nat_lt, ◌+◌, ◌-◌, ◌^◌, min, Bool, ◌||◌, not, Option, Some, None, List, [], ◌∷◌, codes, if◌then◌else◌}
 use Rattle.std.specs.List.{list_all, list_any}
 use Rattle.base_lines.specs.Parts.{parts, is_line_end}
 use Rattle.stickd_ctl.specs.Lines.{begins, number_behind}
@@ -18,6 +18,11 @@ pid_of answer = number_named (codes "Pid: ") (parts is_line_end answer)
 -- what to do after a look: it is done once the program isn't there; else it is looked for again for so many ms, and then given up
 abbrev pub after_look : Bool → ℕ → ℕ → AfterLook
 after_look is_there waited most = if is_there then (if nat_lt waited most then LookAgain else GiveUp) else Done
+
+-- a program that is told a time may take 10 s more; one that goes by its own is waited for until it ends
+abbrev pub most_wait : Option ℕ → ℕ
+most_wait None = 2 ^ 64 - 1
+most_wait (Some drain) = min (drain + 10_000) (2 ^ 64 - 1)
 
 -- a line of /proc/PID/status that says that the process has ended, and is kept only until its parent asks how
 abbrev pub tells_end : List ℕ → Bool

@@ -6,6 +6,7 @@ ghost use Rattle.stickd_ctl.specs.Stopping as spec;
 use crate::client::{DONE, FAILED, answer_of, say_no_memory};
 use crate::lines::number_after;
 use base_lines::Parts;
+use std::alloc::{AllocError, Global};
 use std::net::Net;
 use std::os::unix::net::UnixStream;
 use std::rt::Files;
@@ -26,8 +27,8 @@ const GRACE: u64 = 10_000;
 pub struct Stop<'a> {
     /// The stats socket of the program that is to stop.
     pub path: &'a str,
-    /// How long its open connections may go on, in ms.
-    pub drain: u64,
+    /// How long its open connections may go on, in ms. None where the program's own time counts.
+    pub drain: Option<u64>,
 }
 
 /// What to do after a look whether a program is still there that was asked to stop.
@@ -135,9 +136,32 @@ fn wait_for<R: Net + Files + Clock + AllocGlobal>(rt: &R, sign: Sign<'_>, most: 
     false
 }
 
-/// Sends the command that stops a program, whose connections may go on for so many ms. Whether it took it.
-fn ask_to_stop<R: Net + Eprint + AllocGlobal>(rt: &R, path: &str, drain: u64) -> io::Result<bool> {
-    let Ok(command) = format!(in rt.alloc(); "stop {drain}") else {
+/// The command that stops a program, whose connections may go on for so many ms, or for its own time.
+fn stop_command(alloc: Global, drain: Option<u64>) -> Result<String, AllocError> {
+    match drain {
+        Some(drain) => format!(in alloc; "stop {drain}"),
+        None => format!(in alloc; "stop"),
+    }
+}
+
+/// How many ms a program may take to end that was asked so: its drain, and some more to settle its tables. Its own drain isn't known
+/// here.
+fn most_wait(drain: Option<u64>) -> u64
+    ensures { result ≡ spec.most_wait drain }
+{
+    match drain {
+        Some(drain) => drain.saturating_add(GRACE),
+        None => u64::MAX,
+    }
+}
+
+/// Sends the command that stops a program, whose connections may go on for so many ms, or for its own time. Whether it took it.
+fn ask_to_stop<R: Net + Eprint + AllocGlobal>(
+    rt: &R,
+    path: &str,
+    drain: Option<u64>,
+) -> io::Result<bool> {
+    let Ok(command) = stop_command(rt.alloc(), drain) else {
         eprintln!(rt; "stickd: out of memory")?;
         return Ok(false);
     };
@@ -152,7 +176,7 @@ fn ask_to_stop<R: Net + Eprint + AllocGlobal>(rt: &R, path: &str, drain: u64) ->
 }
 
 /// Asks a running stickd to stop, waits until it has ended, and answers the status: 0; 1 where nobody answers, it doesn't take
-/// the command, or it is still there 10 s behind its drain, which is said on standard error. Where the system doesn't tell of its
+/// the command, or it is still there 10 s after the drain that was asked for, which is said on standard error. Where the system doesn't tell of its
 /// process here, as from within another container, its socket is looked at instead.
 pub fn stop_running<R: Net + Files + Clock + Eprint + AllocGlobal>(
     rt: &R,
@@ -177,9 +201,9 @@ pub fn stop_running<R: Net + Files + Clock + Eprint + AllocGlobal>(
     if !ask_to_stop(rt, path, drain)? {
         return Ok(FAILED);
     }
-    if wait_for(rt, sign, drain.saturating_add(GRACE)) {
+    if wait_for(rt, sign, most_wait(drain)) {
         return Ok(DONE);
     }
-    eprintln!(rt; "stickd: the program at {path} still runs, {GRACE} ms behind its drain")?;
+    eprintln!(rt; "stickd: the program at {path} still runs, {GRACE} ms after its drain")?;
     Ok(FAILED)
 }

@@ -9,7 +9,8 @@ use crate::options::{
     drain_option, fin_option, group_option, ipv4_prefix_option, ipv6_prefix_option,
     keepalive_option, load_option, metrics_option, mode_option, purge_option, rejected_option,
     report_option, retries_option, roll_option, save_option, server_option, shards_option,
-    socket_option, socket_time_option, stats_option, stop_option, stopped_option, threads_option,
+    socket_option, socket_time_option, stats_clients_option, stats_option, stop_drain_option,
+    stop_option, stopped_option, threads_option,
 };
 use clap::{Arg, ArgMatches, Command, Error};
 use std::alloc::{AllocError, Global};
@@ -203,6 +204,7 @@ fn run_command<'a>(alloc: Global) -> Result<Command<'a>, AllocError> {
     let command = add_argument(command, clients_option(alloc));
     let command = add_argument(command, socket_time_option(alloc));
     let command = add_argument(command, stats_option(alloc));
+    let command = add_argument(command, stats_clients_option(alloc));
     let command = add_argument(command, metrics_option(alloc));
     let command = add_argument(command, report_option(alloc));
     let command = add_argument(command, rejected_option(alloc));
@@ -217,7 +219,7 @@ fn stop_command<'a>(alloc: Global) -> Result<Command<'a>, AllocError> {
         .about("Stop a running stickd, and wait until it has ended")
         .after_help(STOP_HELP)
         .arg(stopped_option(alloc));
-    add_argument(command, drain_option(alloc))
+    add_argument(command, stop_drain_option(alloc))
 }
 
 /// Adds a subcommand to a command, if there was memory to make it.

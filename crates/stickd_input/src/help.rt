@@ -80,12 +80,13 @@ milliseconds since the start. With --stop-after, once N connections have ended, 
 NAME: C calls, R references' is printed for each table whose record is what its callers
 were told; or 'unsettled NAME: S1' and its kin, and the status is 1. It is also stopped by
 'stickd stop', by 'shutdown frontend NAME' on the stats socket, and by SIGTERM or SIGINT
-where that was blocked as it started ('env --block-signal=TERM stickd run ..'). Then it
-accepts none more, lets open connections end, and says the same of each table's counts.";
+where that was blocked as it started ('env --block-signal=TERM,INT stickd run ..'). Then it
+accepts none more, lets open connections end, and says the same of each table's counts. A
+second 'stickd stop', or the other one of both signals, ends open connections at once.";
 
 /// What `stickd stop --help` says last.
 pub(crate) const STOP_HELP: &str = "\
 Asks the stickd whose stats socket is at PATH to stop, and waits until it has ended. It
 accepts no connection more. Those that are open go on until they end, for TIME at most,
-and are then closed. The status is 1 where nobody answers at PATH, or the program still
-runs 10 s behind TIME.";
+and are then closed. Where it drains already and no TIME is given, they are closed at once.
+The status is 1 where nobody answers at PATH, or the program still runs 10 s after TIME.";

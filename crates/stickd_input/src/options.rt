@@ -311,6 +311,18 @@ pub(crate) fn stats_option<'a>(alloc: Global) -> Arg<'a> {
     )
 }
 
+/// How many clients of the stats socket are answered at once.
+pub(crate) fn stats_clients_option<'a>(alloc: Global) -> Arg<'a> {
+    count_option(
+        alloc,
+        "stats-clients",
+        "N",
+        32,
+        "How many clients of the stats socket are answered at once, 1 to 32, and a line of each further one",
+    )
+    .default_value("4")
+}
+
 /// The socket of the program that is to stop.
 pub(crate) fn stopped_option<'a>(alloc: Global) -> Arg<'a> {
     value_option(
@@ -348,6 +360,16 @@ pub(crate) fn rejected_option<'a>(alloc: Global) -> Arg<'a> {
         alloc,
         LOG_REJECTED,
         "Say on standard error that connections were rejected, at most once a second",
+    )
+}
+
+/// How long open connections may go on once another program is asked to stop.
+pub(crate) fn stop_drain_option<'a>(alloc: Global) -> Arg<'a> {
+    value_option(
+        alloc,
+        DRAIN,
+        "TIME",
+        "How long open connections may go on [default: as its own --drain says]",
     )
 }
 

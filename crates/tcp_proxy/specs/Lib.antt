@@ -1,3 +1,4 @@
+pub mod Asking
 pub mod Backlog
 pub mod Draining
 pub mod Ending

@@ -13,7 +13,7 @@ use std::rt::Files;
 use std::{fs, str};
 use tcp_relay::{Control, Drain, socket_address};
 use tcp_stats::{Cells, Gauge, LastTimes};
-use tcp_watch::{Notifier, ProcessStatus};
+use tcp_watch::{Notifier, ProcessStatus, StopSignal};
 
 /// Where the system says the machine's name.
 const HOSTNAME: &str = "/proc/sys/kernel/hostname";
@@ -30,7 +30,7 @@ pub(crate) struct Instruments {
     gauge: Gauge,
     drain: Drain,
     notifier: Option<Notifier>,
-    /// The status of the process, where a signal that stops the run may wait in it.
+    /// The status of the process, where the system tells it.
     status: Option<ProcessStatus>,
     node: Vec<u8>,
     server: String,
@@ -68,16 +68,6 @@ fn open_notifier<R: ProxyRuntime + Files + AllocGlobal + Eprint>(
     }
 }
 
-/// The status of the process, where SIGTERM or SIGINT may wait in it, as one is blocked (`env --block-signal`).
-fn open_status() -> Option<ProcessStatus> {
-    let status = ProcessStatus::open().ok()?;
-    if status.blocks_stop() {
-        Some(status)
-    } else {
-        None
-    }
-}
-
 /// The name of the machine. Empty where the system doesn't say it.
 fn read_node<R: ProxyRuntime + Files + AllocGlobal + Eprint>(alloc: Global, rt: &R) -> Vec<u8> {
     match fs::read(rt, HOSTNAME) {
@@ -107,22 +97,36 @@ impl Instruments {
     ) -> Result<Instruments, NoMemory> {
         let watched = if plan.is_watched() { plan.threads } else { 0 };
         Ok(Instruments {
-            board: Board::new(),
+            board: Board::new(plan.stats_places()),
             cells: cells_of(alloc, watched)?,
             lasts: lasts_where(plan.is_watched()),
             notes_rejected: plan.watch.log_rejected,
             gauge: Gauge::new(),
             drain: Drain::new(),
             notifier: open_notifier(rt, plan),
-            status: open_status(),
+            status: ProcessStatus::open().ok(),
             node: read_node(alloc, rt),
             server: server_text(alloc, setup)?,
         })
     }
 
-    /// Whether a signal that stops the run may wait for it.
+    /// Whether a signal is known to be blocked, or not. None where the system doesn't tell.
+    fn blocks(&self, stop: StopSignal) -> Option<bool> {
+        let status = self.status.as_ref()?;
+        Some(status.blocks(stop))
+    }
+
+    /// Whether a signal that stops the run may wait for it, as it is blocked (`env --block-signal`).
     pub fn awaits_signals(&self) -> bool {
-        self.status.is_some()
+        self.blocks(StopSignal::Terminate) == Some(true)
+            || self.blocks(StopSignal::Interrupt) == Some(true)
+    }
+
+    /// Warns where SIGTERM isn't blocked, and ends the program at once.
+    pub fn warn_of_signals<R: Log>(&self, rt: &R) {
+        if self.blocks(StopSignal::Terminate) == Some(false) {
+            warn!(rt; "SIGTERM isn't blocked: kill and docker stop end the program at once, its connections too, and nothing is saved; env --block-signal=TERM,INT stickd run .. has it drain");
+        }
     }
 
     /// What the threads that serve connections publish in, and are drained by.
@@ -133,6 +137,15 @@ impl Instruments {
             notes_rejected: self.notes_rejected,
             gauge: &self.gauge,
             drain: &self.drain,
+        }
+    }
+
+    /// The status of the process, where a signal that stops the run may wait in it.
+    fn watched_status(&self) -> Option<&ProcessStatus> {
+        if self.awaits_signals() {
+            self.status.as_ref()
+        } else {
+            None
         }
     }
 
@@ -159,7 +172,7 @@ impl Instruments {
             stats: sockets.stats.as_ref().map(|stats| &stats.listener),
             metrics: sockets.metrics.as_ref(),
             reports: reports_of(plan),
-            status: self.status.as_ref(),
+            status: self.watched_status(),
             start: sockets.start,
         }
     }

@@ -1,6 +1,7 @@
 //! The proxy at work: the tables of a setup, shared by its listener's workers, command socket and housekeeping; `stickd` runs it.
 #![tactic(auto)]
 
+mod asks;
 mod binding;
 mod counted;
 mod ending;
@@ -9,6 +10,7 @@ mod instruments;
 mod keeping;
 mod listeners;
 mod opening;
+mod places;
 mod plan;
 mod reporting;
 mod running;

@@ -7,8 +7,11 @@ use rule_addresses::Endpoint;
 use tcp_relay::Limits;
 use tcp_watch::Surroundings;
 
-/// How many clients of the stats socket are answered at once.
+/// How many clients of the stats socket have a place, where that isn't said.
 pub const STATS_CLIENTS: u32 = 4;
+
+/// How many places it has at most.
+pub const MOST_STATS_CLIENTS: u32 = 32;
 
 /// How many clients that scrape metrics are answered at once.
 pub const METRICS_CLIENTS: u32 = 8;
@@ -55,6 +58,8 @@ pub struct WatchPlan<'a> {
     pub report: Option<u64>,
     /// The socket on which HAProxy's tools are answered.
     pub stats: Option<StatsPlan<'a>>,
+    /// How many of its clients have a place: 1 to 32.
+    pub stats_clients: u32,
     /// Where metrics are scraped by HTTP.
     pub metrics: Option<Endpoint>,
     /// Whether rejected clients are said too, among what goes wrong.
@@ -118,6 +123,13 @@ impl<'a> Plan<'a> {
             || self.watch.log_rejected
     }
 
+    /// How many places the stats socket has, where there is one.
+    pub(crate) fn stats_places(&self) -> u32
+        ensures { result ≡ spec.places_of self.now.watch.stats_clients }
+    {
+        self.watch.stats_clients.max(1).min(MOST_STATS_CLIENTS)
+    }
+
     /// How many threads there are beside the listener and the housekeeping, by what they do. A signal that is blocked is looked for.
     pub(crate) fn duties(&self, is_stop_blocked: bool) -> Duties
         ensures { result ≡ spec.duties_of self.now.socket.clients self.now.watch self.now.manager is_stop_blocked }
@@ -125,7 +137,12 @@ impl<'a> Plan<'a> {
         let is_alive_asked = self.manager.notify.is_some() && self.manager.watchdog.is_some();
         Duties {
             commands: self.socket.clients,
-            stats: if self.has_stats() { STATS_CLIENTS } else { 0 },
+            stats: if self.has_stats() {
+                self.stats_places()
+            } else {
+                0
+            },
+            kept: u32::from(self.has_stats()),
             metrics: if self.watch.metrics.is_some() {
                 METRICS_CLIENTS
             } else {
@@ -141,8 +158,10 @@ impl<'a> Plan<'a> {
 pub(crate) struct Duties {
     /// Those that answer commands.
     pub commands: u32,
-    /// Those that answer on the stats socket.
+    /// Those that answer on the stats socket, one for each of its places.
     pub stats: u32,
+    /// The one that answers there while all places are taken.
+    pub kept: u32,
     /// Those that are scraped.
     pub metrics: u32,
     /// The one that reports, looks for signals, and says that the program is alive.
@@ -152,9 +171,9 @@ pub(crate) struct Duties {
 impl Duties {
     /// All of them.
     pub fn sum(&self) -> u32
-        requires few { (self.now.commands ≤ 64) × (self.now.stats ≤ 4) × (self.now.metrics ≤ 8) × (self.now.reporting ≤ 1) }
-        ensures { result ≡ self.now.commands + self.now.stats + self.now.metrics + self.now.reporting }
+        requires few { (self.now.commands ≤ 64) × (self.now.stats ≤ 32) × (self.now.kept ≤ 1) × (self.now.metrics ≤ 8) × (self.now.reporting ≤ 1) }
+        ensures { result ≡ self.now.commands + self.now.stats + self.now.kept + self.now.metrics + self.now.reporting }
     {
-        self.commands + self.stats + self.metrics + self.reporting
+        self.commands + self.stats + self.kept + self.metrics + self.reporting
     }
 }

@@ -14,8 +14,9 @@ use crate::service_threads::{NOBODY, ServiceThread, make_service_threads};
 use crate::serving::serve_all;
 use crate::shared::{ProxyRuntime, Shared};
 use crate::sockets::{Sockets, bind_sockets};
+use base_console::{Lines, PATIENCE};
 use base_sequence::NoMemory;
-use log::{Log, info};
+use log::{Log, error, info, warn};
 use rule_addresses::Endpoint;
 use rule_model::Setup;
 use rule_warnings::{StartPlan, Warning, allowed_descriptors, warnings_of};
@@ -56,13 +57,14 @@ fn all_seats<J: Naming>(
     Ok(seats)
 }
 
-/// Says why serving ended with a fault.
-pub(crate) fn report<R: Eprint>(rt: &R, kind: FaultKind) -> io::Result<()> {
+/// Says why serving ended with a fault. Whether that can be said changes nothing.
+pub(crate) fn report<R: Log>(rt: &R, kind: FaultKind) -> io::Result<()> {
     match kind {
-        FaultKind::Waiting => eprintln!(rt; "stickd: a thread can't wait for connections"),
-        FaultKind::Thread => eprintln!(rt; "stickd: a thread can't be started"),
-        FaultKind::NoMemory => eprintln!(rt; "stickd: out of memory"),
+        FaultKind::Waiting => error!(rt; "a thread can't wait for connections"),
+        FaultKind::Thread => error!(rt; "a thread can't be started"),
+        FaultKind::NoMemory => error!(rt; "out of memory"),
     }
+    Ok(())
 }
 
 /// Runs the proxy of a setup that has a `bind` and a server: opens its tables, binds its sockets, and serves. It stops once
@@ -78,11 +80,11 @@ pub fn run_proxy<
     requires clients { (1 ≤ plan.socket.clients) × (plan.socket.clients ≤ 64) }
 {
     let Some(bind) = setup.bind else {
-        eprintln!(rt; "stickd: the configuration has no bind")?;
+        error!(rt; "the configuration has no bind");
         return Ok(false);
     };
     if setup.server.is_none() {
-        eprintln!(rt; "stickd: the configuration has no server")?;
+        error!(rt; "the configuration has no server");
         return Ok(false);
     }
     let Ok(instruments) = Instruments::new(alloc, rt, setup, plan) else {
@@ -93,7 +95,7 @@ pub fn run_proxy<
     let calls = match open_record(alloc, rt, setup, plan.threads, clients) {
         Ok(calls) => calls,
         Err(fault) => {
-            eprintln!(rt; "stickd: {fault}")?;
+            error!(rt; "{fault}");
             return Ok(false);
         }
     };
@@ -127,7 +129,7 @@ fn run_recorded<
     match open_recorded::<T, J>(alloc, setup, calls, keep) {
         Ok(tables) => start(alloc, rt, setup, bind, plan, instruments, tables),
         Err(fault) => {
-            eprintln!(rt; "stickd: {fault}")?;
+            error!(rt; "{fault}");
             Ok(false)
         }
     }
@@ -176,6 +178,7 @@ fn start<
     };
     sockets.start.moment = begins_at(setup, plan);
     say_warnings(rt, warnings.as_slice());
+    instruments.warn_of_signals(rt);
     serve_and_settle(
         alloc,
         rt,
@@ -199,9 +202,9 @@ fn begins_at(setup: &Setup, plan: Plan<'_>) -> u32 {
 }
 
 /// Says on standard error what may surprise whoever starts it so, a warning a line. Whether that can be said changes nothing.
-fn say_warnings<R: Eprint>(rt: &R, warnings: &[Warning]) {
+fn say_warnings<R: Log>(rt: &R, warnings: &[Warning]) {
     for warning in warnings {
-        let _ = eprintln!(rt; "stickd: warning: {warning}");
+        warn!(rt; "{warning}");
     }
 }
 
@@ -291,6 +294,8 @@ fn serve_and_settle<
 {
     let stop = AtomicBool::new(false);
     let running = instruments.running(rt, plan, sockets);
+    // From here on no thread waits for who reads standard error: it looks for signals, drains or saves.
+    rt.wait_at_most(0);
     running.notify(Notice::Ready.bytes());
     let shared = Shared {
         alloc,
@@ -324,11 +329,12 @@ fn serve_and_settle<
             sockets.start,
         )
     };
+    rt.wait_at_most(PATIENCE);
     let is_settled = settle_where(alloc, rt, setup, tables, ended, service_threads)?;
     Ok(saved? && is_settled)
 }
 
-/// Says what the clients of the command socket came to, on all threads together.
+/// Says what the clients of the command socket and of the stats socket came to, on all threads together.
 fn log_clients<J: Naming, R: Log>(rt: &R, service_threads: &[ServiceThread<J>]) {
     let mut all = NOBODY;
     for service_thread in service_threads {

@@ -3,6 +3,8 @@
 ghost use Rattle.std.specs.Prelude.{◌≡◌};
 ghost use Rattle.tcp_proxy.specs.Draining.{shutdown_of};
 
+use crate::asks::drain_time;
+use crate::places::Places;
 use crate::plan::About;
 use crate::reporting::Reports;
 use base_clock::{Clock, RunningClock, Start};
@@ -100,6 +102,10 @@ impl RateCell {
 #[derive(Drop)]
 pub(crate) struct Board {
     pub service: ServiceCounts,
+    /// How many threads beside the listener are at work.
+    at_work: AtomicU64,
+    /// Those of the stats socket.
+    pub places: Places,
     /// Clients accepted in a second.
     pub connections: RateCell,
     /// Clients admitted in a second.
@@ -107,13 +113,30 @@ pub(crate) struct Board {
 }
 
 impl Board {
-    /// Nothing has happened yet.
-    pub fn new() -> Board {
+    /// Nothing has happened yet, where the stats socket has so many places.
+    pub fn new(places: u32) -> Board {
         Board {
             service: ServiceCounts::new(),
+            at_work: AtomicU64::new(0),
+            places: Places::new(places),
             connections: RateCell::new(),
             sessions: RateCell::new(),
         }
+    }
+
+    /// One thread more is at work.
+    pub fn begin_work(&self) {
+        self.at_work.fetch_add(1, Ordering::SeqCst);
+    }
+
+    /// One thread less is.
+    pub fn end_work(&self) {
+        self.at_work.fetch_sub(1, Ordering::SeqCst);
+    }
+
+    /// How many threads are.
+    pub fn at_work(&self) -> u64 {
+        self.at_work.load(Ordering::SeqCst)
     }
 }
 
@@ -223,8 +246,9 @@ impl<'r, R: Net + time::Clock> Program for Running<'r, R> {
         shutdown
     }
 
-    fn stop(&self, drain: u64) {
-        self.begin_drain(drain);
+    fn stop(&self, drain: Option<u64>) {
+        let is_draining = self.control.drain.has_begun();
+        self.begin_drain(drain_time(drain, self.drain, is_draining));
     }
 }
 

@@ -3,9 +3,10 @@
 
 use crate::counted::Counted;
 use crate::housekeeping::keep_tables;
+use crate::places::{BesidePlaces, Placed};
 use crate::plan::Duties;
 use crate::reporting::report_on;
-use crate::running_program::{Running, ServiceCounts};
+use crate::running_program::{Board, Running, ServiceCounts};
 use crate::shared::{ProxyRuntime, Shared};
 use base_clock::{Clock, RunningClock};
 use base_sequence::NoMemory;
@@ -23,13 +24,16 @@ use std::{mem, thread};
 use stick_table::Table;
 use table_cli::CommandService;
 use table_socket::{Served, serve_clients};
-use tcp_watch::{MetricsService, Program, StatsService, Teller};
+use tcp_watch::{MetricsService, Program, StatsService, Stay, Teller};
 
 /// How long a thread rests where there is no memory for it, in ms.
 const NAP: u64 = 50;
 
 /// How long a client of the stats socket may send or take nothing, in ms.
 const STATS_SILENCE: u64 = 10_000;
+
+/// The same of one that has no place there.
+const KEPT_SILENCE: u64 = 1_000;
 
 /// How long a client that scrapes metrics may send or take nothing, in ms.
 const METRICS_SILENCE: u64 = 2_000;
@@ -48,6 +52,8 @@ pub(crate) enum Duty {
     Commands,
     /// It answers HAProxy's tools.
     Stats,
+    /// It answers them while the threads that do have no place left, a line each.
+    Kept,
     /// It is scraped.
     Metrics,
     /// It reports.
@@ -81,13 +87,16 @@ impl<J: Naming> ServiceThread<J> {
     pub fn run<T: Table, R: ProxyRuntime>(&mut self, shared: &Shared<'_, T, J, R>) {
         let seats = mem::replace(&mut self.seats, Vec::new(shared.alloc));
         let names = mem::replace(&mut self.names, Vec::new(shared.alloc));
+        shared.running.board.begin_work();
         self.seats = match self.duty {
             Duty::Commands => answer_commands(shared, names, seats, &mut self.served),
-            Duty::Stats => answer_stats(shared, names, seats),
+            Duty::Stats => answer_stats(shared, names, seats, Stay::Long, &mut self.served),
+            Duty::Kept => answer_stats(shared, names, seats, Stay::Short, &mut self.served),
             Duty::Metrics => answer_scrapes(shared, names, seats),
             Duty::Reporting => report_seated(shared, names, seats),
             Duty::Housekeeping => keep_tables(shared, seats),
         };
+        shared.running.board.end_work();
     }
 }
 
@@ -167,17 +176,38 @@ fn serve_commands<K: Keeper, C: Clock + Drop, R: Wait + time::Clock>(
     (counted.into_service().tables, served)
 }
 
-/// Answers the clients of a stats socket. The tables come back.
-fn serve_stats<K: Keeper, C: Clock + Drop, P: Program, R: Wait + time::Clock>(
+/// Answers the clients of a stats socket, each of which holds a place. The tables come back, and what the clients came to.
+fn serve_placed<K: Keeper, C: Clock + Drop, P: Program, R: Wait + time::Clock>(
     rt: &R,
     listener: &UnixListener,
-    teller: Teller<'_, K, C, P>,
-    counts: &ServiceCounts,
+    service: StatsService<'_, K, C, P>,
+    board: &Board,
     stop: &AtomicBool,
-) -> Vec<Named<K>> {
-    let mut counted = Counted::new(StatsService { teller }, counts);
-    let _ = serve_clients(rt, listener, &mut counted, stop, STATS_SILENCE);
-    counted.into_service().teller.tables
+) -> (Vec<Named<K>>, Served) {
+    let counted = Counted::new(service, &board.service);
+    let mut placed = Placed::new(counted, &board.places);
+    let served = serve_clients(rt, listener, &mut placed, stop, STATS_SILENCE);
+    (placed.into_service().into_service().teller.tables, served)
+}
+
+/// Answers a line of each client of a stats socket that comes while all places are taken. The tables come back, and what the clients came
+/// to.
+fn serve_beside<K: Keeper, C: Clock + Drop, P: Program, R: Wait + time::Clock>(
+    rt: &R,
+    listener: &UnixListener,
+    service: StatsService<'_, K, C, P>,
+    board: &Board,
+    stop: &AtomicBool,
+) -> (Vec<Named<K>>, Served) {
+    let places = &board.places;
+    let beside = BesidePlaces {
+        rt,
+        listener,
+        places,
+    };
+    let mut counted = Counted::new(service, &board.service);
+    let served = serve_clients(rt, &beside, &mut counted, stop, KEPT_SILENCE);
+    (counted.into_service().teller.tables, served)
 }
 
 /// Answers clients that scrape metrics. The tables come back.
@@ -231,11 +261,13 @@ fn teller_of<'a, T: Table, J: Naming, R: ProxyRuntime>(
     }
 }
 
-/// Answers the clients of the stats socket.
+/// Answers the clients of the stats socket that may stay, or those that may not.
 fn answer_stats<T: Table, J: Naming, R: ProxyRuntime>(
     shared: &Shared<'_, T, J, R>,
     names: Vec<Name>,
     seats: Vec<SharedSeat<J>>,
+    stay: Stay,
+    served: &mut Served,
 ) -> Vec<SharedSeat<J>> {
     let Some(listener) = shared.running.stats else {
         return seats;
@@ -244,13 +276,14 @@ fn answer_stats<T: Table, J: Naming, R: ProxyRuntime>(
         Ok(asked) => asked,
         Err(seats) => return seats,
     };
-    let tables = serve_stats(
-        shared.rt,
-        listener,
-        teller_of(shared, tables),
-        &shared.running.board.service,
-        shared.stop,
-    );
+    let teller = teller_of(shared, tables);
+    let service = StatsService { teller, stay };
+    let board = shared.running.board;
+    let (tables, all) = match stay {
+        Stay::Long => serve_placed(shared.rt, listener, service, board, shared.stop),
+        Stay::Short => serve_beside(shared.rt, listener, service, board, shared.stop),
+    };
+    *served = all;
     seats_of(tables, back)
 }
 
@@ -321,6 +354,7 @@ pub(crate) fn make_service_threads<J: Naming>(
     let counts = [
         (Duty::Commands, duties.commands),
         (Duty::Stats, duties.stats),
+        (Duty::Kept, duties.kept),
         (Duty::Metrics, duties.metrics),
         (Duty::Reporting, duties.reporting),
     ];

@@ -5,6 +5,7 @@ ghost use Rattle.tcp_relay.specs.Serving.{AreTablesOf};
 
 use crate::running_program::Running;
 use base_clock::Start;
+use base_console::Lines;
 use log::Log;
 use rule_model::Setup;
 use shard_locks::Shards;
@@ -19,17 +20,24 @@ use std::time::Clock;
 use stick_table::Table;
 use tcp_relay::{Limits, Listener};
 
-/// What the threads of the proxy ask of the system: sockets, threads, locks, a clock and a log. What the proxy asks beside that while
+/// What the threads of the proxy ask of the system: sockets, threads, locks, a clock, and a log for which nobody waits. What the proxy asks beside that while
 /// it starts and ends stands in each bound apart: a bound that holds both isn't known to be safe to send to a thread.
 pub trait ProxyRuntime: Net<Listener = TcpListener, Stream = TcpStream>
     + Threads
     + Wait
     + Clock
     + Log
+    + Lines
     + Sync {}
 
 impl<
-    R: Net<Listener = TcpListener, Stream = TcpStream> + Threads + Wait + Clock + Log + Sync,
+    R: Net<Listener = TcpListener, Stream = TcpStream>
+        + Threads
+        + Wait
+        + Clock
+        + Log
+        + Lines
+        + Sync,
 > ProxyRuntime for R {}
 
 /// What the threads of the proxy share, each by reference: the tables of its setup, its sockets, and whether it stops.

@@ -17,7 +17,7 @@ pub data Command : Type 0 where
   Prompt : Command
   Quit : Command
   ShutdownFrontend : List ℕ → Command
-  Stop : ℕ → Command
+  Stop : Option ℕ → Command
   OldestFirst : List ℕ → Command
   Table : Command
   Empty : Command
@@ -27,13 +27,14 @@ pub data Command : Type 0 where
 abbrev pub words_of : List ℕ → List (List ℕ)
 words_of line = words (is_blank SpacesAndTabs) (without_cr line)
 
--- help, prompt, quit
+-- help, prompt, quit, and stop without a time of its own
 abbrev pub single_of : List ℕ → Command
 single_of verb =
     if bytes_eq verb (codes "help") then Help
     else (if bytes_eq verb (codes "prompt") then Prompt
     else (if bytes_eq verb (codes "quit") then Quit
-    else Unknown))
+    else (if bytes_eq verb (codes "stop") then Stop None
+    else Unknown)))
 
 -- behind show: info, stat, errors
 abbrev pub show_of : List ℕ → Command
@@ -52,7 +53,7 @@ shutdown_of (name ∷ more ∷ rest) = Unknown
 -- behind stop: a number of ms, and nothing else
 abbrev pub stop_after : Option ℕ → Command
 stop_after None = Unknown
-stop_after (Some ms) = Stop ms
+stop_after (Some ms) = Stop (Some ms)
 
 abbrev pub stop_of : List ℕ → List (List ℕ) → Command
 stop_of time [] = stop_after (number_of time)
@@ -95,7 +96,7 @@ command_of (verb ∷ noun ∷ rest) = pair_of verb noun rest
 
 -- the commands, a line each
 unfoldable pub command_list : List ℕ
-command_list = codes "  clear table <table> [<filter>]*         : remove an entry from a table (filter: data/key)\n  set table <table> key <k> [data.* <v>]* : update or create a table entry's data\n  show errors                             : report last request and/or response errors for each proxy\n  show info                               : report information about the running process\n  show stat                               : report counters for each proxy and server\n  show table <table> [<filter>]*          : report table usage stats or dump this table's contents (filter: data/key)\n  show table <table> oldest-first         : dump this table's contents in the order in which entries go\n  shutdown frontend <frontend>            : stop a specific frontend\n  stop <ms>                               : end the program; open connections may go on for so long\n  help [<command>]                        : list matching or all commands\n  prompt                                  : toggle interactive mode with prompt\n  quit                                    : disconnect\n"
+command_list = codes "  clear table <table> [<filter>]*         : remove an entry from a table (filter: data/key)\n  set table <table> key <k> [data.* <v>]* : update or create a table entry's data\n  show errors                             : report last request and/or response errors for each proxy\n  show info                               : report information about the running process\n  show stat                               : report counters for each proxy and server\n  show table <table> [<filter>]*          : report table usage stats or dump this table's contents (filter: data/key)\n  show table <table> oldest-first         : dump this table's contents in the order in which entries go\n  shutdown frontend <frontend>            : stop a specific frontend\n  stop [<ms>]                             : end the program; open connections may go on for so long\n  help [<command>]                        : list matching or all commands\n  prompt                                  : toggle interactive mode with prompt\n  quit                                    : disconnect\n"
 
 -- what an answer says, in front of the list of commands where one follows
 abbrev pub message_words : StatsMessage → List ℕ

@@ -26,8 +26,9 @@ pub enum StatsCommand<'a> {
     Quit,
     /// `shutdown frontend NAME`; the name is empty where none was given.
     ShutdownFrontend(&'a [u8]),
-    /// `stop MS`, which is stickd's own: the program ends, and its connections may go on for so many ms.
-    Stop(u64),
+    /// `stop [MS]`, which is stickd's own: the program ends, and its connections may go on for so many ms, or for as many as the program
+    /// was told as it started.
+    Stop(Option<u64>),
     /// `show table NAME oldest-first`, which is stickd's own: what a table holds, in the order in which its entries go.
     OldestFirst(&'a [u8]),
     /// `show table`, `set table` or `clear table`, whatever else follows.
@@ -59,7 +60,7 @@ fn read_stop<'a>(time: &[u8], mut rest: Words<'a>) -> StatsCommand<'a>
         return StatsCommand::Unknown;
     }
     match read_number(time) {
-        Some(ms) => StatsCommand::Stop(ms),
+        Some(ms) => StatsCommand::Stop(Some(ms)),
         None => StatsCommand::Unknown,
     }
 }
@@ -125,6 +126,9 @@ fn read_single(verb: &[u8]) -> StatsCommand<'static>
     }
     if verb == b"quit".as_slice() {
         return StatsCommand::Quit;
+    }
+    if verb == b"stop".as_slice() {
+        return StatsCommand::Stop(None);
     }
     StatsCommand::Unknown
 }
@@ -229,7 +233,7 @@ fn command_list() -> &'static str
   show table <table> [<filter>]*          : report table usage stats or dump this table's contents (filter: data/key)
   show table <table> oldest-first         : dump this table's contents in the order in which entries go
   shutdown frontend <frontend>            : stop a specific frontend
-  stop <ms>                               : end the program; open connections may go on for so long
+  stop [<ms>]                             : end the program; open connections may go on for so long
   help [<command>]                        : list matching or all commands
   prompt                                  : toggle interactive mode with prompt
   quit                                    : disconnect

@@ -13,6 +13,27 @@ pub struct Conversation {
     pub is_over: bool,
 }
 
+/// How long a client may stay.
+#[derive(Clone, Copy, Debug, PartialEq, Eq)]
+pub enum Stay {
+    /// For as long as it likes, once it has asked to be prompted.
+    Long,
+    /// For one line, whatever it asks: its place is kept for who comes next.
+    Short,
+}
+
+impl Stay {
+    /// How many reads its conversation has at most.
+    pub fn most_reads(self) -> u64
+        ensures { result ≡ spec.most_reads self }
+    {
+        match self {
+            Stay::Long => 1 << 40,
+            Stay::Short => 4,
+        }
+    }
+}
+
 /// A client that has said nothing yet.
 pub const BEGUN: Conversation = Conversation {
     is_prompting: false,
@@ -20,13 +41,16 @@ pub const BEGUN: Conversation = Conversation {
 };
 
 impl Conversation {
-    /// After `prompt`, which asks for prompts, or asks for them no longer.
-    pub fn after_prompt(self) -> Conversation
-        ensures { result ≡ spec.after_prompt self }
+    /// After `prompt`, which asks for prompts, or asks for them no longer. Who may not stay gets none.
+    pub fn after_prompt(self, stay: Stay) -> Conversation
+        ensures { result ≡ spec.after_prompt stay self }
     {
-        Conversation {
-            is_prompting: !self.is_prompting,
-            ..self
+        match stay {
+            Stay::Long => Conversation {
+                is_prompting: !self.is_prompting,
+                ..self
+            },
+            Stay::Short => self,
         }
     }
 

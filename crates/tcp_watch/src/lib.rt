@@ -3,7 +3,7 @@
 //!
 //! - `StatsService` and `MetricsService` serve clients. The texts are those of `tcp_stats`, and a command on a table is answered as on the
 //!   command socket, by `table_cli`. `Program` is what is asked of the program itself.
-//! - Of the service manager what decides is pure: `is_stop_pending` of a status, `read_handed` of the environment, `NotifyAddress` and the
+//! - Of the service manager what decides is pure: `count_pending` of a status, `read_handed` of the environment, `NotifyAddress` and the
 //!   texts of messages, and the `Rhythm` in which something is done. `ProcessStatus`, `Notifier`, `take_tcp`, `take_unix` and
 //!   `read_surroundings` are the thin calls round it.
 #![tactic(auto)]
@@ -25,13 +25,13 @@ mod teller;
 mod texts;
 mod watchdog;
 
-pub use conversation::Conversation;
+pub use conversation::{Conversation, Stay};
 pub use facts::{count_each, facts_of};
 pub use handed::{FIRST_HANDED, Handed, read_handed};
 pub use metrics::MetricsService;
 pub use notifier::Notifier;
 pub use notify_address::{NotifyAddress, read_address};
-pub use pending::{is_stop_blocked, is_stop_pending};
+pub use pending::{StopSignal, count_pending, is_blocked};
 pub use process_status::ProcessStatus;
 pub use program::{Program, Shutdown};
 pub use rhythm::Rhythm;

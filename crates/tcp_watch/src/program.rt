@@ -22,7 +22,7 @@ pub trait Program {
     /// once its time for that is over.
     fn shut_down(&self, frontend: &[u8]) -> Shutdown;
 
-    /// Has the program take no more clients, and end once those that it has are gone, or once so many ms are over. Where it ends
-    /// already, the earlier moment counts.
-    fn stop(&self, drain: u64);
+    /// Has the program take no more clients, and end once those that it has are gone, or once so many ms are over: where no number is
+    /// given, as many as it was told as it started, or none where it drains already. Of two moments the earlier counts.
+    fn stop(&self, drain: Option<u64>);
 }

@@ -3,7 +3,7 @@
 ghost use Rattle.std.specs.Prelude.{◌≡◌};
 ghost use Rattle.tcp_watch.specs.Conversations as spec;
 
-use crate::conversation::{BEGUN, Conversation};
+use crate::conversation::{BEGUN, Conversation, Stay};
 use crate::program::{Program, Shutdown};
 use crate::teller::{Teller, Told};
 use base_clock::Clock;
@@ -15,13 +15,12 @@ use table_socket::ClientServer;
 use table_texts::Message;
 use tcp_stats::{StatsCommand, StatsMessage, read_command};
 
-/// How many reads a client's conversation has at most.
-const MOST_READS: u64 = 1 << 40;
-
 /// Answers the clients of a stats socket: one line of commands, which `;` parts, unless a client asks to be prompted for more.
 #[derive(Drop)]
 pub struct StatsService<'p, K, C, P> {
     pub teller: Teller<'p, K, C, P>,
+    /// How long its clients may stay.
+    pub stay: Stay,
 }
 
 /// How a conversation goes on behind a command, and how many commands were answered so far.
@@ -126,7 +125,7 @@ impl<'p, K: Keeper, C: Clock, P: Program> StatsService<'p, K, C, P> {
         let message = match read_command(command) {
             StatsCommand::Quit => return Ok(talk.after_quit()),
             StatsCommand::Prompt => {
-                let talk = talk.after_prompt();
+                let talk = talk.after_prompt(self.stay);
                 self.say(StatsMessage::Done, writer, talk)?;
                 return Ok(talk);
             }
@@ -223,7 +222,7 @@ impl<'p, K: Keeper, C: Clock, P: Program> StatsService<'p, K, C, P> {
             talk: BEGUN,
             done: 0,
         };
-        for _read in 0..MOST_READS {
+        for _read in 0..self.stay.most_reads() {
             let count = match reader.read(&mut buffer) {
                 Ok(0) | Err(_) => return now.done,
                 Ok(count) => count,
