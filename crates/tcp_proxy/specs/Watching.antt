@@ -1,5 +1,5 @@
 -- Who looks at a run while it goes on, and which threads that takes.
-use Rattle.std.specs.Prelude.{ℕ, nat_lt, min, max, Bool, ◌&&◌, ◌||◌, not, is_some, if◌then◌else◌}
+use Rattle.std.specs.Prelude.{ℕ, nat_lt, min, max, Bool, ◌||◌, not, is_some, if◌then◌else◌}
 use Rattle.tcp_watch.specs.declared.surroundings.Surroundings.{Surroundings}
 use Rattle.tcp_proxy.specs.declared.plan.WatchPlan.{WatchPlan}
 use Rattle.tcp_proxy.specs.declared.plan.Duties.{Duties}
@@ -12,9 +12,9 @@ has_stats watch manager = is_some watch.stats || is_some manager.handed.stats
 abbrev pub is_watched : WatchPlan → Surroundings → Bool
 is_watched watch manager = has_stats watch manager || is_some watch.report || is_some watch.metrics || watch.log_rejected
 
--- the service manager takes messages, and wants to hear that the program is alive
-abbrev pub is_alive_asked : Surroundings → Bool
-is_alive_asked manager = is_some manager.notify && is_some manager.watchdog
+-- the service manager takes messages
+abbrev pub is_manager_told : Surroundings → Bool
+is_manager_told manager = is_some manager.notify
 
 -- the stats socket has 1 to 32 places
 abbrev pub places_of : ℕ → ℕ
@@ -31,5 +31,5 @@ duties_of clients watch manager is_stop_blocked = record {
   stats = if has_stats watch manager then places_of watch.stats_clients else 0;
   kept = if has_stats watch manager then 1 else 0;
   metrics = if is_some watch.metrics then METRICS_CLIENTS else 0;
-  reporting = if is_watched watch manager || is_stop_blocked || is_alive_asked manager then 1 else 0;
+  reporting = if is_watched watch manager || is_stop_blocked || is_manager_told manager then 1 else 0;
 }

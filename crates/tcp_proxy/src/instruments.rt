@@ -11,7 +11,7 @@ use rule_model::Setup;
 use std::alloc::Global;
 use std::rt::Files;
 use std::{fs, str};
-use tcp_relay::{Control, Drain, socket_address};
+use tcp_relay::{Control, Drain, StartGate, socket_address};
 use tcp_stats::{Cells, Gauge, LastTimes};
 use tcp_watch::{Notifier, ProcessStatus, StopSignal};
 
@@ -29,6 +29,7 @@ pub(crate) struct Instruments {
     notes_rejected: bool,
     gauge: Gauge,
     drain: Drain,
+    start_gate: StartGate,
     notifier: Option<Notifier>,
     /// The status of the process, where the system tells it.
     status: Option<ProcessStatus>,
@@ -103,6 +104,7 @@ impl Instruments {
             notes_rejected: plan.watch.log_rejected,
             gauge: Gauge::new(),
             drain: Drain::new(),
+            start_gate: StartGate::new(),
             notifier: open_notifier(rt, plan),
             status: ProcessStatus::open().ok(),
             node: read_node(alloc, rt),
@@ -137,6 +139,7 @@ impl Instruments {
             notes_rejected: self.notes_rejected,
             gauge: &self.gauge,
             drain: &self.drain,
+            start: &self.start_gate,
         }
     }
 

@@ -134,7 +134,6 @@ impl<'a> Plan<'a> {
     pub(crate) fn duties(&self, is_stop_blocked: bool) -> Duties
         ensures { result ≡ spec.duties_of self.now.socket.clients self.now.watch self.now.manager is_stop_blocked }
     {
-        let is_alive_asked = self.manager.notify.is_some() && self.manager.watchdog.is_some();
         Duties {
             commands: self.socket.clients,
             stats: if self.has_stats() {
@@ -148,7 +147,9 @@ impl<'a> Plan<'a> {
             } else {
                 0
             },
-            reporting: u32::from(self.is_watched() || is_stop_blocked || is_alive_asked),
+            reporting: u32::from(
+                self.is_watched() || is_stop_blocked || self.manager.notify.is_some(),
+            ),
         }
     }
 }
@@ -164,7 +165,7 @@ pub(crate) struct Duties {
     pub kept: u32,
     /// Those that are scraped.
     pub metrics: u32,
-    /// The one that reports, looks for signals, and says that the program is alive.
+    /// The one that reports, looks for signals, and tells the service manager that all threads run, and that they do so still.
     pub reporting: u32,
 }
 

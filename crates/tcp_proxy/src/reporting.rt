@@ -181,6 +181,15 @@ fn await_others<R: ProxyRuntime>(running: &Running<'_, R>) {
     }
 }
 
+/// Tells the service manager that all threads run, once they do. Whether that is told.
+fn tell_ready<R: ProxyRuntime>(running: &Running<'_, R>, was_told: bool) -> bool {
+    if !was_told && running.control.start.is_over() {
+        running.notify(Notice::Ready.bytes());
+        return true;
+    }
+    was_told
+}
+
 /// Reports, looks for signals and says that the program is alive until the proxy stops. The last report tells the end.
 pub(crate) fn report_on<K: Keeper, C: Clock, R: ProxyRuntime>(
     running: &Running<'_, R>,
@@ -191,11 +200,13 @@ pub(crate) fn report_on<K: Keeper, C: Clock, R: ProxyRuntime>(
     let mut timetable = Timetable::new(teller.clock.now(), reports.report, reports.alive);
     let mut before = Counts::new();
     let mut signals = 0;
+    let mut is_ready = false;
     for _look in running.rt.forever() {
         if stop.load(Ordering::SeqCst) {
             break;
         }
         thread::sleep(running.rt, Duration::from_millis(LOOK));
+        is_ready = tell_ready(running, is_ready);
         signals = look_for_signals(running, signals);
         let due = timetable.due(teller.clock.now());
         if due.alive {

@@ -31,7 +31,6 @@ use std::sync::atomic::AtomicBool;
 use stick_pooled::StickTable;
 use stick_table::Table;
 use tcp_relay::{FaultKind, ServeFault, Served};
-use tcp_watch::Notice;
 
 /// The seats of each table, and one more of each.
 fn with_more<J: Naming>(
@@ -296,7 +295,6 @@ fn serve_and_settle<
     let running = instruments.running(rt, plan, sockets);
     // From here on no thread waits for who reads standard error: it looks for signals, drains or saves.
     rt.wait_at_most(0);
-    running.notify(Notice::Ready.bytes());
     let shared = Shared {
         alloc,
         rt,

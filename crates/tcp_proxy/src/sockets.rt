@@ -54,7 +54,7 @@ pub(crate) fn bind_sockets<R: ProxyRuntime + Files + AllocGlobal + Eprint>(
     }
 }
 
-/// Binds all. Where one can't be bound, the files of those before it stay, and the next start replaces them.
+/// Binds all. Where one can't be bound, the files of those before it are removed.
 fn bind_all<R: ProxyRuntime + Files + AllocGlobal + Eprint>(
     alloc: Global,
     rt: &R,
@@ -72,20 +72,47 @@ fn bind_all<R: ProxyRuntime + Files + AllocGlobal + Eprint>(
         (None, Some(stats)) => Some(bind_stats(rt, stats)?),
         (None, None) => None,
     };
+    match bind_last(rt, plan, access) {
+        Ok((start, socket)) => {
+            say_places(rt, bind, plan);
+            Ok(Sockets {
+                listeners,
+                socket,
+                stats,
+                metrics,
+                start,
+            })
+        }
+        Err(fault) => {
+            remove_stats(rt, plan, stats.as_ref());
+            Err(fault)
+        }
+    }
+}
+
+/// Binds the command socket, and reads the clock.
+fn bind_last<R: ProxyRuntime + Files + AllocGlobal + Eprint>(
+    rt: &R,
+    plan: Plan<'_>,
+    access: Access,
+) -> Result<(Start, Socket), BindFault> {
     let start = Start::at(Instant::now(rt)?);
-    let path = plan.socket.path;
     let socket = match plan.manager.handed.commands {
         Some(number) => take_socket(rt, number)?,
-        None => bind_unix(rt, path, access)?,
+        None => bind_unix(rt, plan.socket.path, access)?,
     };
-    say_places(rt, bind, plan);
-    Ok(Sockets {
-        listeners,
-        socket,
-        stats,
-        metrics,
-        start,
-    })
+    Ok((start, socket))
+}
+
+/// Removes the file that was made for the stats socket, if there is one.
+fn remove_stats<R: ProxyRuntime + Files + AllocGlobal + Eprint>(
+    rt: &R,
+    plan: Plan<'_>,
+    stats: Option<&Socket>,
+) {
+    if let (Some(socket), Some(planned)) = (stats, plan.watch.stats) {
+        socket.remove_file(rt, planned.path);
+    }
 }
 
 /// Says where clients come in.
@@ -193,9 +220,7 @@ impl Sockets {
         plan: Plan<'_>,
     ) {
         self.socket.remove_file(rt, plan.socket.path);
-        if let (Some(socket), Some(stats)) = (&self.stats, plan.watch.stats) {
-            socket.remove_file(rt, stats.path);
-        }
+        remove_stats(rt, plan, self.stats.as_ref());
     }
 }
 

@@ -15,6 +15,7 @@ use crate::listeners::{Listener, Listeners};
 use crate::reserved::{Reserved, reserve};
 use crate::shared::Shared;
 use crate::shares::share_of;
+use crate::start_gate::{StartGate, StartPhase};
 use crate::sweep::Sweep;
 use crate::turning::{EventLoop, turn_all};
 use crate::watch::Watch;
@@ -29,7 +30,11 @@ use std::alloc::Global;
 use std::marker::{Brand, PhantomData};
 use std::net::Net;
 use std::thread;
+use std::time::Duration;
 use stick_table::Table;
+
+/// How many ms lie between two looks of a worker whether all others run.
+const START_LOOK: u64 = 1;
 
 /// One worker's connections: until the last number is drawn, or a drain has begun, and all its connections have ended; or it
 /// can't wait for them.
@@ -99,6 +104,28 @@ fn watch_each<T: Table, J: Naming, R, W: Width>(
     }
 }
 
+/// Waits until all workers run. Whether they do: where one can't be started, none serves.
+fn await_start<R: ServeRuntime>(rt: &R, start: &StartGate) -> bool {
+    for _look in rt.forever() {
+        match start.phase() {
+            StartPhase::Starting => thread::sleep(rt, Duration::from_millis(START_LOOK)),
+            StartPhase::Over => return true,
+            StartPhase::GivenUp => return false,
+        }
+    }
+    false
+}
+
+/// One worker's connections, once all workers run.
+fn serve_started<'a, T: Table, J: Naming, R: ServeRuntime, G: Gate, W: Width>(
+    shared: &Shared<'a, R, G, W>,
+    worker: &mut Worker<'a, T, J, R, W>,
+) {
+    if await_start(shared.rt, shared.control.start) {
+        serve_each(shared, worker);
+    }
+}
+
 /// The same. There are as many workers afterwards.
 fn watch_all<T: Table, J: Naming, R, W: Width>(
     rt: &impl Net,
@@ -121,8 +148,8 @@ fn has_failed<T: Table, J: Naming, R, W: Width>(workers: &[Worker<'_, T, J, R, W
     false
 }
 
-/// Starts a thread for each worker, and waits until all have ended. Answers whether all could be started; behind the first
-/// that can't, none is started. Nor is any where one can't watch the listeners, which has failed then.
+/// Starts a thread for each worker, and waits until all have ended. Answers whether all could be started; after the first that can't, none
+/// is started, and none has served. Nor is any started where one can't watch the listeners, which has failed then.
 fn run_each<
     'a,
     T: Table + Send,
@@ -138,12 +165,13 @@ fn run_each<
         let mut all = true;
         let each = workers.iter_mut();
         for worker in each {
-            let started = scope.spawn(move || serve_each(shared, worker));
+            let started = scope.spawn(move || serve_started(shared, worker));
             if started.is_err() {
                 all = false;
                 break;
             }
         }
+        shared.control.start.end(all);
         all
     })
 }
