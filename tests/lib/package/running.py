@@ -3,6 +3,7 @@ import contextlib
 import os
 import random
 import re
+import signal
 import socket
 import stat
 import subprocess
@@ -12,6 +13,8 @@ import time
 from lib.package.base import PATIENCE, Made, content, folder, put, run, same
 
 CONFIGURATION = 'etc/stickd/stickd.cfg'
+# SIGINT and SIGTERM, which the launcher blocks.
+STOPS = sum(1 << number - 1 for number in (signal.SIGINT, signal.SIGTERM))
 # A user without rights, who starts what root has installed.
 NOBODY = 65534
 
@@ -84,6 +87,11 @@ def to_unix(path):
     return stream
 
 
+def signals_blocked(process):
+    """The signals that a process blocks, of which signal n is bit n - 1."""
+    return int(re.search(r'^SigBlk:\t(\w+)$', content('/proc', str(process), 'status').decode(), re.MULTILINE)[1], 16)
+
+
 def serves_one(root, prefix):
     """Starts what was installed, by the unit's own words and as a user without rights, and makes a connection."""
     echo, front, room = Echo(), free_port(), folder()
@@ -104,6 +112,7 @@ def serves_one(root, prefix):
                              umask=0o077, **other)
     try:
         with connected(lambda to: socket.create_connection(to, PATIENCE), ('127.0.0.1', front), proxy) as client:
+            same('signals that are blocked', signals_blocked(proxy.pid) & STOPS, STOPS)
             client.sendall(b'hello')
             same('echo', client.recv(100), b'hello')
             with connected(to_unix, address, proxy) as operator:
