@@ -125,14 +125,16 @@ impl<'a> Plan<'a> {
 
     /// How many places the stats socket has, where there is one.
     pub(crate) fn stats_places(&self) -> u32
-        ensures { result ≡ spec.places_of self.now.watch.stats_clients }
+        ensures places { result ≡ spec.places_of self.now.watch.stats_clients }
+        ensures few { result ≤ 32 }
     {
         self.watch.stats_clients.max(1).min(MOST_STATS_CLIENTS)
     }
 
     /// How many threads there are beside the listener and the housekeeping, by what they do. A signal that is blocked is looked for.
     pub(crate) fn duties(&self, is_stop_blocked: bool) -> Duties
-        ensures { result ≡ spec.duties_of self.now.socket.clients self.now.watch self.now.manager is_stop_blocked }
+        ensures duties { result ≡ spec.duties_of self.now.socket.clients self.now.watch self.now.manager is_stop_blocked }
+        ensures few { (result.stats ≤ 32) × (result.kept ≤ 1) × (result.metrics ≤ 8) × (result.reporting ≤ 1) }
     {
         Duties {
             commands: self.socket.clients,
