@@ -26,12 +26,16 @@ complete -c stickd -n '__stickd_at adopt' -F
 
 complete -c stickd -n '__stickd_at check' -l all -d 'Say every fault of the file, and not the first alone'
 complete -c stickd -n '__stickd_at check' -l explain -d 'Show the line below a fault or a warning, and say what commonly causes it, or what is lost'
+complete -c stickd -n '__stickd_at check' -l load -r -F -d 'Say too whether the entries of the saved file FILE fit the tables, in so many shards'
+complete -c stickd -n '__stickd_at check' -l shards -x -d 'In how many parts each table is kept, 1 to 64 [default: 1]'
 complete -c stickd -n '__stickd_at check' -s h -l help -d 'Print help'
 complete -c stickd -n '__stickd_at check' -F
 
 complete -c stickd -n '__stickd_at ctl' -l socket -r -F -d 'The Unix socket on which commands are answered'
 complete -c stickd -n '__stickd_at ctl' -l json -d 'Show answers as JSON'
 complete -c stickd -n '__stickd_at ctl' -l watch -x -d 'Ask again after so many seconds, 1 to 3600, until nobody answers'
+complete -c stickd -n '__stickd_at ctl' -l to -r -F -d 'Write what \'save\' answers to FILE, whole or not at all [default: standard output]'
+complete -c stickd -n '__stickd_at ctl' -l timeout -x -d 'How long the program may say nothing before it is given up [default: 10s]'
 complete -c stickd -n '__stickd_at ctl' -s h -l help -d 'Print help'
 
 complete -c stickd -n '__stickd_at replay' -l shards -x -d 'In how many parts each table is kept, 1 to 64 [default: 1]'
@@ -50,7 +54,9 @@ complete -c stickd -n '__stickd_at run' -l purge -x -d 'How many of its oldest e
 complete -c stickd -n '__stickd_at run' -l ipv4-prefix -x -d 'How many of an IPv4 source\'s first bits count where it is a key, 1 to 32 [default: 32]'
 complete -c stickd -n '__stickd_at run' -l ipv6-prefix -x -d 'How many of an IPv6 source\'s first bits count where it is a key, 1 to 128 [default: 128]'
 complete -c stickd -n '__stickd_at run' -l load -r -F -d 'First make the entries of FILE, as \'stickd ctl save\' and --save write them'
-complete -c stickd -n '__stickd_at run' -l save -r -F -d 'Write what the tables hold to FILE at an orderly end [default: nowhere]'
+complete -c stickd -n '__stickd_at run' -l load-lenient -d 'Skip lines of --load\'s FILE that can\'t be loaded, and say which; without it they are refused'
+complete -c stickd -n '__stickd_at run' -l save -r -F -d 'Write what the tables hold to FILE as an orderly end begins, and at that end [default: nowhere]'
+complete -c stickd -n '__stickd_at run' -l save-every -x -d 'Write --save\'s FILE each TIME too, so that a crash loses no more than that [default: never]'
 complete -c stickd -n '__stickd_at run' -l connections -x -d 'How many connections are open at once at most, on all threads together [default: 10000]'
 complete -c stickd -n '__stickd_at run' -l backlog -x -d 'How many connections may wait to be accepted [default: as --connections]'
 complete -c stickd -n '__stickd_at run' -l timeout-connect -x -d 'How long a server may take to accept a connection, as 1500ms, 5s or 10m [default: 5s]'
@@ -75,6 +81,7 @@ complete -c stickd -n '__stickd_at run' -F
 
 complete -c stickd -n '__stickd_at stop' -l stats-socket -r -F -d 'The stats socket of the program that is to stop'
 complete -c stickd -n '__stickd_at stop' -l drain -x -d 'How long open connections may go on once it is to stop [default: 30s]'
+complete -c stickd -n '__stickd_at stop' -l timeout -x -d 'How long the program may say nothing before it is given up [default: 10s]'
 complete -c stickd -n '__stickd_at stop' -s h -l help -d 'Print help'
 
 complete -c stickd -n '__stickd_at top' -l socket -r -F -d 'The Unix socket on which commands are answered'

@@ -8,6 +8,7 @@ ghost use Rattle.rule_model.specs.Served.{AreTables};
 ghost use Rattle.admit_drive.specs.Tables.{CanOpen};
 
 mod run_plan;
+mod saved_file;
 
 use adopt::{Asked, Wishes, adopt_file, text_of};
 use base_sequence::NoMemory;
@@ -15,7 +16,8 @@ use byte_ports::{StreamSink, StreamSource};
 use clap::ArgMatches;
 use log::Log;
 use rule_model::{Config, Setup};
-use run_plan::{BadWord, read_binds, read_drain, read_plan, with_frontend};
+use run_plan::{BadWord, read_binds, read_drain, read_patience, read_plan, with_frontend};
+use saved_file::{check_saved, replay_saved};
 use std::alloc::Global;
 use std::net::{Net, TcpListener, TcpStream};
 use std::process::ExitCode;
@@ -27,10 +29,10 @@ use std::time::Clock;
 use std::{env, fs, io, str};
 use stickd_ctl::{Ctl, Stop, Top, ask_running, show_top, stop_running};
 use stickd_input::{
-    Detail, Keeping, LOAD, STATS, Telling, frontend_name, open_served, open_setup,
-    read_command_line, read_file, read_keeping, read_served,
+    Detail, Keeping, LOAD, STATS, TO, Telling, frontend_name, open_served, open_setup,
+    read_checked_keeping, read_command_line, read_file, read_keeping, read_served,
 };
-use stickd_script::{BadLines, FaultKind, ReplayFault, Stopped, replay_loaded, replay_script};
+use stickd_script::{BadLines, FaultKind, ReplayFault, replay_script};
 use tcp_proxy::{Plan, ProxyRuntime, run_pooled};
 use tcp_watch::read_surroundings;
 
@@ -167,15 +169,21 @@ fn adopt_named<R: Files + Env + Print + Eprint + AllocGlobal>(
 }
 
 /// Sends commands to a running stickd, and shows what it answers.
-fn ask_named<R: Net + Clock + Print + Eprint + AllocGlobal>(
+fn ask_named<R: Net + Files + Clock + Print + Eprint + AllocGlobal>(
     rt: &R,
     arguments: &ArgMatches<'_>,
 ) -> io::Result<ExitCode> {
+    let patience = match read_patience(arguments) {
+        Ok(patience) => patience,
+        Err(bad) => return refuse(rt, bad),
+    };
     let asked = Ctl {
         path: arguments.get_str("socket").unwrap_or(""),
         words: arguments.get_strs("COMMAND").unwrap_or(&[]),
         json: arguments.get_flag("json"),
         watch: arguments.get_one::<u32>("watch").map(u64::from),
+        to: arguments.get_str(TO),
+        patience,
     };
     Ok(ExitCode::from(ask_running(rt, &asked)?))
 }
@@ -195,7 +203,7 @@ fn show_greatest<R: Net + Clock + Env + Print + Eprint + AllocGlobal>(
 }
 
 /// Stops a running stickd.
-fn stop_named<R: Net + Files + Clock + Eprint + AllocGlobal>(
+fn stop_named<R: Net + Clock + Eprint + AllocGlobal>(
     rt: &R,
     arguments: &ArgMatches<'_>,
 ) -> io::Result<ExitCode> {
@@ -203,8 +211,16 @@ fn stop_named<R: Net + Files + Clock + Eprint + AllocGlobal>(
         Ok(drain) => drain,
         Err(bad) => return refuse(rt, bad),
     };
-    let path = arguments.get_str(STATS).unwrap_or("");
-    Ok(ExitCode::from(stop_running(rt, &Stop { path, drain })?))
+    let patience = match read_patience(arguments) {
+        Ok(patience) => patience,
+        Err(bad) => return refuse(rt, bad),
+    };
+    let asked = Stop {
+        path: arguments.get_str(STATS).unwrap_or(""),
+        drain,
+        patience,
+    };
+    Ok(ExitCode::from(stop_running(rt, &asked)?))
 }
 
 /// Which faults `stickd check` tells.
@@ -237,7 +253,10 @@ fn check<R: Files + Print + Eprint + AllocGlobal>(
     let tables = config.table_count();
     let rules = config.rule_count();
     println!(rt; "valid: {tables} tables, {rules} rules")?;
-    Ok(true)
+    match arguments.get_str(LOAD) {
+        Some(saved) => check_saved(rt, &config, read_checked_keeping(arguments), saved),
+        None => Ok(true),
+    }
 }
 
 /// Replays the script on standard input on the tables of a configuration, each kept in this way, into which a saved file is loaded
@@ -279,49 +298,8 @@ fn replay_new<R: Input + Print + Eprint + AllocGlobal>(rt: &R, setup: &Setup) ->
     }
 }
 
-/// Replays the script on standard input on tables into which the file of a path is loaded first. Where it can't be, that is said on
-/// standard error.
-fn replay_saved<R: Files + Input + Print + Eprint + AllocGlobal>(
-    rt: &R,
-    setup: &Setup,
-    path: &str,
-) -> io::Result<bool>
-    requires { CanOpen setup.now }
-{
-    let saved = match fs::read(rt, path) {
-        Ok(saved) => saved,
-        Err(reason) => {
-            eprintln!(rt; "stickd: {path} can't be read: {reason}")?;
-            return Ok(false);
-        }
-    };
-    let mut reader = StreamSource::new(rt.reader());
-    let mut writer = StreamSink::new(io::writer(rt));
-    let mut bad = BadLines::new();
-    let replayed = replay_loaded(
-        rt.alloc(),
-        setup,
-        saved.as_slice(),
-        &mut reader,
-        &mut writer,
-        &mut bad,
-    );
-    let _ = report_bad_lines(rt, &bad);
-    match replayed {
-        Ok(()) => Ok(true),
-        Err(Stopped::Unloaded(fault)) => {
-            eprintln!(rt; "stickd: {path}: {fault}")?;
-            Ok(false)
-        }
-        Err(Stopped::Replay(fault)) => {
-            report(rt, fault)?;
-            Ok(false)
-        }
-    }
-}
-
 /// Says on standard error which lines of the script were bad: the first ten, and how many where there are more.
-fn report_bad_lines<R: Eprint>(rt: &R, bad: &BadLines) -> io::Result<()> {
+pub(crate) fn report_bad_lines<R: Eprint>(rt: &R, bad: &BadLines) -> io::Result<()> {
     let first = bad.first();
     for number in first {
         eprintln!(rt; "stickd: script line {number}: bad line")?;
@@ -383,7 +361,7 @@ fn refuse<R: Eprint>(rt: &R, bad: BadWord<'_>) -> io::Result<ExitCode> {
 }
 
 /// Says on standard error why the replay stopped.
-fn report<R: Eprint>(rt: &R, fault: ReplayFault) -> io::Result<()> {
+pub(crate) fn report<R: Eprint>(rt: &R, fault: ReplayFault) -> io::Result<()> {
     let done = fault.done;
     match fault.kind {
         FaultKind::ReadFault => eprintln!(rt; "stickd: reading failed after {done} lines"),

@@ -7,10 +7,12 @@ use clap::ArgMatches;
 use rule_addresses::{Endpoint, read_bind};
 use rule_words::read_time;
 use std::alloc::Global;
+use stickd_ctl::PATIENCE;
 use stickd_input::{
-    BIND, CLIENT, CONNECT, DRAIN, FIN, KEEPALIVE, LOAD, LOG_REJECTED, METRICS, REPORT, SAVE,
-    SERVER, SOCKET, STATS, VERSION,
+    BIND, CLIENT, CONNECT, DRAIN, FIN, KEEPALIVE, LOAD, LOAD_LENIENT, LOG_REJECTED, METRICS,
+    REPORT, SAVE, SAVE_EVERY, SERVER, SOCKET, STATS, TIMEOUT, VERSION,
 };
+use table_cli::Misfits;
 use table_socket::read_mode;
 use tcp_link::{Keepalive, Timeouts};
 use tcp_proxy::{About, KeepPlan, Plan, SocketPlan, StatsPlan, WatchPlan};
@@ -51,6 +53,8 @@ pub enum BadWord<'a> {
     Stats(&'a str),
     #[error("--bind can be given 16 times, and no more")]
     ManyBinds,
+    #[error("--save-every wants --save, which names the file")]
+    NothingToSave,
     #[error("out of memory")]
     Memory,
 }
@@ -185,6 +189,30 @@ pub fn read_drain<'a>(arguments: &ArgMatches<'a>) -> Result<u64, BadWord<'a>> {
     Ok(read_timeout(arguments, DRAIN)?.unwrap_or(DRAIN_TIME))
 }
 
+/// How long a program may say nothing that is asked, in ms.
+pub fn read_patience<'a>(arguments: &ArgMatches<'a>) -> Result<u64, BadWord<'a>> {
+    Ok(read_timeout(arguments, TIMEOUT)?.unwrap_or(PATIENCE))
+}
+
+/// The files in which what the tables hold outlasts the run.
+fn read_keep<'a>(arguments: &ArgMatches<'a>) -> Result<KeepPlan<'a>, BadWord<'a>> {
+    let save = arguments.get_str(SAVE);
+    let save_every = read_timeout(arguments, SAVE_EVERY)?;
+    if save.is_none() && save_every.is_some() {
+        return Err(BadWord::NothingToSave);
+    }
+    Ok(KeepPlan {
+        load: arguments.get_str(LOAD),
+        misfits: if arguments.get_flag(LOAD_LENIENT) {
+            Misfits::Skipped
+        } else {
+            Misfits::Refused
+        },
+        save,
+        save_every,
+    })
+}
+
 /// What `stickd run` is asked. That its numbers are in their ranges was seen as the command line was read. The connections are
 /// shared out among the threads, of which there are no more than connections.
 pub fn read_plan<'a>(
@@ -223,10 +251,7 @@ pub fn read_plan<'a>(
             keepalive: read_timeout(arguments, KEEPALIVE)?.map(Keepalive::of),
         },
         stop_after: arguments.get_one::<u64>("stop-after"),
-        keep: KeepPlan {
-            load: arguments.get_str(LOAD),
-            save: arguments.get_str(SAVE),
-        },
+        keep: read_keep(arguments)?,
         watch: WatchPlan {
             report: read_timeout(arguments, REPORT)?,
             stats: read_stats(arguments)?,

@@ -19,6 +19,7 @@ mod help;
 mod hints;
 mod keeping;
 mod options;
+mod saved_options;
 mod suspect_tables;
 mod suspect_terms;
 mod suspects;
@@ -27,14 +28,15 @@ use all_faults::find_faults;
 use base_sequence::{NoMemory, Sequence};
 pub use command_line::{VERSION, read_command_line};
 use explanation::{explain_fault, explain_warnings};
-pub use keeping::{Keeping, read_keeping};
+pub use keeping::{Keeping, read_checked_keeping, read_keeping};
 pub use options::{
-    BIND, CLIENT, CONNECT, DRAIN, FIN, KEEPALIVE, LOAD, LOG_REJECTED, METRICS, REPORT, SAVE,
-    SERVER, SOCKET, STATS,
+    BIND, CLIENT, CONNECT, DRAIN, FIN, KEEPALIVE, LOG_REJECTED, METRICS, REPORT, SERVER, SOCKET,
+    STATS,
 };
 use rule_config::{ConfigFault, read_config};
 use rule_model::{Config, Name, NamedSpec, ReadError, Section, Setup};
 use rule_warnings::{Warning, file_warnings, table_warnings};
+pub use saved_options::{LOAD, LOAD_LENIENT, SAVE, SAVE_EVERY, TIMEOUT, TO};
 use std::alloc::Global;
 use std::rt::Files;
 use std::{fs, io, str};

@@ -37,12 +37,6 @@ pub const STATS: &str = "stats-socket";
 /// The option that says where Prometheus is answered.
 pub const METRICS: &str = "metrics";
 
-/// The option that names the file of entries that are made first.
-pub const LOAD: &str = "load";
-
-/// The option that names the file to which tables are saved.
-pub const SAVE: &str = "save";
-
 /// The option that has rejected connections told.
 pub const LOG_REJECTED: &str = "log-rejected";
 
@@ -92,26 +86,6 @@ pub(crate) fn ipv4_prefix_option<'a>(alloc: Global) -> Arg<'a> {
         "How many of an IPv4 source's first bits count where it is a key, 1 to 32",
     )
     .default_value("32")
-}
-
-/// The file of entries that are made first.
-pub(crate) fn load_option<'a>(alloc: Global) -> Arg<'a> {
-    value_option(
-        alloc,
-        LOAD,
-        "FILE",
-        "First make the entries of FILE, as 'stickd ctl save' and --save write them",
-    )
-}
-
-/// The file to which tables are saved.
-pub(crate) fn save_option<'a>(alloc: Global) -> Arg<'a> {
-    value_option(
-        alloc,
-        SAVE,
-        "FILE",
-        "Write what the tables hold to FILE at an orderly end [default: nowhere]",
-    )
 }
 
 /// The option that says how long a server may take to accept a connection.

@@ -2,6 +2,7 @@
 use Rattle.std.specs.Prelude.{ℕ, Bool, ◌&&◌, ◌||◌, is_some, if◌then◌else◌}
 use Rattle.tcp_watch.specs.declared.surroundings.Surroundings.{Surroundings}
 use Rattle.tcp_proxy.specs.declared.plan.WatchPlan.{WatchPlan}
+use Rattle.tcp_proxy.specs.declared.plan.KeepPlan.{KeepPlan}
 use Rattle.tcp_proxy.specs.declared.plan.Duties.{Duties}
 use Rattle.tcp_proxy.specs.declared.plan.TheConstants.{METRICS_CLIENTS, STATS_CLIENTS}
 
@@ -16,11 +17,12 @@ is_watched watch manager = has_stats watch manager || is_some watch.report || is
 abbrev pub is_alive_asked : Surroundings → Bool
 is_alive_asked manager = is_some manager.notify && is_some manager.watchdog
 
--- without anybody who looks, those that answer commands are all
-abbrev pub duties_of : ℕ → WatchPlan → Surroundings → Bool → Duties
-duties_of clients watch manager is_stop_blocked = record {
+-- without anybody who looks, and a file to save to, those that answer commands are all
+abbrev pub duties_of : ℕ → WatchPlan → KeepPlan → Surroundings → Bool → Duties
+duties_of clients watch keep manager is_stop_blocked = record {
   commands = clients;
   stats = if has_stats watch manager then STATS_CLIENTS else 0;
   metrics = if is_some watch.metrics then METRICS_CLIENTS else 0;
+  saving = if is_some keep.save then 1 else 0;
   reporting = if is_watched watch manager || is_stop_blocked || is_alive_asked manager then 1 else 0;
 }

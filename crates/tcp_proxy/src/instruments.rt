@@ -10,6 +10,7 @@ use log::{Log, warn};
 use rule_model::Setup;
 use std::alloc::Global;
 use std::rt::Files;
+use std::sync::atomic::Ordering;
 use std::{fs, str};
 use tcp_relay::{Control, Drain, socket_address};
 use tcp_stats::{Cells, Gauge, LastTimes};
@@ -125,6 +126,11 @@ impl Instruments {
         self.status.is_some()
     }
 
+    /// Whether somebody asked for the end of the run, and waits for it.
+    pub fn is_stop_asked(&self) -> bool {
+        self.board.stop_asked.load(Ordering::SeqCst)
+    }
+
     /// What the threads that serve connections publish in, and are drained by.
     pub fn control(&self) -> Control<'_> {
         Control {
@@ -166,11 +172,12 @@ impl Instruments {
 }
 
 /// What is said and looked for.
-fn reports_of(plan: Plan<'_>) -> Reports {
+fn reports_of(plan: Plan<'_>) -> Reports<'_> {
     Reports {
         report: plan.watch.report,
         says_troubles: plan.is_watched(),
         says_rejected: plan.watch.log_rejected,
         alive: plan.manager.watchdog,
+        keep: plan.keep,
     }
 }

@@ -4,6 +4,7 @@ ghost use Rattle.std.specs.Prelude.{◌≡◌, ◌≤◌, ◌+◌};
 ghost use Rattle.tcp_proxy.specs.Watching as spec;
 
 use rule_addresses::Endpoint;
+use table_cli::Misfits;
 use tcp_relay::Limits;
 use tcp_watch::Surroundings;
 
@@ -67,8 +68,12 @@ pub struct WatchPlan<'a> {
 pub struct KeepPlan<'a> {
     /// The file of entries that are made before anything listens.
     pub load: Option<&'a str>,
-    /// The file to which the tables are saved at an orderly end.
+    /// What becomes of its lines that can't be loaded.
+    pub misfits: Misfits,
+    /// The file to which the tables are saved at an orderly end, and as that begins.
     pub save: Option<&'a str>,
+    /// How many ms lie between two saves while the proxy runs, at least one. None where it saves at its end alone.
+    pub save_every: Option<u64>,
 }
 
 /// What a run of the proxy is asked.
@@ -120,7 +125,7 @@ impl<'a> Plan<'a> {
 
     /// How many threads there are beside the listener and the housekeeping, by what they do. A signal that is blocked is looked for.
     pub(crate) fn duties(&self, is_stop_blocked: bool) -> Duties
-        ensures { result ≡ spec.duties_of self.now.socket.clients self.now.watch self.now.manager is_stop_blocked }
+        ensures { result ≡ spec.duties_of self.now.socket.clients self.now.watch self.now.keep self.now.manager is_stop_blocked }
     {
         let is_alive_asked = self.manager.notify.is_some() && self.manager.watchdog.is_some();
         Duties {
@@ -131,6 +136,7 @@ impl<'a> Plan<'a> {
             } else {
                 0
             },
+            saving: u32::from(self.keep.save.is_some()),
             reporting: u32::from(self.is_watched() || is_stop_blocked || is_alive_asked),
         }
     }
@@ -145,6 +151,8 @@ pub(crate) struct Duties {
     pub stats: u32,
     /// Those that are scraped.
     pub metrics: u32,
+    /// The one that saves the tables.
+    pub saving: u32,
     /// The one that reports, looks for signals, and says that the program is alive.
     pub reporting: u32,
 }
@@ -152,9 +160,9 @@ pub(crate) struct Duties {
 impl Duties {
     /// All of them.
     pub fn sum(&self) -> u32
-        requires few { (self.now.commands ≤ 64) × (self.now.stats ≤ 4) × (self.now.metrics ≤ 8) × (self.now.reporting ≤ 1) }
-        ensures { result ≡ self.now.commands + self.now.stats + self.now.metrics + self.now.reporting }
+        requires few { (self.now.commands ≤ 64) × (self.now.stats ≤ 4) × (self.now.metrics ≤ 8) × (self.now.saving ≤ 1) × (self.now.reporting ≤ 1) }
+        ensures { result ≡ self.now.commands + self.now.stats + self.now.metrics + self.now.saving + self.now.reporting }
     {
-        self.commands + self.stats + self.metrics + self.reporting
+        self.commands + self.stats + self.metrics + self.saving + self.reporting
     }
 }

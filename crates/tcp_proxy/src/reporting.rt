@@ -5,6 +5,7 @@ ghost use Rattle.std.specs.Prelude.{◌≡◌, ◌-◌, ◌++◌, OnOk};
 ghost use Rattle.tcp_stats.specs.CountValues.{count_of};
 ghost use Rattle.tcp_proxy.specs.Saying.{line_of};
 
+use crate::plan::KeepPlan;
 use crate::running_program::Running;
 use crate::shared::ProxyRuntime;
 use crate::timetable::Timetable;
@@ -22,9 +23,9 @@ use tcp_watch::{Notice, Teller, Told, push_status};
 /// How many ms lie between two looks at signals and at the time.
 const LOOK: u64 = 100;
 
-/// What is said and looked for while the proxy runs.
+/// What is said, looked for and saved while the proxy runs.
 #[derive(Clone, Copy, Debug)]
-pub(crate) struct Reports {
+pub(crate) struct Reports<'a> {
     /// How many ms lie between two reports.
     pub report: Option<u64>,
     /// Whether what goes wrong is said, and rejected clients too.
@@ -32,6 +33,8 @@ pub(crate) struct Reports {
     pub says_rejected: bool,
     /// How many ms lie between two messages that the program is alive.
     pub alive: Option<u64>,
+    /// Where and how often the tables are saved.
+    pub keep: KeepPlan<'a>,
 }
 
 /// What stands in front of a line on standard error, by which journald knows a warning, where no human reads it (sd-daemon(3)).

@@ -7,7 +7,8 @@ ghost use Rattle.tcp_proxy.specs.Opened.{HasPlaces, book_spec};
 
 use crate::ending::{Left, give_up_all, settle_all};
 use crate::instruments::Instruments;
-use crate::keeping::{load_where, longest_life, save_where};
+use crate::keeping::{can_save, load_where, longest_life, save_where};
+use crate::last_words::say_last_word;
 use crate::opening::{CallRecord, OpenTables, open_record, open_recorded};
 use crate::plan::Plan;
 use crate::service_threads::{NOBODY, ServiceThread, make_service_threads};
@@ -83,6 +84,9 @@ pub fn run_proxy<
     };
     if setup.server.is_none() {
         eprintln!(rt; "stickd: the configuration has no server")?;
+        return Ok(false);
+    }
+    if !can_save(alloc, rt, plan)? {
         return Ok(false);
     }
     let Ok(instruments) = Instruments::new(alloc, rt, setup, plan) else {
@@ -268,7 +272,7 @@ pub fn run_pooled<R: ProxyRuntime + Files + AllocGlobal + Eprint + RandomSource 
     run_proxy::<StickTable, R>(alloc, rt, setup, plan)
 }
 
-/// Serves, removes the sockets' files, and then settles the tables.
+/// Serves, saves the tables, removes the sockets' files, and then settles the tables.
 fn serve_and_settle<
     T: Table + Send,
     J: Naming + Send + Sync,
@@ -310,7 +314,6 @@ fn serve_and_settle<
     };
     let ended = end_of(serve_all(&shared, workers, service_threads.as_mut_slice()));
     running.say_stopping();
-    sockets.remove_files(rt, plan);
     let saved = if ended.fault.is_some() {
         Ok(false)
     } else {
@@ -324,6 +327,12 @@ fn serve_and_settle<
             sockets.start,
         )
     };
+    say_last_word(
+        sockets,
+        instruments.is_stop_asked(),
+        matches!(saved, Ok(true)),
+    );
+    sockets.remove_files(rt, plan);
     let is_settled = settle_where(alloc, rt, setup, tables, ended, service_threads)?;
     Ok(saved? && is_settled)
 }

@@ -8,7 +8,7 @@ use crate::reporting::Reports;
 use base_clock::{Clock, RunningClock, Start};
 use std::net::{Net, TcpListener};
 use std::os::unix::net::UnixListener;
-use std::sync::atomic::{AtomicU64, Ordering};
+use std::sync::atomic::{AtomicBool, AtomicU64, Ordering};
 use std::time;
 use tcp_relay::{Control, Listener};
 use tcp_stats::{Count, Counts, Rate, Snapshot, TableFacts};
@@ -104,6 +104,8 @@ pub(crate) struct Board {
     pub connections: RateCell,
     /// Clients admitted in a second.
     pub sessions: RateCell,
+    /// Whether somebody asked for the end, and waits for it.
+    pub stop_asked: AtomicBool,
 }
 
 impl Board {
@@ -113,6 +115,7 @@ impl Board {
             service: ServiceCounts::new(),
             connections: RateCell::new(),
             sessions: RateCell::new(),
+            stop_asked: AtomicBool::new(false),
         }
     }
 }
@@ -139,7 +142,7 @@ pub(crate) struct Running<'a, R> {
     /// Who looks at it: on the stats socket, by HTTP, and by what is said.
     pub stats: Option<&'a UnixListener>,
     pub metrics: Option<&'a TcpListener>,
-    pub reports: Reports,
+    pub reports: Reports<'a>,
     /// Where a signal that stops the run may wait, if one may.
     pub status: Option<&'a ProcessStatus>,
     /// Where its clocks begin.
@@ -224,6 +227,7 @@ impl<'r, R: Net + time::Clock> Program for Running<'r, R> {
     }
 
     fn stop(&self, drain: u64) {
+        self.board.stop_asked.store(true, Ordering::SeqCst);
         self.begin_drain(drain);
     }
 }

@@ -6,6 +6,7 @@ use crate::housekeeping::keep_tables;
 use crate::plan::Duties;
 use crate::reporting::report_on;
 use crate::running_program::{Running, ServiceCounts};
+use crate::saver::save_on;
 use crate::shared::{ProxyRuntime, Shared};
 use base_clock::{Clock, RunningClock};
 use base_sequence::NoMemory;
@@ -50,6 +51,8 @@ pub(crate) enum Duty {
     Stats,
     /// It is scraped.
     Metrics,
+    /// It saves the tables.
+    Saving,
     /// It reports.
     Reporting,
     /// It does the housekeeping.
@@ -85,6 +88,7 @@ impl<J: Naming> ServiceThread<J> {
             Duty::Commands => answer_commands(shared, names, seats, &mut self.served),
             Duty::Stats => answer_stats(shared, names, seats),
             Duty::Metrics => answer_scrapes(shared, names, seats),
+            Duty::Saving => save_seated(shared, names, seats),
             Duty::Reporting => report_seated(shared, names, seats),
             Duty::Housekeeping => keep_tables(shared, seats),
         };
@@ -271,6 +275,23 @@ fn answer_scrapes<T: Table, J: Naming, R: ProxyRuntime>(
     seats_of(tables, back)
 }
 
+/// Saves the tables as that is due until the proxy stops.
+fn save_seated<T: Table, J: Naming, R: ProxyRuntime>(
+    shared: &Shared<'_, T, J, R>,
+    names: Vec<Name>,
+    seats: Vec<SharedSeat<J>>,
+) -> Vec<SharedSeat<J>> {
+    let Some(path) = shared.running.reports.keep.save else {
+        return seats;
+    };
+    let Asked { tables, back } = match seat(shared, names, seats) {
+        Ok(asked) => asked,
+        Err(seats) => return seats,
+    };
+    save_on(shared, tables.as_slice(), path);
+    seats_of(tables, back)
+}
+
 /// Reports until the proxy stops.
 fn report_seated<T: Table, J: Naming, R: ProxyRuntime>(
     shared: &Shared<'_, T, J, R>,
@@ -322,6 +343,7 @@ pub(crate) fn make_service_threads<J: Naming>(
         (Duty::Commands, duties.commands),
         (Duty::Stats, duties.stats),
         (Duty::Metrics, duties.metrics),
+        (Duty::Saving, duties.saving),
         (Duty::Reporting, duties.reporting),
     ];
     for (duty, count) in counts {
