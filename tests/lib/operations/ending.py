@@ -3,7 +3,10 @@ import contextlib
 import os
 import re
 import signal
+import socket
 import subprocess
+import tempfile
+import threading
 import time
 
 from lib.calls import ADMITTED, calls_of_clients, ended_after
@@ -88,6 +91,80 @@ def who_can_not_be_stopped():
         assert proxy.program.poll() is None
 
 
+@contextlib.contextmanager
+def said_to_stop(end):
+    """A stats socket that tells of process 1, takes `stop`, and answers each later look as it is told: by bytes, or by going away."""
+    with tempfile.TemporaryDirectory() as room, socket.socket(socket.AF_UNIX) as listener:
+        path = os.path.join(room, 'stats')
+        listener.bind(path)
+        listener.listen()
+
+        def serve():
+            looks = 0
+            with contextlib.suppress(OSError):
+                while True:
+                    client, _ = listener.accept()
+                    with client:
+                        line = read_all(client).decode().strip()
+                        looks += line == ''
+                        if line:
+                            client.sendall(b'Pid: 1\n\n' if line == 'show info' else b'\n')
+                        elif looks < 3:
+                            client.sendall(b'Unknown command.\n\n')
+                        else:
+                            end(path, listener, client)
+
+        threading.Thread(target=serve, daemon=True).start()
+        yield path
+
+
+def stop_waits_by_the_socket():
+    """Whatever process has the number that the program tells, as one of another namespace may, the program is waited for by its socket:
+    by its last word and the end of that connection, or until the socket's file is gone."""
+    def goes(path, listener, _client):
+        os.unlink(path)
+        listener.close()
+
+    def dies(_path, listener, _client):
+        listener.close()
+
+    def says(words, after):
+        def say(_path, _listener, client):
+            client.sendall(words)
+            time.sleep(after)
+        return say
+
+    def stands(_path, _listener, client):
+        time.sleep(PATIENCE)
+
+    for end, status, said in ((goes, 0, ''), (says(b'Stopped.\n', 1), 0, ''),
+                              (says(b'Stopped, but not saved.\n', 0), 1, "stickd: the program at {} has stopped, and couldn't save its tables\n"),
+                              (dies, 1, 'stickd: the program at {} ended, and not in order\n')):
+        with said_to_stop(end) as path:
+            began = time.monotonic()
+            assert stop(path) == (status, said.format(path)), (said, stop)
+            assert (1 if 'says' in end.__qualname__ and status == 0 else 0) <= time.monotonic() - began < 8
+    with said_to_stop(stands) as path:
+        assert stop(path, '--timeout', '1s') == (1, f'stickd: the program at {path} has said nothing for 1000 ms\n')
+
+
+def who_stands_still_is_given_up():
+    """Of a program that stands still `ctl` and `stop` say so once their --timeout is over, and end with status 1."""
+    with watched() as proxy:
+        assert proxy.told('show table').startswith('# table: www')
+        with proxy.stopped():
+            for path, words in ((proxy.path, ('ctl', '--socket', proxy.path, '--timeout', '1s', 'show', 'table')),
+                                (proxy.stats, ('ctl', '--socket', proxy.stats, '--timeout', '1s', 'save')),
+                                (proxy.stats, ('stop', '--stats-socket', proxy.stats, '--timeout', '1s'))):
+                began = time.monotonic()
+                done = subprocess.run([stickd(), *words], stdin=subprocess.DEVNULL, capture_output=True, text=True, timeout=PATIENCE, check=False)
+                told = f'stickd: the program at {path} has said nothing for 1000 ms\n'
+                assert (done.returncode, done.stdout, done.stderr) == (1, '', told), done
+                assert 0.9 < time.monotonic() - began < 8
+        assert stop(proxy.stats, '--timeout', 'x')[0] == 2
+        assert proxy.program.poll() is None
+
+
 def blocked(kind):
     """Has the program begin with this signal blocked."""
     return lambda: signal.pthread_sigmask(signal.SIG_BLOCK, [kind])
@@ -158,5 +235,6 @@ def read_all_or_reset(stream):
     return True
 
 
-TRIALS = [a_frontend_is_shut_down, stop_waits_for_the_end, an_idle_program_stops_at_once, who_can_not_be_stopped,
+TRIALS = [a_frontend_is_shut_down, stop_waits_for_the_end, an_idle_program_stops_at_once, who_can_not_be_stopped, stop_waits_by_the_socket,
+          who_stands_still_is_given_up,
           a_blocked_signal_drains, killed_at_any_moment_it_starts_again, clients_of_all_threads_are_drained]
