@@ -1,5 +1,6 @@
 -- A file that is written anew: its folder, and what may lie in its place.
-use Rattle.std.specs.Prelude.{ℕ, Bool, true, false, ◌==◌, ◌+◌, Option, Some, None, option_map_or, List, [], ◌∷◌, take, codes, if◌then◌else◌}
+use Rattle.std.specs.Prelude.{ℕ, Bool, true, false, ◌==◌, ◌+◌, Option, Some, None, List, [], ◌∷◌, take, codes, if◌then◌else◌}
+use Rattle.std.specs.Option.{option_map_or}
 use Rattle.stickd_ctl.specs.declared.replacing.Lying.{Lying}
 use Rattle.stickd_ctl.specs.declared.replacing.Lying.TheVariants.{Nothing, File, Link, Folder, Other}
 

@@ -1,7 +1,7 @@
 //! A file that is written anew, whole: it is written beside its place under a name of its own, and takes the place once it lies on the
 //! disk. `saving` writes what it saves so, and `tcp_proxy` what its tables hold.
 
-ghost use Rattle.std.specs.Prelude.{◌≡◌, ◌<◌, ◌++◌, IfOk, IfSome, length, codes};
+ghost use Rattle.std.specs.Prelude.{◌≡◌, ◌<◌, ◌==◌, IfSome, Some, length, if◌then◌else◌};
 ghost use Rattle.stickd_ctl.specs.Replacing as spec;
 
 use os::FromRawFd;
