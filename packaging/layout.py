@@ -11,7 +11,7 @@ BUILT = os.path.join(TOP, 'crates', 'stickd', 'out', 'stickd')
 CONFIGURATION = 'etc/stickd/stickd.cfg'
 # What the sources name, and what stands in its place once it is installed.
 PROGRAM_OF_UNIT = '/usr/local/bin/stickd'
-EXAMPLE = 'examples/connection-limit.cfg'
+EXAMPLE = 'examples/both-families.cfg'
 # Where zsh looks for the completions of a distribution's packages, and of all others.
 OF_A_DISTRIBUTION, OF_OTHERS = 'vendor-completions', 'site-functions'
 

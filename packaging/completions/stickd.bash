@@ -54,7 +54,7 @@ _stickd() {
             choices=(-f)
             ;;
         "run -")
-            choices=(-W "--socket --threads --bind --shards --purge --ipv4-prefix --ipv6-prefix --load --save --connections --backlog --timeout-connect --retries --timeout-client --timeout-server --timeout-fin --keepalive --socket-mode --socket-group --socket-clients --timeout-socket --stats-socket --metrics --report --log-rejected --drain --stop-after --roll-at -h --help")
+            choices=(-W "--socket --threads --check --bind --shards --purge --ipv4-prefix --ipv6-prefix --load --save --connections --backlog --timeout-connect --retries --timeout-client --timeout-server --timeout-fin --keepalive --socket-mode --socket-group --socket-clients --timeout-socket --stats-socket --metrics --report --log-rejected --drain --stop-after --roll-at -h --help")
             ;;
         "run "*)
             compopt -o filenames 2>/dev/null

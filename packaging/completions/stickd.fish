@@ -44,6 +44,7 @@ complete -c stickd -n '__stickd_at replay' -F
 
 complete -c stickd -n '__stickd_at run' -l socket -r -F -d 'The Unix socket on which commands are answered'
 complete -c stickd -n '__stickd_at run' -l threads -x -d 'How many threads serve connections, 1 to 64'
+complete -c stickd -n '__stickd_at run' -l check -d 'Look at all that a start looks at, say what it would, and start nothing'
 complete -c stickd -n '__stickd_at run' -l bind -x -d 'Listen there too; may be given 16 times. dst_port is the port that a client came to'
 complete -c stickd -n '__stickd_at run' -l shards -x -d 'In how many parts each table is kept, 1 to 64 [default: 1]'
 complete -c stickd -n '__stickd_at run' -l purge -x -d 'How many of its oldest entries a full table removes for a new one, 1 to 1024 [default: 1]'

@@ -342,7 +342,14 @@ fn serve<R: ProxyRuntime + Files + AllocGlobal + Eprint + RandomSource + Env + P
         Ok(binds) => binds,
         Err(bad) => return refuse(rt, bad),
     };
-    let plan = match read_plan(arguments, binds.as_slice(), read_surroundings(rt)) {
+    let surroundings = match read_surroundings(rt) {
+        Ok(surroundings) => surroundings,
+        Err(fault) => {
+            eprintln!(rt; "stickd: {fault}")?;
+            return Ok(ExitCode::FAILURE);
+        }
+    };
+    let plan = match read_plan(arguments, binds.as_slice(), &surroundings) {
         Ok(plan) => plan,
         Err(bad) => return refuse(rt, bad),
     };

@@ -8,7 +8,7 @@ use rule_addresses::{Endpoint, read_bind};
 use rule_words::read_time;
 use std::alloc::Global;
 use stickd_input::{
-    BIND, CLIENT, CONNECT, DRAIN, FIN, KEEPALIVE, LOAD, LOG_REJECTED, METRICS, REPORT, SAVE,
+    BIND, CHECK, CLIENT, CONNECT, DRAIN, FIN, KEEPALIVE, LOAD, LOG_REJECTED, METRICS, REPORT, SAVE,
     SERVER, SOCKET, STATS, VERSION,
 };
 use table_socket::read_mode;
@@ -190,7 +190,7 @@ pub fn read_drain<'a>(arguments: &ArgMatches<'a>) -> Result<u64, BadWord<'a>> {
 pub fn read_plan<'a>(
     arguments: &'a ArgMatches<'_>,
     more_binds: &'a [Endpoint],
-    manager: Surroundings,
+    manager: &'a Surroundings,
 ) -> Result<Plan<'a>, BadWord<'a>>
     ensures threads { IfOk result (λ plan. (1 ≤ plan.threads) × (plan.threads ≤ 64)) }
     ensures backlog { IfOk result (λ plan. (1 ≤ plan.backlog) × (plan.backlog ≤ 2147483647)) }
@@ -240,6 +240,7 @@ pub fn read_plan<'a>(
         },
         drain: read_drain(arguments)?,
         manager,
+        is_check: arguments.get_flag(CHECK),
         roll_at: u64::from(arguments.get_one::<u32>("roll-at").unwrap_or(65_536)),
     })
 }

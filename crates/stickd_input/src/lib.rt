@@ -29,7 +29,7 @@ pub use command_line::{VERSION, read_command_line};
 use explanation::{explain_fault, explain_warnings};
 pub use keeping::{Keeping, read_keeping};
 pub use options::{
-    BIND, CLIENT, CONNECT, DRAIN, FIN, KEEPALIVE, LOAD, LOG_REJECTED, METRICS, REPORT, SAVE,
+    BIND, CHECK, CLIENT, CONNECT, DRAIN, FIN, KEEPALIVE, LOAD, LOG_REJECTED, METRICS, REPORT, SAVE,
     SERVER, SOCKET, STATS,
 };
 use rule_config::{ConfigFault, read_config};
@@ -221,12 +221,23 @@ fn setup_of(alloc: Global, config: &Config, shards: u32) -> Result<Setup, NoMemo
     config.proxy(alloc, shards)
 }
 
-/// Says that a table has fewer places than shards.
-fn report_narrow<R: Eprint>(rt: &R, named: &NamedSpec) -> io::Result<()> {
-    match str::from_utf8(named.name.as_slice()) {
-        Ok(name) => eprintln!(rt; "stickd: table {name} has fewer places than shards"),
-        Err(_) => eprintln!(rt; "stickd: a table has fewer places than shards"),
+/// Says that a table has fewer places than there are shards, and how much of that is asked: to whoever starts a proxy also both numbers,
+/// and what to write.
+fn report_narrow<R: Eprint>(
+    rt: &R,
+    named: &NamedSpec,
+    shards: u32,
+    detail: Detail,
+) -> io::Result<()> {
+    let name = str::from_utf8(named.name.as_slice()).unwrap_or("?");
+    if detail == Detail::Short {
+        return eprintln!(rt; "stickd: table {name} has fewer places than shards");
     }
+    let size = named.spec.size;
+    eprint!(rt;
+        "stickd: table {name} has fewer places than shards: {size}, and there are {shards} shards. "
+    )?;
+    eprintln!(rt; "Give --shards {size} or fewer, or its stick-table a size of {shards} or more")
 }
 
 /// A setup, each table of which is kept in this way. None where there was no memory for it, or a table has fewer places than
@@ -235,6 +246,7 @@ fn kept_so<R: Eprint>(
     rt: &R,
     made: Result<Setup, NoMemory>,
     keeping: Keeping,
+    detail: Detail,
 ) -> io::Result<Option<Setup>>
     requires purge { (1 ≤ keeping.purge) × (keeping.purge ≤ 1024) }
     requires limits { IfOk made (λ setup. AreTableSpecs setup.tables) }
@@ -251,7 +263,7 @@ fn kept_so<R: Eprint>(
         .with_purge(keeping.purge)
         .with_prefixes(keeping.prefixes);
     if let Some(narrow) = setup.narrow_table() {
-        report_narrow(rt, narrow)?;
+        report_narrow(rt, narrow, setup.shards, detail)?;
         return Ok(None);
     }
     Ok(Some(setup))
@@ -276,7 +288,7 @@ pub fn open_setup<R: Files + Eprint + AllocGlobal>(
         },
         None => built_in_setup(rt.alloc(), keeping.shards),
     };
-    kept_so(rt, made, keeping)
+    kept_so(rt, made, keeping, Detail::Short)
 }
 
 /// The first section that listens.
@@ -324,5 +336,6 @@ pub fn open_served<R: Eprint + AllocGlobal>(
     ensures opens { IfOk result (λ opened. IfSome opened CanOpen) }
     ensures prefixes { IfOk result (λ opened. IfSome opened (λ setup. setup.prefixes ≡ keeping.prefixes)) }
 {
-    kept_so(rt, setup_of(rt.alloc(), config, keeping.shards), keeping)
+    let made = setup_of(rt.alloc(), config, keeping.shards);
+    kept_so(rt, made, keeping, Detail::Started)
 }

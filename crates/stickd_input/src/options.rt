@@ -46,6 +46,9 @@ pub const SAVE: &str = "save";
 /// The option that has rejected connections told.
 pub const LOG_REJECTED: &str = "log-rejected";
 
+/// The option by which a run is only tried.
+pub const CHECK: &str = "check";
+
 /// The option that says in how many parts each table is kept.
 pub(crate) fn shards_option<'a>(alloc: Global) -> Arg<'a> {
     count_option(
@@ -92,6 +95,15 @@ pub(crate) fn ipv4_prefix_option<'a>(alloc: Global) -> Arg<'a> {
         "How many of an IPv4 source's first bits count where it is a key, 1 to 32",
     )
     .default_value("32")
+}
+
+/// The option by which a run is only tried.
+pub(crate) fn check_option<'a>(alloc: Global) -> Arg<'a> {
+    flag_option(
+        alloc,
+        CHECK,
+        "Look at all that a start looks at, say what it would, and start nothing",
+    )
 }
 
 /// The file of entries that are made first.

@@ -4,3 +4,4 @@ pub mod Ending
 pub mod Opened
 pub mod Saying
 pub mod Watching
+pub mod Places

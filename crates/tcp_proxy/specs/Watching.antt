@@ -1,5 +1,7 @@
 -- Who looks at a run while it goes on, and which threads that takes.
 use Rattle.std.specs.Prelude.{ℕ, Bool, ◌&&◌, ◌||◌, is_some, if◌then◌else◌}
+use Rattle.tcp_watch.specs.Handed.{has}
+use Rattle.tcp_watch.specs.declared.handed.Purpose.TheVariants.{Stats}
 use Rattle.tcp_watch.specs.declared.surroundings.Surroundings.{Surroundings}
 use Rattle.tcp_proxy.specs.declared.plan.WatchPlan.{WatchPlan}
 use Rattle.tcp_proxy.specs.declared.plan.Duties.{Duties}
@@ -7,7 +9,7 @@ use Rattle.tcp_proxy.specs.declared.plan.TheConstants.{METRICS_CLIENTS, STATS_CL
 
 -- a stats socket is asked for, or handed over
 abbrev pub has_stats : WatchPlan → Surroundings → Bool
-has_stats watch manager = is_some watch.stats || is_some manager.handed.stats
+has_stats watch manager = is_some watch.stats || has Stats manager.handed
 
 abbrev pub is_watched : WatchPlan → Surroundings → Bool
 is_watched watch manager = has_stats watch manager || is_some watch.report || is_some watch.metrics || watch.log_rejected

@@ -10,6 +10,7 @@ use log::{Log, warn};
 use rule_model::Setup;
 use std::alloc::Global;
 use std::rt::Files;
+use std::time::{Clock, SystemTime};
 use std::{fs, str};
 use tcp_relay::{Control, Drain, socket_address};
 use tcp_stats::{Cells, Gauge, LastTimes};
@@ -34,6 +35,8 @@ pub(crate) struct Instruments {
     status: Option<ProcessStatus>,
     node: Vec<u8>,
     server: String,
+    /// When the program began, in ms since 1970, where that can be told.
+    started: Option<u64>,
 }
 
 /// The cells of so many threads.
@@ -86,6 +89,13 @@ fn read_node<R: ProxyRuntime + Files + AllocGlobal + Eprint>(alloc: Global, rt: 
     }
 }
 
+/// The moment, in ms since 1970. None where no clock tells it.
+fn moment_since_1970(rt: &impl Clock) -> Option<u64> {
+    let now = SystemTime::now(rt).ok()?;
+    let passed = now.duration_since(SystemTime::UNIX_EPOCH).ok()?;
+    u64::try_from(passed.as_millis()).ok()
+}
+
 /// The address of the server, as it is told.
 fn server_text(alloc: Global, setup: &Setup) -> Result<String, NoMemory> {
     match setup.server {
@@ -117,6 +127,7 @@ impl Instruments {
             status: open_status(),
             node: read_node(alloc, rt),
             server: server_text(alloc, setup)?,
+            started: moment_since_1970(rt),
         })
     }
 
@@ -152,8 +163,8 @@ impl Instruments {
             connections: plan.limits.connections,
             control: self.control(),
             board: &self.board,
-            listeners: sockets.listeners.as_slice(),
-            is_handed: plan.manager.handed.listener.is_some(),
+            listeners: sockets.listeners.each.as_slice(),
+            handed: sockets.listeners.handed,
             drain: plan.drain,
             notifier: self.notifier.as_ref(),
             stats: sockets.stats.as_ref().map(|stats| &stats.listener),
@@ -161,6 +172,7 @@ impl Instruments {
             reports: reports_of(plan),
             status: self.status.as_ref(),
             start: sockets.start,
+            started: self.started,
         }
     }
 }

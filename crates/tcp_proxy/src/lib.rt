@@ -4,6 +4,7 @@
 mod binding;
 mod counted;
 mod ending;
+mod handing;
 mod housekeeping;
 mod instruments;
 mod keeping;
@@ -17,6 +18,7 @@ mod service_threads;
 mod serving;
 mod shared;
 mod sockets;
+mod start_warnings;
 mod table_end;
 mod timetable;
 

@@ -5,7 +5,7 @@ ghost use Rattle.tcp_proxy.specs.Watching as spec;
 
 use rule_addresses::Endpoint;
 use tcp_relay::Limits;
-use tcp_watch::Surroundings;
+use tcp_watch::{Purpose, Surroundings, has_handed};
 
 /// How many clients of the stats socket are answered at once.
 pub const STATS_CLIENTS: u32 = 4;
@@ -97,20 +97,22 @@ pub struct Plan<'a> {
     /// How long open connections go on once the proxy drains, in ms.
     pub drain: u64,
     /// What the service manager hands over, and wants to hear.
-    pub manager: Surroundings,
+    pub manager: &'a Surroundings,
+    /// Whether the run is only tried: all that a start looks at is looked at, and nothing is bound.
+    pub is_check: bool,
 }
 
 impl<'a> Plan<'a> {
     /// Whether there is a stats socket: its own, or one that is handed over.
     pub(crate) fn has_stats(&self) -> bool
-        ensures { result ≡ spec.has_stats self.now.watch self.now.manager }
+        ensures { result ≡ spec.has_stats self.now.watch self.now.manager.now }
     {
-        self.watch.stats.is_some() || self.manager.handed.stats.is_some()
+        self.watch.stats.is_some() || has_handed(self.manager.handed.as_slice(), Purpose::Stats)
     }
 
     /// Whether somebody looks at the run while it goes on: then its threads publish what they count, and what goes wrong is said.
     pub(crate) fn is_watched(&self) -> bool
-        ensures { result ≡ spec.is_watched self.now.watch self.now.manager }
+        ensures { result ≡ spec.is_watched self.now.watch self.now.manager.now }
     {
         self.has_stats()
             || self.watch.report.is_some()
@@ -120,7 +122,7 @@ impl<'a> Plan<'a> {
 
     /// How many threads there are beside the listener and the housekeeping, by what they do. A signal that is blocked is looked for.
     pub(crate) fn duties(&self, is_stop_blocked: bool) -> Duties
-        ensures { result ≡ spec.duties_of self.now.socket.clients self.now.watch self.now.manager is_stop_blocked }
+        ensures { result ≡ spec.duties_of self.now.socket.clients self.now.watch self.now.manager.now is_stop_blocked }
     {
         let is_alive_asked = self.manager.notify.is_some() && self.manager.watchdog.is_some();
         Duties {

@@ -14,11 +14,11 @@ use crate::service_threads::{NOBODY, ServiceThread, make_service_threads};
 use crate::serving::serve_all;
 use crate::shared::{ProxyRuntime, Shared};
 use crate::sockets::{Sockets, bind_sockets};
+use crate::start_warnings::{check_start, warn_of_start};
 use base_sequence::NoMemory;
 use log::{Log, info};
 use rule_addresses::Endpoint;
 use rule_model::Setup;
-use rule_warnings::{StartPlan, Warning, allowed_descriptors, warnings_of};
 use shard_locks::{Shards, SharedSeat};
 use shard_record::Naming;
 use std::alloc::Global;
@@ -167,15 +167,17 @@ fn start<
         report(rt, FaultKind::NoMemory)?;
         return Ok(false);
     };
-    let Ok(warnings) = warnings_of(alloc, setup, start_plan(plan, allowed_descriptors())) else {
-        report(rt, FaultKind::NoMemory)?;
-        return Ok(false);
-    };
+    if plan.is_check {
+        return check_start(alloc, rt, setup, bind, plan);
+    }
     let Some(mut sockets) = bind_sockets(alloc, rt, bind, plan)? else {
         return Ok(false);
     };
     sockets.start.moment = begins_at(setup, plan);
-    say_warnings(rt, warnings.as_slice());
+    if !warn_of_start(alloc, rt, setup, plan, sockets.takes_ipv6())? {
+        sockets.remove_files(rt, plan);
+        return Ok(false);
+    }
     serve_and_settle(
         alloc,
         rt,
@@ -195,30 +197,6 @@ fn begins_at(setup: &Setup, plan: Plan<'_>) -> u32 {
     match plan.keep.load {
         Some(_path) => longest_life(setup),
         None => 0,
-    }
-}
-
-/// Says on standard error what may surprise whoever starts it so, a warning a line. Whether that can be said changes nothing.
-fn say_warnings<R: Eprint>(rt: &R, warnings: &[Warning]) {
-    for warning in warnings {
-        let _ = eprintln!(rt; "stickd: warning: {warning}");
-    }
-}
-
-/// What a run is warned of by, where the process may have so many descriptors.
-fn start_plan(plan: Plan<'_>, descriptors: Option<u64>) -> StartPlan
-    ensures numbers { (result.connections ≡ plan.entry.limits.connections) × (result.threads ≡ plan.entry.threads) × (result.socket_clients ≡ plan.entry.socket.clients) }
-    ensures descriptors { result.descriptors ≡ descriptors }
-    ensures client { result.has_client_timeout ≡ is_some plan.entry.limits.timeouts.client }
-    ensures server { result.has_server_timeout ≡ is_some plan.entry.limits.timeouts.server }
-{
-    StartPlan {
-        connections: plan.limits.connections,
-        threads: plan.threads,
-        socket_clients: plan.socket.clients,
-        descriptors,
-        has_client_timeout: plan.limits.timeouts.client.is_some(),
-        has_server_timeout: plan.limits.timeouts.server.is_some(),
     }
 }
 
@@ -297,7 +275,7 @@ fn serve_and_settle<
         rt,
         setup,
         tables: tables.as_slice(),
-        listeners: sockets.listeners.as_slice(),
+        listeners: sockets.listeners.each.as_slice(),
         socket: &sockets.socket.listener,
         silence: plan.socket.timeout,
         threads: plan.threads,

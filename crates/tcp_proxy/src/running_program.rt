@@ -6,13 +6,14 @@ ghost use Rattle.tcp_proxy.specs.Draining.{shutdown_of};
 use crate::plan::About;
 use crate::reporting::Reports;
 use base_clock::{Clock, RunningClock, Start};
+use rule_warnings::allowed_descriptors;
 use std::net::{Net, TcpListener};
 use std::os::unix::net::UnixListener;
 use std::sync::atomic::{AtomicU64, Ordering};
 use std::time;
 use tcp_relay::{Control, Listener};
-use tcp_stats::{Count, Counts, Rate, Snapshot, TableFacts};
-use tcp_watch::{Notice, Notifier, ProcessStatus, Program, Shutdown};
+use tcp_stats::{Count, Counts, ProcessFacts, Rate, Snapshot, TableFacts};
+use tcp_watch::{Notice, Notifier, ProcessStatus, Program, Shutdown, ask_process};
 
 /// What the threads beside the listener count. Each adds to it, and readers see it at any time.
 #[derive(Drop)]
@@ -131,8 +132,8 @@ pub(crate) struct Running<'a, R> {
     pub control: Control<'a>,
     pub board: &'a Board,
     pub listeners: &'a [Listener],
-    /// Whether the first listener is the service manager's, who goes on listening there.
-    pub is_handed: bool,
+    /// How many listeners, the first ones, are the service manager's, who goes on listening there.
+    pub handed: usize,
     /// How long open connections go on once the proxy drains, in ms.
     pub drain: u64,
     pub notifier: Option<&'a Notifier>,
@@ -144,6 +145,8 @@ pub(crate) struct Running<'a, R> {
     pub status: Option<&'a ProcessStatus>,
     /// Where its clocks begin.
     pub start: Start,
+    /// When the program began, in ms since 1970, where that can be told.
+    pub started: Option<u64>,
 }
 
 impl<'a, R: Net + time::Clock> Running<'a, R> {
@@ -176,12 +179,11 @@ impl<'a, R: Net + time::Clock> Running<'a, R> {
     }
 
     /// Begins to drain for so many ms: no client is accepted any more, and the listeners refuse those that come. At the service
-    /// manager's they wait for the next program.
+    /// manager's listeners they wait for the next program.
     pub fn begin_drain(&self, drain: u64) {
         let until = self.now().saturating_add(drain);
         self.control.drain.begin(until);
-        let own = usize::from(self.is_handed);
-        for listener in self.listeners.iter().skip(own) {
+        for listener in self.listeners.iter().skip(self.handed) {
             listener.refuse(self.rt);
         }
         self.notify(Notice::Stopping.bytes());
@@ -209,6 +211,10 @@ impl<'r, R: Net + time::Clock> Program for Running<'r, R> {
             server: self.server,
             tables,
         }
+    }
+
+    fn process(&self) -> ProcessFacts {
+        ask_process(allowed_descriptors(), self.started)
     }
 
     fn shut_down(&self, frontend: &[u8]) -> Shutdown {

@@ -1,6 +1,8 @@
 //! The threads beside the listener: one does housekeeping, one reports, others answer clients of the sockets; `running` makes them,
 //! and `serving` starts them.
 
+ghost use Rattle.std.specs.Prelude.{◌≡◌, None};
+
 use crate::counted::Counted;
 use crate::housekeeping::keep_tables;
 use crate::plan::Duties;
@@ -22,7 +24,7 @@ use std::time::{self, Duration};
 use std::{mem, thread};
 use stick_table::Table;
 use table_cli::CommandService;
-use table_socket::{Served, serve_clients};
+use table_socket::{Served, Times, serve_clients};
 use tcp_watch::{MetricsService, Program, StatsService, Teller};
 
 /// How long a thread rests where there is no memory for it, in ms.
@@ -31,8 +33,24 @@ const NAP: u64 = 50;
 /// How long a client of the stats socket may send or take nothing, in ms.
 const STATS_SILENCE: u64 = 10_000;
 
-/// How long a client that scrapes metrics may send or take nothing, in ms.
-const METRICS_SILENCE: u64 = 2_000;
+/// How long a scrape of metrics may take, from the accept to the end of its answer, in ms.
+const SCRAPE_TIME: u64 = 5_000;
+
+/// How long a client that scrapes metrics is waited for.
+const SCRAPE_TIMES: Times = Times {
+    silence: SCRAPE_TIME,
+    whole: Some(SCRAPE_TIME),
+};
+
+/// How long a client of a Unix socket is waited for that may send or take nothing for so many ms.
+fn unix_times(silence: u64) -> Times
+    ensures { result ≡ record { silence = silence; whole = None } }
+{
+    Times {
+        silence,
+        whole: None,
+    }
+}
 
 /// No client yet.
 pub(crate) const NOBODY: Served = Served {
@@ -163,7 +181,7 @@ fn serve_commands<K: Keeper, C: Clock + Drop, R: Wait + time::Clock>(
     silence: u64,
 ) -> (Vec<Named<K>>, Served) {
     let mut counted = Counted::new(service, counts);
-    let served = serve_clients(rt, listener, &mut counted, stop, silence);
+    let served = serve_clients(rt, listener, &mut counted, stop, unix_times(silence));
     (counted.into_service().tables, served)
 }
 
@@ -176,7 +194,7 @@ fn serve_stats<K: Keeper, C: Clock + Drop, P: Program, R: Wait + time::Clock>(
     stop: &AtomicBool,
 ) -> Vec<Named<K>> {
     let mut counted = Counted::new(StatsService { teller }, counts);
-    let _ = serve_clients(rt, listener, &mut counted, stop, STATS_SILENCE);
+    let _ = serve_clients(rt, listener, &mut counted, stop, unix_times(STATS_SILENCE));
     counted.into_service().teller.tables
 }
 
@@ -188,7 +206,7 @@ fn serve_scrapes<K: Keeper, C: Clock + Drop, P: Program, R: Wait + time::Clock>(
     stop: &AtomicBool,
 ) -> Vec<Named<K>> {
     let mut service = MetricsService { teller };
-    let _ = serve_clients(rt, listener, &mut service, stop, METRICS_SILENCE);
+    let _ = serve_clients(rt, listener, &mut service, stop, SCRAPE_TIMES);
     service.teller.tables
 }
 

@@ -1,7 +1,8 @@
 //! Where connections and commands come in, and those that look at the proxy; `running` binds all by it.
 
 use crate::binding::{BindFault, say_unbound};
-use crate::listeners::bind_listeners;
+use crate::handing::{check_handed, say_unserved};
+use crate::listeners::{BoundListeners, bind_listeners};
 use crate::plan::{Plan, SocketPlan, StatsPlan};
 use crate::shared::ProxyRuntime;
 use base_clock::Start;
@@ -19,7 +20,7 @@ use table_socket::{
     Access, BoundSocket, FileId, bind_socket, group_number, patient_tcp, patient_unix, remove_own,
 };
 use tcp_relay::{Listener, socket_address};
-use tcp_watch::take_unix;
+use tcp_watch::{HandedSocket, Purpose, first_handed, take_unix};
 
 /// A Unix socket that listens, and the file that the proxy made for it, if it did.
 #[derive(Drop)]
@@ -31,8 +32,7 @@ pub(crate) struct Socket {
 /// Where connections and commands come in, and those that look at the proxy.
 #[derive(Drop)]
 pub(crate) struct Sockets {
-    /// That of the configuration first.
-    pub listeners: Vec<Listener>,
+    pub listeners: BoundListeners,
     pub socket: Socket,
     pub stats: Option<Socket>,
     pub metrics: Option<TcpListener>,
@@ -61,24 +61,26 @@ fn bind_all<R: ProxyRuntime + Files + AllocGlobal + Eprint>(
     bind: Endpoint,
     plan: Plan<'_>,
 ) -> Result<Sockets, BindFault> {
+    let handed = plan.manager.handed.as_slice();
+    check_handed(rt, handed)?;
     let access = access_of(rt, plan.socket)?;
     let listeners = bind_listeners(alloc, rt, bind, plan)?;
     let metrics = match plan.watch.metrics {
         Some(place) => Some(bind_metrics(rt, place)?),
         None => None,
     };
-    let stats = match (plan.manager.handed.stats, plan.watch.stats) {
-        (Some(number), _) => Some(take_socket(rt, number)?),
+    let stats = match (first_handed(handed, Purpose::Stats), plan.watch.stats) {
+        (Some(socket), _) => Some(take_socket(rt, socket)?),
         (None, Some(stats)) => Some(bind_stats(rt, stats)?),
         (None, None) => None,
     };
     let start = Start::at(Instant::now(rt)?);
     let path = plan.socket.path;
-    let socket = match plan.manager.handed.commands {
-        Some(number) => take_socket(rt, number)?,
+    let socket = match first_handed(handed, Purpose::Commands) {
+        Some(socket) => take_socket(rt, socket)?,
         None => bind_unix(rt, path, access)?,
     };
-    say_places(rt, bind, plan);
+    say_places(rt, listeners.each.as_slice(), plan);
     Ok(Sockets {
         listeners,
         socket,
@@ -88,15 +90,21 @@ fn bind_all<R: ProxyRuntime + Files + AllocGlobal + Eprint>(
     })
 }
 
-/// Says where clients come in.
+/// Says where a listener is. Whether that can be said changes nothing.
+fn say_listener<R: Log>(rt: &R, listener: &Listener) {
+    if let Ok(address) = listener.socket.local_addr() {
+        info!(rt; "listening on {address}");
+    }
+}
+
+/// Says where clients come in, and who is answered: at the first listener last.
 fn say_places<R: ProxyRuntime + Files + AllocGlobal + Eprint>(
     rt: &R,
-    bind: Endpoint,
+    listeners: &[Listener],
     plan: Plan<'_>,
 ) {
-    for further in plan.more_binds {
-        let address = socket_address(*further);
-        info!(rt; "listening on {address}");
+    for further in listeners.iter().skip(1) {
+        say_listener(rt, further);
     }
     if let Some(stats) = plan.watch.stats {
         let path = stats.path;
@@ -106,9 +114,12 @@ fn say_places<R: ProxyRuntime + Files + AllocGlobal + Eprint>(
         let address = socket_address(place);
         info!(rt; "metrics on http://{address}/metrics");
     }
-    let address = socket_address(bind);
-    let path = plan.socket.path;
-    info!(rt; "listening on {address}, for commands on {path}");
+    if let Some(first) = listeners.first() {
+        if let Ok(address) = first.socket.local_addr() {
+            let path = plan.socket.path;
+            info!(rt; "listening on {address}, for commands on {path}");
+        }
+    }
 }
 
 /// Binds a Unix socket at a path.
@@ -141,14 +152,14 @@ fn bind_stats<R: ProxyRuntime + Files + AllocGlobal + Eprint>(
 /// Takes a Unix socket that the service manager hands over, whose file is the manager's own.
 fn take_socket<R: ProxyRuntime + Files + AllocGlobal + Eprint>(
     rt: &R,
-    number: u32,
+    socket: &HandedSocket,
 ) -> Result<Socket, BindFault> {
-    match take_patient(number) {
+    match take_patient(socket.number) {
         Ok(listener) => Ok(Socket {
             listener,
             file: None,
         }),
-        Err(reason) => Err(say_unbound(rt, "a socket that was handed over", reason)),
+        Err(reason) => Err(say_unserved(rt, socket, reason)),
     }
 }
 
@@ -186,6 +197,15 @@ impl Socket {
 }
 
 impl Sockets {
+    /// Whether clients come with IPv6 addresses, those of IPv4 with mapped ones: whether a listener is at an address of IPv6.
+    pub fn takes_ipv6(&self) -> bool {
+        let mut listeners = self.listeners.each.iter();
+        listeners.any(|listener| match listener.socket.local_addr() {
+            Ok(address) => address.is_ipv6(),
+            Err(_) => false,
+        })
+    }
+
     /// Removes the files that were made.
     pub fn remove_files<R: ProxyRuntime + Files + AllocGlobal + Eprint>(
         &self,
@@ -199,8 +219,8 @@ impl Sockets {
     }
 }
 
-/// Who may connect to the command socket.
-fn access_of<R: ProxyRuntime + Files + AllocGlobal + Eprint>(
+/// Who may connect to the command socket. A group that isn't there is said.
+pub(crate) fn access_of<R: ProxyRuntime + Files + AllocGlobal + Eprint>(
     rt: &R,
     socket: SocketPlan<'_>,
 ) -> Result<Access, BindFault> {

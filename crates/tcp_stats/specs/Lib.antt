@@ -12,3 +12,4 @@ pub mod Readings
 pub mod Metrics
 pub mod Report
 pub mod Trouble
+pub mod Process

@@ -4,3 +4,4 @@ pub mod Pending
 pub mod Rhythms
 pub mod Watchdog
 pub mod Conversations
+pub mod ProcessStats

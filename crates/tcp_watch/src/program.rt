@@ -1,6 +1,6 @@
 //! The trait `Program`, what the stats ask of the running program; `tcp_proxy` implements it.
 
-use tcp_stats::{Snapshot, TableFacts};
+use tcp_stats::{ProcessFacts, Snapshot, TableFacts};
 
 /// What becomes of the wish that a frontend takes no more clients.
 #[derive(Clone, Copy, Debug, PartialEq, Eq)]
@@ -17,6 +17,9 @@ pub enum Shutdown {
 pub trait Program {
     /// What is known of it now, with these facts of its tables.
     fn snapshot<'a>(&'a self, tables: &'a [TableFacts<'a>]) -> Snapshot<'a>;
+
+    /// What the system says of its process now.
+    fn process(&self) -> ProcessFacts;
 
     /// Has the frontend of a name take no more clients. Where that is this program's, it ends once those that it has are gone, or
     /// once its time for that is over.

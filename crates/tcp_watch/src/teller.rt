@@ -8,7 +8,7 @@ use base_sequence::NoMemory;
 use shard_book::{Keeper, Named};
 use std::alloc::Global;
 use table_texts::Message;
-use tcp_stats::{Snapshot, push_info, push_metrics, push_report, push_stat};
+use tcp_stats::{Snapshot, push_info, push_metrics, push_process, push_report, push_stat};
 
 /// What is told.
 #[derive(Clone, Copy, Debug, PartialEq, Eq)]
@@ -17,7 +17,7 @@ pub enum Told {
     Info,
     /// The answer to `show stat`.
     Stat,
-    /// All metrics, as Prometheus reads them.
+    /// The program's own metrics, as Prometheus reads them.
     Metrics,
     /// One line of a report.
     Report,
@@ -52,9 +52,18 @@ impl<'p, K: Keeper, C: Clock, P: Program> Teller<'p, K, C, P> {
         };
         let snapshot = self.program.snapshot(facts.as_slice());
         let mut text = Vec::new(self.alloc);
-        match push_told(&mut text, told, &snapshot) {
-            Ok(()) => Ok(text),
-            Err(_) => Err(Message::OutOfMemory),
+        if push_told(&mut text, told, &snapshot).is_err() {
+            return Err(Message::OutOfMemory);
         }
+        Ok(text)
+    }
+
+    /// All metrics, as Prometheus reads them: those of the program, and those of its process after them.
+    pub fn tell_metrics(&mut self) -> Result<Vec<u8>, Message> {
+        let mut text = self.tell(Told::Metrics)?;
+        if push_process(&mut text, &self.program.process()).is_err() {
+            return Err(Message::OutOfMemory);
+        }
+        Ok(text)
     }
 }

@@ -127,8 +127,20 @@ stickd_table_entries{table="www"} 2
 stickd_table_references{table="www"} 0
 # TYPE stickd_table_purged_entries_total counter
 stickd_table_purged_entries_total{table="www"} 0
+# TYPE process_cpu_seconds_total counter
+process_cpu_seconds_total *
+# TYPE process_open_fds gauge
+process_open_fds *
+# TYPE process_max_fds gauge
+process_max_fds *
+# TYPE process_virtual_memory_bytes gauge
+process_virtual_memory_bytes *
+# TYPE process_resident_memory_bytes gauge
+process_resident_memory_bytes *
+# TYPE process_start_time_seconds gauge
+process_start_time_seconds *
 '''
-VARYING_METRICS = 'stickd_(?:uptime_seconds|commands_total|rolls_total|expiries_total)'
+VARYING_METRICS = 'stickd_(?:uptime_seconds|commands_total|rolls_total|expiries_total)|process_[a-z_]+'
 
 
 @contextlib.contextmanager
@@ -168,8 +180,8 @@ def metrics_are_those_of_prometheus():
     """Each metric has a line that says what it is, then one of its type, then its samples."""
     with two_came() as (proxy, _):
         text = proxy.fetched(b'GET /metrics HTTP/1.1\r\nHost: here\r\n\r\n')[2]
-        assert len(re.findall(r'^# HELP (\w+) [A-Z].+\.\n# TYPE \1 ', text, re.M)) == text.count('# HELP ') == 27, text
-        shown = re.sub(f'^({VARYING_METRICS}) [0-9]+$', r'\1 *', re.sub(r'^# HELP .*\n', '', text, flags=re.M), flags=re.M)
+        assert len(re.findall(r'^# HELP (\w+) [A-Z].+\.\n# TYPE \1 ', text, re.M)) == text.count('# HELP ') == 33, text
+        shown = re.sub(f'^({VARYING_METRICS}) [0-9.]+$', r'\1 *', re.sub(r'^# HELP .*\n', '', text, flags=re.M), flags=re.M)
         assert shown == METRICS, shown
 
 
@@ -179,7 +191,7 @@ REQUESTS = [
     ('GET /metrics?name=a HTTP/1.1\r\n\r\n', 200), ('\r\nGET /metrics HTTP/1.1\r\n\r\nbody', 200),
     (f'GET /metrics HTTP/1.1\r\nA: {"a" * 8_162}\r\n\r\n', 200), (f'GET /metrics HTTP/1.1\r\nA: {"a" * 8_163}\r\n\r\n', 400),
     ('GET / HTTP/1.1\r\n\r\n', 404), ('GET /metrics/ HTTP/1.1\r\n\r\n', 404), ('POST /other HTTP/1.1\r\n\r\n', 404),
-    ('POST /metrics HTTP/1.1\r\n\r\n', 405), ('HEAD /metrics HTTP/1.1\r\n\r\n', 405), ('get /metrics HTTP/1.1\r\n\r\n', 405),
+    ('POST /metrics HTTP/1.1\r\n\r\n', 405), ('PUT /metrics HTTP/1.1\r\n\r\n', 405), ('get /metrics HTTP/1.1\r\n\r\n', 405),
     ('GET /metrics HTTP/2.0\r\n\r\n', 400), ('\1\2\r\n\r\n', 400),
 ]
 # The heads and the bodies of the answers, by their status; the metrics stand elsewhere.
@@ -188,7 +200,7 @@ ANSWERS = {
     200: 'HTTP/1.1 200 OK\r\nContent-Type: text/plain; version=0.0.4; charset=utf-8\r\nContent-Length: {}\r\nConnection: close',
     400: f'HTTP/1.1 400 Bad Request\r\n{PLAIN}\r\nContent-Length: 37\r\nConnection: close',
     404: f'HTTP/1.1 404 Not Found\r\n{PLAIN}\r\nContent-Length: 29\r\nConnection: close',
-    405: f'HTTP/1.1 405 Method Not Allowed\r\n{PLAIN}\r\nContent-Length: 29\r\nAllow: GET\r\nConnection: close',
+    405: f'HTTP/1.1 405 Method Not Allowed\r\n{PLAIN}\r\nContent-Length: 29\r\nAllow: GET, HEAD\r\nConnection: close',
 }
 BODIES = {400: 'This is no request that can be read.\n', 404: 'The metrics are at /metrics.\n', 405: 'The metrics are read by GET.\n'}
 
