@@ -7,10 +7,10 @@ use crate::help::{ADOPT_HELP, CHECK_HELP, CTL_HELP, REPLAY_HELP, RUN_HELP, STOP_
 use crate::options::{
     backlog_option, bind_option, check_option, client_option, clients_option, connect_option,
     connections_option, drain_option, fin_option, group_option, ipv4_prefix_option,
-    ipv6_prefix_option, keepalive_option, load_option, metrics_option, mode_option, purge_option,
-    rejected_option, report_option, retries_option, roll_option, save_option, server_option,
-    shards_option, socket_option, socket_time_option, stats_option, stop_option, stopped_option,
-    threads_option,
+    ipv6_prefix_option, keepalive_option, level_option, load_option, metrics_option, mode_option,
+    purge_option, rejected_option, report_option, retries_option, roll_option, save_option,
+    server_option, shards_option, socket_option, socket_time_option, stats_option, stop_option,
+    stopped_option, threads_option,
 };
 use clap::{Arg, ArgMatches, Command, Error};
 use std::alloc::{AllocError, Global};
@@ -202,6 +202,7 @@ fn run_command<'a>(alloc: Global) -> Result<Command<'a>, AllocError> {
     let command = add_argument(command, keepalive_option(alloc));
     let command = add_argument(command, mode_option(alloc));
     let command = add_argument(command, group_option(alloc));
+    let command = add_argument(command, level_option(alloc));
     let command = add_argument(command, clients_option(alloc));
     let command = add_argument(command, socket_time_option(alloc));
     let command = add_argument(command, stats_option(alloc));

@@ -29,8 +29,8 @@ pub use command_line::{VERSION, read_command_line};
 use explanation::{explain_fault, explain_warnings};
 pub use keeping::{Keeping, read_keeping};
 pub use options::{
-    BIND, CHECK, CLIENT, CONNECT, DRAIN, FIN, KEEPALIVE, LOAD, LOG_REJECTED, METRICS, REPORT, SAVE,
-    SERVER, SOCKET, STATS,
+    BIND, CHECK, CLIENT, CONNECT, DRAIN, FIN, KEEPALIVE, LEVEL, LOAD, LOG_REJECTED, METRICS,
+    REPORT, SAVE, SERVER, SOCKET, STATS,
 };
 use rule_config::{ConfigFault, read_config};
 use rule_model::{Config, Name, NamedSpec, ReadError, Section, Setup};

@@ -46,6 +46,9 @@ pub const SAVE: &str = "save";
 /// The option that has rejected connections told.
 pub const LOG_REJECTED: &str = "log-rejected";
 
+/// The option that says what the clients of the command socket may do.
+pub const LEVEL: &str = "socket-level";
+
 /// The option by which a run is only tried.
 pub const CHECK: &str = "check";
 
@@ -236,6 +239,16 @@ pub(crate) fn group_option<'a>(alloc: Global) -> Arg<'a> {
     )
 }
 
+/// What the clients of the socket may do.
+pub(crate) fn level_option<'a>(alloc: Global) -> Arg<'a> {
+    value_option(
+        alloc,
+        LEVEL,
+        "LEVEL",
+        "What the socket's clients may do: user (see no keys), operator (see all) or admin (do all) [default: admin]",
+    )
+}
+
 /// How many clients of the socket are answered at once.
 pub(crate) fn clients_option<'a>(alloc: Global) -> Arg<'a> {
     count_option(
@@ -318,8 +331,8 @@ pub(crate) fn stats_option<'a>(alloc: Global) -> Arg<'a> {
     value_option(
         alloc,
         STATS,
-        "PATH[,mode=M]",
-        "The Unix socket that speaks as HAProxy's stats socket does [default: none]",
+        "PATH[,OPTION]",
+        "The Unix socket that speaks as HAProxy's stats socket does [default: none]; ,mode=M ,group=G ,level=L",
     )
 }
 

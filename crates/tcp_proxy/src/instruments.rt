@@ -14,7 +14,7 @@ use std::time::{Clock, SystemTime};
 use std::{fs, str};
 use tcp_relay::{Control, Drain, socket_address};
 use tcp_stats::{Cells, Gauge, LastTimes};
-use tcp_watch::{Notifier, ProcessStatus};
+use tcp_watch::{Level, Notifier, ProcessStatus};
 
 /// Where the system says the machine's name.
 const HOSTNAME: &str = "/proc/sys/kernel/hostname";
@@ -168,12 +168,21 @@ impl Instruments {
             drain: plan.drain,
             notifier: self.notifier.as_ref(),
             stats: sockets.stats.as_ref().map(|stats| &stats.listener),
+            stats_level: stats_level(plan),
             metrics: sockets.metrics.as_ref(),
             reports: reports_of(plan),
             status: self.status.as_ref(),
             start: sockets.start,
             started: self.started,
         }
+    }
+}
+
+/// What the clients of the stats socket may do: all, unless it is said otherwise.
+fn stats_level(plan: Plan<'_>) -> Level {
+    match plan.watch.stats {
+        Some(stats) => stats.level,
+        None => Level::Admin,
     }
 }
 

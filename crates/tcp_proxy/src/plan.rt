@@ -5,7 +5,7 @@ ghost use Rattle.tcp_proxy.specs.Watching as spec;
 
 use rule_addresses::Endpoint;
 use tcp_relay::Limits;
-use tcp_watch::{Purpose, Surroundings, has_handed};
+use tcp_watch::{Level, Purpose, Surroundings, has_handed};
 
 /// How many clients of the stats socket are answered at once.
 pub const STATS_CLIENTS: u32 = 4;
@@ -26,6 +26,8 @@ pub struct SocketPlan<'a> {
     pub clients: u32,
     /// How long a client may send nothing, or take nothing, in ms.
     pub timeout: u64,
+    /// What its clients may do.
+    pub level: Level,
 }
 
 /// The socket on which HAProxy's tools are answered.
@@ -35,6 +37,10 @@ pub struct StatsPlan<'a> {
     pub path: &'a str,
     /// The permissions of its file, up to 0777.
     pub mode: u32,
+    /// The group of its file, by its name or its number, where that isn't the program's.
+    pub group: Option<&'a str>,
+    /// What its clients may do.
+    pub level: Level,
 }
 
 /// What the program tells of itself.

@@ -278,6 +278,7 @@ fn serve_and_settle<
         listeners: sockets.listeners.each.as_slice(),
         socket: &sockets.socket.listener,
         silence: plan.socket.timeout,
+        level: plan.socket.level,
         threads: plan.threads,
         limits: plan.limits,
         stop_after: plan.stop_after,

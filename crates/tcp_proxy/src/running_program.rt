@@ -13,7 +13,7 @@ use std::sync::atomic::{AtomicU64, Ordering};
 use std::time;
 use tcp_relay::{Control, Listener};
 use tcp_stats::{Count, Counts, ProcessFacts, Rate, Snapshot, TableFacts};
-use tcp_watch::{Notice, Notifier, ProcessStatus, Program, Shutdown, ask_process};
+use tcp_watch::{Level, Notice, Notifier, ProcessStatus, Program, Shutdown, ask_process};
 
 /// What the threads beside the listener count. Each adds to it, and readers see it at any time.
 #[derive(Drop)]
@@ -139,6 +139,8 @@ pub(crate) struct Running<'a, R> {
     pub notifier: Option<&'a Notifier>,
     /// Who looks at it: on the stats socket, by HTTP, and by what is said.
     pub stats: Option<&'a UnixListener>,
+    /// What the clients of the stats socket may do.
+    pub stats_level: Level,
     pub metrics: Option<&'a TcpListener>,
     pub reports: Reports,
     /// Where a signal that stops the run may wait, if one may.

@@ -1,8 +1,6 @@
 //! The threads beside the listener: one does housekeeping, one reports, others answer clients of the sockets; `running` makes them,
 //! and `serving` starts them.
 
-ghost use Rattle.std.specs.Prelude.{◌≡◌, None};
-
 use crate::counted::Counted;
 use crate::housekeeping::keep_tables;
 use crate::plan::Duties;
@@ -25,7 +23,7 @@ use std::{mem, thread};
 use stick_table::Table;
 use table_cli::CommandService;
 use table_socket::{Served, Times, serve_clients};
-use tcp_watch::{MetricsService, Program, StatsService, Teller};
+use tcp_watch::{Level, LimitedService, MetricsService, Program, StatsService, Teller};
 
 /// How long a thread rests where there is no memory for it, in ms.
 const NAP: u64 = 50;
@@ -41,16 +39,6 @@ const SCRAPE_TIMES: Times = Times {
     silence: SCRAPE_TIME,
     whole: Some(SCRAPE_TIME),
 };
-
-/// How long a client of a Unix socket is waited for that may send or take nothing for so many ms.
-fn unix_times(silence: u64) -> Times
-    ensures { result ≡ record { silence = silence; whole = None } }
-{
-    Times {
-        silence,
-        whole: None,
-    }
-}
 
 /// No client yet.
 pub(crate) const NOBODY: Served = Served {
@@ -181,7 +169,21 @@ fn serve_commands<K: Keeper, C: Clock + Drop, R: Wait + time::Clock>(
     silence: u64,
 ) -> (Vec<Named<K>>, Served) {
     let mut counted = Counted::new(service, counts);
-    let served = serve_clients(rt, listener, &mut counted, stop, unix_times(silence));
+    let served = serve_clients(rt, listener, &mut counted, stop, Times::of_silence(silence));
+    (counted.into_service().tables, served)
+}
+
+/// The same of a socket whose clients may not do all.
+fn serve_limited<K: Keeper, C: Clock + Drop, R: Wait + time::Clock>(
+    rt: &R,
+    listener: &UnixListener,
+    service: LimitedService<K, C>,
+    counts: &ServiceCounts,
+    stop: &AtomicBool,
+    silence: u64,
+) -> (Vec<Named<K>>, Served) {
+    let mut counted = Counted::new(service, counts);
+    let served = serve_clients(rt, listener, &mut counted, stop, Times::of_silence(silence));
     (counted.into_service().tables, served)
 }
 
@@ -190,11 +192,18 @@ fn serve_stats<K: Keeper, C: Clock + Drop, P: Program, R: Wait + time::Clock>(
     rt: &R,
     listener: &UnixListener,
     teller: Teller<'_, K, C, P>,
+    level: Level,
     counts: &ServiceCounts,
     stop: &AtomicBool,
 ) -> Vec<Named<K>> {
-    let mut counted = Counted::new(StatsService { teller }, counts);
-    let _ = serve_clients(rt, listener, &mut counted, stop, unix_times(STATS_SILENCE));
+    let mut counted = Counted::new(StatsService { teller, level }, counts);
+    let _ = serve_clients(
+        rt,
+        listener,
+        &mut counted,
+        stop,
+        Times::of_silence(STATS_SILENCE),
+    );
     counted.into_service().teller.tables
 }
 
@@ -221,19 +230,50 @@ fn answer_commands<T: Table, J: Naming, R: ProxyRuntime>(
         Ok(asked) => asked,
         Err(seats) => return seats,
     };
+    let (tables, all) = match shared.level {
+        Level::Admin => answer_all(shared, tables),
+        Level::User | Level::Operator => answer_some(shared, tables),
+    };
+    *served = all;
+    seats_of(tables, back)
+}
+
+/// Answers the commands of clients that may do all.
+fn answer_all<'a, T: Table, J: Naming, R: ProxyRuntime>(
+    shared: &Shared<'a, T, J, R>,
+    tables: Vec<SeatedTable<'a, T, J, R>>,
+) -> (Vec<SeatedTable<'a, T, J, R>>, Served) {
     let clock = RunningClock::new(shared.rt, shared.start);
     let service = CommandService::new(shared.alloc, tables, clock);
-    let counts = &shared.running.board.service;
-    let (tables, all) = serve_commands(
+    serve_commands(
         shared.rt,
         shared.socket,
         service,
-        counts,
+        &shared.running.board.service,
         shared.stop,
         shared.silence,
-    );
-    *served = all;
-    seats_of(tables, back)
+    )
+}
+
+/// Answers the commands of clients that may not.
+fn answer_some<'a, T: Table, J: Naming, R: ProxyRuntime>(
+    shared: &Shared<'a, T, J, R>,
+    tables: Vec<SeatedTable<'a, T, J, R>>,
+) -> (Vec<SeatedTable<'a, T, J, R>>, Served) {
+    let service = LimitedService {
+        alloc: shared.alloc,
+        tables,
+        clock: RunningClock::new(shared.rt, shared.start),
+        level: shared.level,
+    };
+    serve_limited(
+        shared.rt,
+        shared.socket,
+        service,
+        &shared.running.board.service,
+        shared.stop,
+        shared.silence,
+    )
 }
 
 /// What tells of the running proxy by these tables.
@@ -266,6 +306,7 @@ fn answer_stats<T: Table, J: Naming, R: ProxyRuntime>(
         shared.rt,
         listener,
         teller_of(shared, tables),
+        shared.running.stats_level,
         &shared.running.board.service,
         shared.stop,
     );

@@ -18,6 +18,7 @@ use std::thread::Threads;
 use std::time::Clock;
 use stick_table::Table;
 use tcp_relay::{Limits, Listener};
+use tcp_watch::Level;
 
 /// What the threads of the proxy ask of the system: sockets, threads, locks, a clock and a log. What the proxy asks beside that while
 /// it starts and ends stands in each bound apart: a bound that holds both isn't known to be safe to send to a thread.
@@ -43,6 +44,8 @@ pub(crate) struct Shared<'a, T: Table, J: Naming, R> {
     pub socket: &'a UnixListener,
     /// How long a client of the socket may send or take nothing, in ms.
     pub silence: u64,
+    /// What a client of the socket may do.
+    pub level: Level,
     /// How many threads serve connections.
     pub threads: u32,
     pub limits: Limits,

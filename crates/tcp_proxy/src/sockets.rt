@@ -3,7 +3,7 @@
 use crate::binding::{BindFault, say_unbound};
 use crate::handing::{check_handed, say_unserved};
 use crate::listeners::{BoundListeners, bind_listeners};
-use crate::plan::{Plan, SocketPlan, StatsPlan};
+use crate::plan::{Plan, StatsPlan};
 use crate::shared::ProxyRuntime;
 use base_clock::Start;
 use base_lines::read_number;
@@ -63,7 +63,7 @@ fn bind_all<R: ProxyRuntime + Files + AllocGlobal + Eprint>(
 ) -> Result<Sockets, BindFault> {
     let handed = plan.manager.handed.as_slice();
     check_handed(rt, handed)?;
-    let access = access_of(rt, plan.socket)?;
+    let access = access_of(rt, plan.socket.mode, plan.socket.group)?;
     let listeners = bind_listeners(alloc, rt, bind, plan)?;
     let metrics = match plan.watch.metrics {
         Some(place) => Some(bind_metrics(rt, place)?),
@@ -142,10 +142,7 @@ fn bind_stats<R: ProxyRuntime + Files + AllocGlobal + Eprint>(
     rt: &R,
     stats: StatsPlan<'_>,
 ) -> Result<Socket, BindFault> {
-    let access = Access {
-        mode: stats.mode,
-        group: None,
-    };
+    let access = access_of(rt, stats.mode, stats.group)?;
     bind_unix(rt, stats.path, access)
 }
 
@@ -219,13 +216,13 @@ impl Sockets {
     }
 }
 
-/// Who may connect to the command socket. A group that isn't there is said.
-pub(crate) fn access_of<R: ProxyRuntime + Files + AllocGlobal + Eprint>(
+/// Who may connect to a Unix socket. A group that isn't there is said.
+fn access_of<R: ProxyRuntime + Files + AllocGlobal + Eprint>(
     rt: &R,
-    socket: SocketPlan<'_>,
+    mode: u32,
+    group: Option<&str>,
 ) -> Result<Access, BindFault> {
-    let mode = socket.mode;
-    let Some(word) = socket.group else {
+    let Some(word) = group else {
         return Ok(Access { mode, group: None });
     };
     match find_group(rt, word) {
@@ -238,6 +235,18 @@ pub(crate) fn access_of<R: ProxyRuntime + Files + AllocGlobal + Eprint>(
             Err(BindFault::Said)
         }
     }
+}
+
+/// Whether the groups are there that the sockets are to have. One that isn't is said.
+pub(crate) fn check_groups<R: ProxyRuntime + Files + AllocGlobal + Eprint>(
+    rt: &R,
+    plan: Plan<'_>,
+) -> Result<(), BindFault> {
+    access_of(rt, plan.socket.mode, plan.socket.group)?;
+    if let Some(stats) = plan.watch.stats {
+        access_of(rt, stats.mode, stats.group)?;
+    }
+    Ok(())
 }
 
 /// The number of a group that is named by its number, or else by its name in /etc/group.

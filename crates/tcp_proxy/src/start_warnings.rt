@@ -8,7 +8,7 @@ use crate::binding::BindFault;
 use crate::plan::Plan;
 use crate::running::report;
 use crate::shared::ProxyRuntime;
-use crate::sockets::access_of;
+use crate::sockets::check_groups;
 use rule_addresses::{Address, Endpoint};
 use rule_model::Setup;
 use rule_warnings::{StartPlan, Warning, allowed_descriptors, warnings_of};
@@ -28,8 +28,8 @@ pub(crate) fn check_start<R: ProxyRuntime + Files + AllocGlobal + Eprint>(
 ) -> io::Result<bool>
     requires can_open { CanOpen setup.now }
 {
-    match access_of(rt, plan.socket) {
-        Ok(_access) => warn_of_start(alloc, rt, setup, plan, takes_ipv6(bind, plan.more_binds)),
+    match check_groups(rt, plan) {
+        Ok(()) => warn_of_start(alloc, rt, setup, plan, takes_ipv6(bind, plan.more_binds)),
         Err(BindFault::Said) => Ok(false),
         Err(BindFault::Unsaid(reason)) => Err(reason),
     }

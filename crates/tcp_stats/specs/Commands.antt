@@ -105,6 +105,7 @@ message_words messages.Done = []
 message_words messages.FrontendExpected = codes "A frontend name is expected.\n"
 message_words messages.NoSuchFrontend = codes "No such frontend.\n"
 message_words messages.AlreadyShutDown = codes "Frontend was already shut down.\n"
+message_words messages.PermissionDenied = codes "Permission denied\n"
 
 -- whether the commands follow
 abbrev pub lists_commands : StatsMessage → Bool

@@ -180,6 +180,8 @@ pub enum StatsMessage {
     NoSuchFrontend,
     /// To `shutdown frontend` of one that takes no clients any more.
     AlreadyShutDown,
+    /// To what the socket's level doesn't permit.
+    PermissionDenied,
 }
 
 impl StatsMessage {
@@ -195,6 +197,7 @@ impl StatsMessage {
             StatsMessage::FrontendExpected => "A frontend name is expected.\n",
             StatsMessage::NoSuchFrontend => "No such frontend.\n",
             StatsMessage::AlreadyShutDown => "Frontend was already shut down.\n",
+            StatsMessage::PermissionDenied => "Permission denied\n",
         }
     }
 

@@ -5,3 +5,4 @@ pub mod Rhythms
 pub mod Watchdog
 pub mod Conversations
 pub mod ProcessStats
+pub mod Levels

@@ -4,13 +4,15 @@ ghost use Rattle.std.specs.Prelude.{◌≡◌};
 ghost use Rattle.tcp_watch.specs.Conversations as spec;
 
 use crate::conversation::{BEGUN, Conversation};
+use crate::level::{Level, may_ask};
+use crate::permitted::answer_permitted;
 use crate::program::{Program, Shutdown};
 use crate::teller::{Teller, Told};
 use base_clock::Clock;
 use base_lines::{LineSoFar, Parts, without_cr};
 use byte_ports::{Failed, Sink, Source, write_all};
 use shard_book::Keeper;
-use table_cli::{answer, answer_oldest_first};
+use table_cli::answer_oldest_first;
 use table_socket::ClientServer;
 use table_texts::Message;
 use tcp_stats::{StatsCommand, StatsMessage, read_command};
@@ -22,6 +24,8 @@ const MOST_READS: u64 = 1 << 40;
 #[derive(Drop)]
 pub struct StatsService<'p, K, C, P> {
     pub teller: Teller<'p, K, C, P>,
+    /// What its clients may do.
+    pub level: Level,
 }
 
 /// How a conversation goes on behind a command, and how many commands were answered so far.
@@ -78,7 +82,7 @@ impl<'p, K: Keeper, C: Clock, P: Program> StatsService<'p, K, C, P> {
         }
     }
 
-    /// Answers a command on a table, by the code of the command socket.
+    /// Answers a command on a table, by the code of the command socket, as far as the level permits.
     fn ask_table<W: Sink>(
         &mut self,
         command: &[u8],
@@ -91,9 +95,8 @@ impl<'p, K: Keeper, C: Clock, P: Program> StatsService<'p, K, C, P> {
             clock,
             program: _,
         } = &mut self.teller;
-        if answer(*alloc, tables.as_mut_slice(), clock, command, writer).is_err() {
-            return Err(Failed);
-        }
+        let tables = tables.as_mut_slice();
+        answer_permitted(*alloc, tables, clock, self.level, command, writer)?;
         write_answer(writer, b"", talk)
     }
 
@@ -123,7 +126,12 @@ impl<'p, K: Keeper, C: Clock, P: Program> StatsService<'p, K, C, P> {
         writer: &mut W,
         talk: Conversation,
     ) -> Result<Conversation, Failed> {
-        let message = match read_command(command) {
+        let asked = read_command(command);
+        if !may_ask(self.level, asked) {
+            self.say(StatsMessage::PermissionDenied, writer, talk)?;
+            return Ok(talk);
+        }
+        let message = match asked {
             StatsCommand::Quit => return Ok(talk.after_quit()),
             StatsCommand::Prompt => {
                 let talk = talk.after_prompt();

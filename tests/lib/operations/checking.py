@@ -17,6 +17,8 @@ REFUSED = [
      'stickd: table www has fewer places than shards: 3, and there are 16 shards. Give --shards 3 or fewer, or its stick-table a size of '
      '16 or more'),
     (['listen www', 'bind 127.0.0.1:{port}', SERVER], ['--socket-group', 'nobody-has-this'], "stickd: there is no group 'nobody-has-this'"),
+    (['listen www', 'bind 127.0.0.1:{port}', SERVER], ['--stats-socket', '{room}/stats,group=nobody-has-this'],
+     "stickd: there is no group 'nobody-has-this'"),
 ]
 
 
