@@ -3,7 +3,7 @@
 ghost use Rattle.std.specs.Prelude.{◌≡◌};
 ghost use Rattle.tcp_watch.specs.Conversations as spec;
 
-use crate::conversation::{BEGUN, Conversation};
+use crate::conversation::{BEGUN, Conversation, READ_BYTES, is_cut};
 use crate::program::{Program, Shutdown};
 use crate::teller::{Teller, Told};
 use base_clock::Clock;
@@ -18,7 +18,8 @@ use tcp_stats::{StatsCommand, StatsMessage, read_command};
 /// How many reads a client's conversation has at most.
 const MOST_READS: u64 = 1 << 40;
 
-/// Answers the clients of a stats socket: one line of commands, which `;` parts, unless a client asks to be prompted for more.
+/// Answers the clients of a stats socket: the lines of commands that come together, which `;` parts, unless a client asks to be
+/// prompted for more.
 #[derive(Drop)]
 pub struct StatsService<'p, K, C, P> {
     pub teller: Teller<'p, K, C, P>,
@@ -183,7 +184,6 @@ impl<'p, K: Keeper, C: Clock, P: Program> StatsService<'p, K, C, P> {
                 return Ok(now);
             }
         }
-        now.talk = now.talk.after_line();
         Ok(now)
     }
 
@@ -218,7 +218,7 @@ impl<'p, K: Keeper, C: Clock, P: Program> StatsService<'p, K, C, P> {
     /// Answers a client until all is said. How many commands were answered.
     fn converse<R: Source, W: Sink>(&mut self, reader: &mut R, writer: &mut W) -> u64 {
         let mut line = LineSoFar::new();
-        let mut buffer = [0u8; 4096];
+        let mut buffer = [0u8; READ_BYTES];
         let mut now = Progress {
             talk: BEGUN,
             done: 0,
@@ -232,6 +232,7 @@ impl<'p, K: Keeper, C: Clock, P: Program> StatsService<'p, K, C, P> {
                 Ok(after) => now = after,
                 Err(after) => return after.done,
             }
+            now.talk = now.talk.after_lines(is_cut(&buffer[..count]));
             if now.talk.is_over {
                 return now.done;
             }
