@@ -167,7 +167,7 @@ fn adopt_named<R: Files + Env + Print + Eprint + AllocGlobal>(
 }
 
 /// Sends commands to a running stickd, and shows what it answers.
-fn ask_named<R: Net + Clock + Print + Eprint + AllocGlobal>(
+fn ask_named<R: Net + Clock + Env + Print + Eprint + AllocGlobal>(
     rt: &R,
     arguments: &ArgMatches<'_>,
 ) -> io::Result<ExitCode> {

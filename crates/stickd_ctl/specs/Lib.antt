@@ -7,3 +7,5 @@ pub mod Json
 pub mod Stopping
 pub mod Saving
 pub mod Names
+pub mod Windows
+pub mod Hints

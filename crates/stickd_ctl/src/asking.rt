@@ -2,17 +2,18 @@
 
 use crate::client::{BAD_WORDS, DONE, FAILED, answer_of, is_on_terminal, say_no_memory, show};
 use crate::errors::{is_command, is_error};
+use crate::hints::{asks_for_help, hint};
 use crate::json::push_json;
 use crate::marks::push_marked;
 use crate::saving::save_tables;
+use crate::terminal::{HOME, read_window};
+use crate::window::{Window, push_fitting};
 use base_sequence::NoMemory;
 use std::alloc::Global;
 use std::net::Net;
+use std::rt::Env;
 use std::time::{Clock, Duration};
 use std::{io, thread};
-
-/// What the terminal's cursor goes home by, and what all behind it is cleared by.
-pub(crate) const HOME: &[u8] = b"\x1b[H\x1b[J";
 
 /// The word that asks for what tables hold.
 const SAVE: &str = "save";
@@ -53,20 +54,24 @@ fn shown(alloc: Global, asked: &Ctl<'_>, answer: &[u8]) -> Result<Vec<u8>, NoMem
     Ok(text)
 }
 
-/// What is shown of an answer in place: JSON, or its lines behind marks of those that weren't there the last time.
+/// What is shown of an answer in place: JSON, or its lines behind marks of those that weren't there the last time, as far as they fit.
 fn shown_in_place(
     alloc: Global,
     asked: &Ctl<'_>,
     last: Option<&[u8]>,
     answer: &[u8],
+    window: Window,
 ) -> Result<Vec<u8>, NoMemory> {
+    let mut lines = Vec::new(alloc);
+    if asked.json {
+        push_json(&mut lines, answer)?;
+    } else {
+        let answer = answer.trim_ascii_end();
+        push_marked(&mut lines, last.unwrap_or(answer), answer)?;
+    }
     let mut text = Vec::new(alloc);
     text.extend_from_slice(HOME)?;
-    if asked.json {
-        push_json(&mut text, answer)?;
-    } else {
-        push_marked(&mut text, last.unwrap_or(answer), answer)?;
-    }
+    push_fitting(&mut text, lines.trim_ascii_end(), window)?;
     Ok(text)
 }
 
@@ -83,12 +88,17 @@ fn ask_once<R: Net + Print + Eprint + AllocGlobal>(
         return say_no_memory(rt);
     };
     show(rt, &text)?;
-    Ok(if is_error(&answer) { FAILED } else { DONE })
+    let is_known = !is_error(&answer);
+    if asks_for_help(command) && !asked.json {
+        show(rt, hint(is_known).as_bytes())?;
+        return Ok(DONE);
+    }
+    Ok(if is_known { DONE } else { FAILED })
 }
 
 /// Asks again and again, until nobody answers. Off a terminal, the empty line that ends an answer parts it from the next, and
 /// JSON has one of its own.
-fn ask_again<R: Net + Clock + Print + Eprint + AllocGlobal>(
+fn ask_again<R: Net + Clock + Env + Print + Eprint + AllocGlobal>(
     rt: &R,
     asked: &Ctl<'_>,
     command: &[u8],
@@ -101,7 +111,7 @@ fn ask_again<R: Net + Clock + Print + Eprint + AllocGlobal>(
             return Ok(FAILED);
         };
         let text = if in_place {
-            shown_in_place(rt.alloc(), asked, last.as_deref(), &answer)
+            shown_in_place(rt.alloc(), asked, last.as_deref(), &answer, read_window(rt))
         } else {
             shown(rt.alloc(), asked, &answer)
         };
@@ -134,7 +144,7 @@ fn save<R: Net + Print + Eprint + AllocGlobal>(
 /// Sends commands to a running stickd, shows what it answers, and answers the status: 0; 1 where a command did nothing or
 /// nobody answers, which is said on standard error; 2 where the words are no line of commands. Where the first word is `save`,
 /// nothing is sent but `show table`, and what the tables of the other words hold is written.
-pub fn ask_running<R: Net + Clock + Print + Eprint + AllocGlobal>(
+pub fn ask_running<R: Net + Clock + Env + Print + Eprint + AllocGlobal>(
     rt: &R,
     asked: &Ctl<'_>,
 ) -> io::Result<u8> {

@@ -29,7 +29,9 @@ The words are sent as one line of commands, with blanks between them. 'stickd re
 --help' lists the commands; ';' in a word of its own, or quoted, parts several. The
 answers are written to standard output as they come. With --json a table is an object
 with its name, type, size, used and entries, and another answer {\"answer\": \"TEXT\"}.
-With --watch, on a terminal, '* ' stands before each line that wasn't there the last time.
+With --watch, on a terminal, '* ' stands before each line that wasn't there the last time,
+but for what is left of a life. As many lines are shown as LINES and COLUMNS leave room for.
+'help' says what the socket answers, and what the other one does.
 The status is 1 where a command did nothing, or nobody answers at PATH.
   stickd ctl --socket /run/stickd.sock show table www data.conn_cur gt 10
 'save' and the names of tables, or none for all, write what they hold, as --load reads it:
@@ -40,8 +42,9 @@ Where PATH is the stats socket, they keep which entry goes first where a table i
 pub(crate) const TOP_HELP: &str = "\
 Shows the entries of a table with the greatest numbers, in falling order: key, use (its
 connections), exp (the seconds until it expires) and what the table stores. On a terminal
-they are shown again each second, as wide as COLUMNS says [80 without it]; else once. The
-status is 1 where nobody answers at PATH, or there is no such table or number.";
+they are shown again each second, as many and as wide as LINES and COLUMNS say [24 and 80
+without them]; else once. The status is 1 where nobody answers at PATH, or there is no such
+table or number.";
 
 /// What `stickd replay --help` says last.
 pub(crate) const REPLAY_HELP: &str = "\
