@@ -15,7 +15,7 @@ use byte_ports::{StreamSink, StreamSource};
 use clap::ArgMatches;
 use log::Log;
 use rule_model::{Config, Setup};
-use run_plan::{BadWord, read_binds, read_drain, read_plan, with_frontend};
+use run_plan::{BadWord, read_binds, read_drain, read_plan, with_names};
 use std::alloc::Global;
 use std::net::{Net, TcpListener, TcpStream};
 use std::process::ExitCode;
@@ -28,7 +28,7 @@ use std::{env, fs, io, str};
 use stickd_ctl::{Ctl, Stop, Top, ask_running, show_top, stop_running};
 use stickd_input::{
     Detail, Keeping, LOAD, STATS, Telling, frontend_name, open_served, open_setup,
-    read_command_line, read_file, read_keeping, read_served,
+    read_command_line, read_file, read_keeping, read_served, read_text, server_name,
 };
 use stickd_script::{BadLines, FaultKind, ReplayFault, Stopped, replay_loaded, replay_script};
 use tcp_proxy::{Plan, ProxyRuntime, run_pooled};
@@ -347,15 +347,19 @@ fn serve<R: ProxyRuntime + Files + AllocGlobal + Eprint + RandomSource + Env + P
         Err(bad) => return refuse(rt, bad),
     };
     let path = arguments.get_str("FILE").unwrap_or("");
-    match read_served(rt, path)? {
-        Some(config) => serve_config(rt, &config, read_keeping(arguments), plan),
+    let Some(text) = read_text(rt, path)? else {
+        return Ok(ExitCode::FAILURE);
+    };
+    match read_served(rt, text.as_slice())? {
+        Some(config) => serve_config(rt, text.as_slice(), &config, read_keeping(arguments), plan),
         None => Ok(ExitCode::FAILURE),
     }
 }
 
-/// Runs the proxy of a configuration that was read.
+/// Runs the proxy of a configuration that was read of a text.
 fn serve_config<'a, R: ProxyRuntime + Files + AllocGlobal + Eprint + RandomSource + Print>(
     rt: &R,
+    text: &'a [u8],
     config: &'a Config,
     keeping: Keeping,
     plan: Plan<'a>,
@@ -369,9 +373,10 @@ fn serve_config<'a, R: ProxyRuntime + Files + AllocGlobal + Eprint + RandomSourc
     let Some(setup) = open_served(rt, config, keeping)? else {
         return Ok(ExitCode::FAILURE);
     };
-    // A name is made of ASCII letters, digits and a few signs.
+    // Names are made of ASCII letters, digits and a few signs.
     let frontend = str::from_utf8(frontend_name(config)).unwrap_or("");
-    let plan = with_frontend(plan, frontend);
+    let server = str::from_utf8(server_name(config, text)).unwrap_or("");
+    let plan = with_names(plan, frontend, server);
     let is_done = run_pooled(rt.alloc(), rt, &setup, plan)?;
     Ok(status_of(is_done))
 }

@@ -236,6 +236,7 @@ pub fn read_plan<'a>(
                 version: VERSION,
                 release_date: RELEASE_DATE,
                 frontend: "",
+                server: "",
             },
         },
         drain: read_drain(arguments)?,
@@ -244,14 +245,16 @@ pub fn read_plan<'a>(
     })
 }
 
-/// The plan of a run that is told of as a frontend of this name.
-pub(crate) fn with_frontend<'a>(plan: Plan<'a>, frontend: &'a str) -> Plan<'a>
+/// The plan of a run that is told of as a frontend and a server of these names.
+pub(crate) fn with_names<'a>(plan: Plan<'a>, frontend: &'a str, server: &'a str) -> Plan<'a>
     ensures frontend { result.watch.about.frontend.now ≡ frontend.now }
+    ensures server { result.watch.about.server.now ≡ server.now }
     ensures threads { result.threads ≡ plan.entry.threads }
     ensures socket { result.socket ≡ plan.entry.socket }
 {
     let about = About {
         frontend,
+        server,
         ..plan.watch.about
     };
     let watch = WatchPlan {

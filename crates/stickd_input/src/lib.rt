@@ -19,6 +19,7 @@ mod help;
 mod hints;
 mod keeping;
 mod options;
+mod server_names;
 mod suspect_tables;
 mod suspect_terms;
 mod suspects;
@@ -35,6 +36,7 @@ pub use options::{
 use rule_config::{ConfigFault, read_config};
 use rule_model::{Config, Name, NamedSpec, ReadError, Section, Setup};
 use rule_warnings::{Warning, file_warnings, table_warnings};
+pub use server_names::server_name;
 use std::alloc::Global;
 use std::rt::Files;
 use std::{fs, io, str};
@@ -174,8 +176,21 @@ fn warn_of_tables<R: Eprint + AllocGlobal>(rt: &R, config: &Config) -> io::Resul
     }
 }
 
-/// Reads a configuration, and prints a warning for each line that it reads past. None where it can't be read, which is
-/// said on standard error.
+/// Reads the text of a configuration. None where it can't be read, which is said on standard error.
+pub fn read_text<R: Files + Eprint + AllocGlobal>(
+    rt: &R,
+    path: &str,
+) -> io::Result<Option<Vec<u8>>> {
+    match fs::read(rt, path) {
+        Ok(text) => Ok(Some(text)),
+        Err(reason) => {
+            eprintln!(rt; "stickd: {path} can't be read: {reason}")?;
+            Ok(None)
+        }
+    }
+}
+
+/// Reads the configuration in a file, as `read_lines`.
 pub fn read_file<R: Files + Eprint + AllocGlobal>(
     rt: &R,
     path: &str,
@@ -184,22 +199,31 @@ pub fn read_file<R: Files + Eprint + AllocGlobal>(
 ) -> io::Result<Option<Config>>
     ensures { IfOk result (λ read. IfSome read (λ config. AreTables config.sections)) }
 {
-    let text = match fs::read(rt, path) {
-        Ok(text) => text,
-        Err(reason) => {
-            eprintln!(rt; "stickd: {path} can't be read: {reason}")?;
-            return Ok(None);
-        }
-    };
-    let config = match read_config(rt.alloc(), text.as_slice()) {
+    match read_text(rt, path)? {
+        Some(text) => read_lines(rt, text.as_slice(), telling, detail),
+        None => Ok(None),
+    }
+}
+
+/// Reads a configuration, and prints a warning for each line that it reads past. None where it has a fault, which is said on standard
+/// error.
+fn read_lines<R: Eprint + AllocGlobal>(
+    rt: &R,
+    text: &[u8],
+    telling: Telling,
+    detail: Detail,
+) -> io::Result<Option<Config>>
+    ensures { IfOk result (λ read. IfSome read (λ config. AreTables config.sections)) }
+{
+    let config = match read_config(rt.alloc(), text) {
         Ok(config) => config,
         Err(fault) => {
-            report(rt, text.as_slice(), fault, telling, detail)?;
+            report(rt, text, fault, telling, detail)?;
             return Ok(None);
         }
     };
-    warn(rt, text.as_slice(), config.warnings.as_slice(), detail)?;
-    if detail != Detail::Short && !warn_of_lines(rt, text.as_slice())? {
+    warn(rt, text, config.warnings.as_slice(), detail)?;
+    if detail != Detail::Short && !warn_of_lines(rt, text)? {
         return Ok(None);
     }
     if detail == Detail::Explained && !warn_of_tables(rt, &config)? {
@@ -302,13 +326,10 @@ pub fn frontend_name(config: &Config) -> &[u8]
 }
 
 /// Reads a configuration for the proxy: as `read_file`, and what lines of it say that comes to nothing is said too.
-pub fn read_served<R: Files + Eprint + AllocGlobal>(
-    rt: &R,
-    path: &str,
-) -> io::Result<Option<Config>>
+pub fn read_served<R: Eprint + AllocGlobal>(rt: &R, text: &[u8]) -> io::Result<Option<Config>>
     ensures { IfOk result (λ read. IfSome read (λ config. AreTables config.sections)) }
 {
-    read_file(rt, path, Telling::First, Detail::Started)
+    read_lines(rt, text, Telling::First, Detail::Started)
 }
 
 /// What the proxy serves of a configuration, each table kept in this way. None where that can't be had, which is said on standard

@@ -46,6 +46,8 @@ pub struct About<'a> {
     pub release_date: &'a str,
     /// The name of the frontend, by which `shutdown frontend` names it.
     pub frontend: &'a str,
+    /// The name that the configuration gives the server.
+    pub server: &'a str,
 }
 
 /// What is told of a run while it goes on, and to whom.

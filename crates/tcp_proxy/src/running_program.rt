@@ -207,6 +207,7 @@ impl<'r, R: Net + time::Clock> Program for Running<'r, R> {
             counts,
             frontend: self.about.frontend,
             server: self.server,
+            server_name: self.about.server,
             tables,
         }
     }

@@ -13,7 +13,7 @@ use shard_book::Keeper;
 use table_cli::{answer, answer_oldest_first};
 use table_socket::ClientServer;
 use table_texts::Message;
-use tcp_stats::{StatsCommand, StatsMessage, read_command};
+use tcp_stats::{StatsCommand, StatsMessage, push_help, read_command};
 
 /// How many reads a client's conversation has at most.
 const MOST_READS: u64 = 1 << 40;
@@ -55,7 +55,7 @@ impl<'p, K: Keeper, C: Clock, P: Program> StatsService<'p, K, C, P> {
     /// Tells of the program.
     fn tell<W: Sink>(
         &mut self,
-        told: Told,
+        told: Told<'_>,
         writer: &mut W,
         talk: Conversation,
     ) -> Result<(), Failed> {
@@ -74,6 +74,20 @@ impl<'p, K: Keeper, C: Clock, P: Program> StatsService<'p, K, C, P> {
     ) -> Result<(), Failed> {
         let mut text = Vec::new(self.teller.alloc);
         match message.push(&mut text) {
+            Ok(()) => write_answer(writer, text.as_slice(), talk),
+            Err(_) => write_answer(writer, Message::OutOfMemory.bytes(), talk),
+        }
+    }
+
+    /// Lists the commands that begin with words.
+    fn help<W: Sink>(
+        &mut self,
+        asked: &[u8],
+        writer: &mut W,
+        talk: Conversation,
+    ) -> Result<(), Failed> {
+        let mut text = Vec::new(self.teller.alloc);
+        match push_help(&mut text, asked) {
             Ok(()) => write_answer(writer, text.as_slice(), talk),
             Err(_) => write_answer(writer, Message::OutOfMemory.bytes(), talk),
         }
@@ -131,12 +145,16 @@ impl<'p, K: Keeper, C: Clock, P: Program> StatsService<'p, K, C, P> {
                 self.say(StatsMessage::Done, writer, talk)?;
                 return Ok(talk);
             }
-            StatsCommand::ShowInfo => {
-                self.tell(Told::Info, writer, talk)?;
+            StatsCommand::ShowInfo(format) => {
+                self.tell(Told::Info(format), writer, talk)?;
                 return Ok(talk);
             }
-            StatsCommand::ShowStat => {
-                self.tell(Told::Stat, writer, talk)?;
+            StatsCommand::ShowStat(query) => {
+                self.tell(Told::Stat(query), writer, talk)?;
+                return Ok(talk);
+            }
+            StatsCommand::Help(asked) => {
+                self.help(asked, writer, talk)?;
                 return Ok(talk);
             }
             StatsCommand::Table => {
@@ -158,7 +176,6 @@ impl<'p, K: Keeper, C: Clock, P: Program> StatsService<'p, K, C, P> {
                 StatsMessage::Done
             }
             StatsCommand::ShowErrors => StatsMessage::Done,
-            StatsCommand::Help => StatsMessage::Help,
             StatsCommand::Empty | StatsCommand::Unknown => StatsMessage::Unknown,
         };
         self.say(message, writer, talk)?;

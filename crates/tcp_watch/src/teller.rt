@@ -8,15 +8,15 @@ use base_sequence::NoMemory;
 use shard_book::{Keeper, Named};
 use std::alloc::Global;
 use table_texts::Message;
-use tcp_stats::{Snapshot, push_info, push_metrics, push_report, push_stat};
+use tcp_stats::{Format, Snapshot, StatQuery, push_info, push_metrics, push_report, push_stat};
 
 /// What is told.
-#[derive(Clone, Copy, Debug, PartialEq, Eq)]
-pub enum Told {
-    /// The answer to `show info`.
-    Info,
-    /// The answer to `show stat`.
-    Stat,
+#[derive(Clone, Copy)]
+pub enum Told<'a> {
+    /// The answer to `show info`, in a format.
+    Info(Format),
+    /// The answer to `show stat`, of some rows, in a format.
+    Stat(StatQuery<'a>),
     /// All metrics, as Prometheus reads them.
     Metrics,
     /// One line of a report.
@@ -33,10 +33,10 @@ pub struct Teller<'p, K, C, P> {
 }
 
 /// Appends what is told of a program.
-fn push_told(text: &mut Vec<u8>, told: Told, snapshot: &Snapshot<'_>) -> Result<(), NoMemory> {
+fn push_told(text: &mut Vec<u8>, told: Told<'_>, snapshot: &Snapshot<'_>) -> Result<(), NoMemory> {
     match told {
-        Told::Info => push_info(text, snapshot),
-        Told::Stat => push_stat(text, snapshot),
+        Told::Info(format) => push_info(text, snapshot, format),
+        Told::Stat(query) => push_stat(text, snapshot, &query),
         Told::Metrics => push_metrics(text, snapshot),
         Told::Report => push_report(text, snapshot),
     }
@@ -44,7 +44,7 @@ fn push_told(text: &mut Vec<u8>, told: Told, snapshot: &Snapshot<'_>) -> Result<
 
 impl<'p, K: Keeper, C: Clock, P: Program> Teller<'p, K, C, P> {
     /// What is told of the program now. A message where a table can't be asked, or there is no memory for it.
-    pub fn tell(&mut self, told: Told) -> Result<Vec<u8>, Message> {
+    pub fn tell(&mut self, told: Told<'_>) -> Result<Vec<u8>, Message> {
         let used = count_each(self.alloc, self.tables.as_mut_slice(), &mut self.clock)?;
         let tables = self.tables.as_slice();
         let Ok(facts) = facts_of(self.alloc, tables, used.as_slice()) else {

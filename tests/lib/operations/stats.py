@@ -210,5 +210,6 @@ def exported(proxy):
 
 
 TRIALS = [a_line_is_answered_and_closed, lines_that_come_together_are_answered, a_prompt_keeps_it_open,
-          unknown_commands_are_told_what_there_is, info_and_stat_count, clients_beside_each_other_are_answered, answers_come_whole_to_many, socat_asks,
+          unknown_commands_are_told_what_there_is, info_and_stat_count, clients_beside_each_other_are_answered,
+          answers_come_whole_to_many, socat_asks,
           netcat_asks, hatop_shows_the_proxy, the_exporter_of_prometheus_asks]
