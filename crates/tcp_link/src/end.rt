@@ -22,7 +22,7 @@ use tcp_flow::{ReadySource, ReadyStream};
 const QUIET: u64 = 1_000;
 
 /// How many reads are dropped in one turn at most, before other connections have theirs.
-const DROPS: u32 = 16;
+const DROPS: u32 = 2;
 
 /// The error of a socket that is reset once its peer has told its end (tcp(7)).
 const EPIPE: u32 = 32;

@@ -115,7 +115,7 @@ fn retry<'a, T: Table, J: Naming, R: ServeRuntime, G, W: Width>(
     place: usize,
     moment: u64,
 ) {
-    let Ok(server) = ServerSocket::open(shared.rt, shared.server, shared.keepalive) else {
+    let Ok(server) = ServerSocket::open(shared.rt, shared.server, shared.liveness) else {
         return;
     };
     let registry = event_loop.watch.registry();

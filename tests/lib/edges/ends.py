@@ -165,6 +165,25 @@ def one_that_pauses_is_not_cut():
             assert (came := 1 + len(read_all(client))) == count, f'{came} bytes'
 
 
+def one_that_acknowledges_nothing_is_given_up():
+    """With --tcp-user-timeout 1s a client that takes nothing of what its server sends is given up within seconds, and the server hears
+    it; without, both go on. A connection through which nothing passes stays."""
+    for words in (['--tcp-user-timeout', '1s'], []):
+        with FarServer() as server, Proxy(server.port, [TABLE, TRACK], *words, threads=1) as proxy:
+            idle, far_of_idle = server.joined(proxy)
+            client, far = server.joined(proxy)
+            far.setblocking(False)
+            with contextlib.suppress(BlockingIOError):
+                while True:
+                    far.send(b'+' * 65536)
+            assert hears_end(far, 10) == bool(words), f'{words}: the server hears it'
+            idle.sendall(b'+')
+            assert far_of_idle.recv(1) == b'+', f'{words}: the idle one is open'
+            wait_for('what is counted', lambda: use_of(proxy) == (1 if words else 2), SOON)
+            client.close()
+            far.close()
+
+
 def one_way_alone_has_its_time():
     """With --timeout-fin 500ms a connection of which one way has ended is closed when nothing has passed for so long, whichever side
     ended it; one of which both are open stays."""
@@ -187,4 +206,5 @@ def one_way_alone_has_its_time():
 
 
 TRIALS = [one_way_may_end_before_the_server_accepts, netcat_may_end_its_way_before_the_server_accepts, an_end_passes_as_it_came,
-          a_reset_behind_an_end_says_nothing, both_sides_are_asked_whether_they_live, one_that_pauses_is_not_cut, one_way_alone_has_its_time]
+          a_reset_behind_an_end_says_nothing, both_sides_are_asked_whether_they_live, one_that_pauses_is_not_cut,
+          one_that_acknowledges_nothing_is_given_up, one_way_alone_has_its_time]

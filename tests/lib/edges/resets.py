@@ -75,7 +75,9 @@ def says_bytes(other):
 
 
 def closes(sender, other):
-    """Ends in order; the other side says something then, which is answered by a reset."""
+    """Ends in order, once all is acknowledged; the other side says something then, which is answered by a reset. The system of a side
+    that closes with more to send throws that away as it resets, whoever reads."""
+    wait_for('all is acknowledged', lambda: is_acknowledged(sender))
     sender.close()
     says_bytes(other)
 

@@ -42,18 +42,16 @@ class Rounds:
         for edit in chosen:
             found = judged(edit, messages)
             is_alone = len(chosen) == 1 and found.verdict in (NOTHING, UNREAD_TEXT)
-            # Without its answer nothing is false, or the search finds another one.
-            is_weak = found.verdict == WEAK or found.verdict == NOTHING and any(edit.dropped)
             if found.verdict == REFUSED:
                 self.refused.append(edit.name)
-            elif is_weak:
+            elif found.verdict == WEAK:
                 self.weak.append(edit.name)
             elif found.verdict == MISFIT:
                 (edit.copied or edit).drop(found.misfits)
                 goes_on = True
             elif is_alone or not edit.copied and found.verdict == UNREAD_TEXT:
                 self.said[edit.name] = said.splitlines()
-            if found.verdict == REFUSED or is_weak or edit.name in self.said:
+            if found.verdict in (REFUSED, WEAK) or edit.name in self.said:
                 settled.add(edit.name)
         self.left = [edit for edit in self.left if edit.name not in settled]
         # Those that were hindered by others are tried with fewer beside them, in the end alone.
