@@ -8,14 +8,17 @@ ghost use Rattle.rule_model.specs.Served.{AreTables};
 ghost use Rattle.admit_drive.specs.Tables.{CanOpen};
 
 mod run_plan;
+mod saved_file;
 
 use adopt::{Asked, Wishes, adopt_file, text_of};
+use base_console::{Attended, Console};
 use base_sequence::NoMemory;
 use byte_ports::{StreamSink, StreamSource};
 use clap::ArgMatches;
-use log::Log;
+use log::{Log, error};
 use rule_model::{Config, Setup};
-use run_plan::{BadWord, read_binds, read_drain, read_plan, with_frontend};
+use run_plan::{BadWord, read_binds, read_drain, read_patience, read_plan, with_names};
+use saved_file::{check_saved, replay_saved};
 use std::alloc::Global;
 use std::net::{Net, TcpListener, TcpStream};
 use std::process::ExitCode;
@@ -27,12 +30,13 @@ use std::time::Clock;
 use std::{env, fs, io, str};
 use stickd_ctl::{Ctl, Stop, Top, ask_running, show_top, stop_running};
 use stickd_input::{
-    Detail, Keeping, LOAD, STATS, Telling, frontend_name, open_served, open_setup,
-    read_command_line, read_file, read_keeping, read_served,
+    Detail, Keeping, LOAD, STATS, TO, Telling, frontend_name, open_served, open_setup,
+    read_checked_keeping, read_command_line, read_file, read_keeping, read_served, read_text,
+    server_name,
 };
-use stickd_script::{BadLines, FaultKind, ReplayFault, Stopped, replay_loaded, replay_script};
+use stickd_script::{BadLines, FaultKind, ReplayFault, replay_script};
 use tcp_proxy::{Plan, ProxyRuntime, run_pooled};
-use tcp_watch::read_surroundings;
+use tcp_watch::{Surroundings, read_surroundings};
 
 /// The status of a bad command line.
 const BAD_COMMAND_LINE: u8 = 2;
@@ -68,14 +72,19 @@ fn collect_words(rt: &HostRuntime) -> Result<Vec<String>, WordsFault> {
     }
 }
 
-/// Does what the command line asks, and answers the status. An error is one of writing. The bounds are a `ProxyRuntime`'s and
-/// more, one by one: no proof covers that trait at the runtime itself.
+/// What the proxy asks of the system, but for where its lines go.
+trait Machine: Net<Listener = TcpListener, Stream = TcpStream> + Threads + Wait + Clock + Sync {}
+
+impl<R: Net<Listener = TcpListener, Stream = TcpStream> + Threads + Wait + Clock + Sync> Machine
+    for R {}
+
+/// Does what the command line asks, and answers the status. An error is one of writing. The bounds are a `Machine`'s and more, one by
+/// one: no proof covers that trait at the runtime itself.
 fn run<
     R: Net<Listener = TcpListener, Stream = TcpStream>
         + Threads
         + Wait
         + Clock
-        + Log
         + Sync
         + RandomSource
         + Files
@@ -106,7 +115,7 @@ fn run<
 }
 
 /// Does what a command asks. The status is 1 where that fails, which is then said on standard error.
-fn run_command<R: ProxyRuntime + Files + AllocGlobal + Eprint + RandomSource + Env + Input + Print>(
+fn run_command<R: Machine + Files + AllocGlobal + Eprint + RandomSource + Env + Input + Print>(
     rt: &R,
     matches: &ArgMatches<'_>,
 ) -> io::Result<ExitCode> {
@@ -114,7 +123,7 @@ fn run_command<R: ProxyRuntime + Files + AllocGlobal + Eprint + RandomSource + E
         Some(("adopt", arguments)) => return adopt_named(rt, arguments),
         Some(("check", arguments)) => check(rt, arguments)?,
         Some(("ctl", arguments)) => return ask_named(rt, arguments),
-        Some(("run", arguments)) => return serve(rt, arguments),
+        Some(("run", arguments)) => return Ok(serve(rt, arguments)),
         Some(("stop", arguments)) => return stop_named(rt, arguments),
         Some(("top", arguments)) => return show_greatest(rt, arguments),
         Some((_, arguments)) => {
@@ -167,15 +176,21 @@ fn adopt_named<R: Files + Env + Print + Eprint + AllocGlobal>(
 }
 
 /// Sends commands to a running stickd, and shows what it answers.
-fn ask_named<R: Net + Clock + Print + Eprint + AllocGlobal>(
+fn ask_named<R: Net + Files + Clock + Env + Print + Eprint + AllocGlobal>(
     rt: &R,
     arguments: &ArgMatches<'_>,
 ) -> io::Result<ExitCode> {
+    let patience = match read_patience(arguments) {
+        Ok(patience) => patience,
+        Err(bad) => return refuse(rt, bad),
+    };
     let asked = Ctl {
         path: arguments.get_str("socket").unwrap_or(""),
         words: arguments.get_strs("COMMAND").unwrap_or(&[]),
         json: arguments.get_flag("json"),
         watch: arguments.get_one::<u32>("watch").map(u64::from),
+        to: arguments.get_str(TO),
+        patience,
     };
     Ok(ExitCode::from(ask_running(rt, &asked)?))
 }
@@ -195,7 +210,7 @@ fn show_greatest<R: Net + Clock + Env + Print + Eprint + AllocGlobal>(
 }
 
 /// Stops a running stickd.
-fn stop_named<R: Net + Files + Clock + Eprint + AllocGlobal>(
+fn stop_named<R: Net + Clock + Eprint + AllocGlobal>(
     rt: &R,
     arguments: &ArgMatches<'_>,
 ) -> io::Result<ExitCode> {
@@ -203,8 +218,16 @@ fn stop_named<R: Net + Files + Clock + Eprint + AllocGlobal>(
         Ok(drain) => drain,
         Err(bad) => return refuse(rt, bad),
     };
-    let path = arguments.get_str(STATS).unwrap_or("");
-    Ok(ExitCode::from(stop_running(rt, &Stop { path, drain })?))
+    let patience = match read_patience(arguments) {
+        Ok(patience) => patience,
+        Err(bad) => return refuse(rt, bad),
+    };
+    let asked = Stop {
+        path: arguments.get_str(STATS).unwrap_or(""),
+        drain,
+        patience,
+    };
+    Ok(ExitCode::from(stop_running(rt, &asked)?))
 }
 
 /// Which faults `stickd check` tells.
@@ -237,7 +260,10 @@ fn check<R: Files + Print + Eprint + AllocGlobal>(
     let tables = config.table_count();
     let rules = config.rule_count();
     println!(rt; "valid: {tables} tables, {rules} rules")?;
-    Ok(true)
+    match arguments.get_str(LOAD) {
+        Some(saved) => check_saved(rt, &config, read_checked_keeping(arguments), saved),
+        None => Ok(true),
+    }
 }
 
 /// Replays the script on standard input on the tables of a configuration, each kept in this way, into which a saved file is loaded
@@ -279,49 +305,8 @@ fn replay_new<R: Input + Print + Eprint + AllocGlobal>(rt: &R, setup: &Setup) ->
     }
 }
 
-/// Replays the script on standard input on tables into which the file of a path is loaded first. Where it can't be, that is said on
-/// standard error.
-fn replay_saved<R: Files + Input + Print + Eprint + AllocGlobal>(
-    rt: &R,
-    setup: &Setup,
-    path: &str,
-) -> io::Result<bool>
-    requires { CanOpen setup.now }
-{
-    let saved = match fs::read(rt, path) {
-        Ok(saved) => saved,
-        Err(reason) => {
-            eprintln!(rt; "stickd: {path} can't be read: {reason}")?;
-            return Ok(false);
-        }
-    };
-    let mut reader = StreamSource::new(rt.reader());
-    let mut writer = StreamSink::new(io::writer(rt));
-    let mut bad = BadLines::new();
-    let replayed = replay_loaded(
-        rt.alloc(),
-        setup,
-        saved.as_slice(),
-        &mut reader,
-        &mut writer,
-        &mut bad,
-    );
-    let _ = report_bad_lines(rt, &bad);
-    match replayed {
-        Ok(()) => Ok(true),
-        Err(Stopped::Unloaded(fault)) => {
-            eprintln!(rt; "stickd: {path}: {fault}")?;
-            Ok(false)
-        }
-        Err(Stopped::Replay(fault)) => {
-            report(rt, fault)?;
-            Ok(false)
-        }
-    }
-}
-
 /// Says on standard error which lines of the script were bad: the first ten, and how many where there are more.
-fn report_bad_lines<R: Eprint>(rt: &R, bad: &BadLines) -> io::Result<()> {
+pub(crate) fn report_bad_lines<R: Eprint>(rt: &R, bad: &BadLines) -> io::Result<()> {
     let first = bad.first();
     for number in first {
         eprintln!(rt; "stickd: script line {number}: bad line")?;
@@ -333,29 +318,58 @@ fn report_bad_lines<R: Eprint>(rt: &R, bad: &BadLines) -> io::Result<()> {
     Ok(())
 }
 
-/// Runs the proxy of a configuration, each of its tables kept as the command line says.
-fn serve<R: ProxyRuntime + Files + AllocGlobal + Eprint + RandomSource + Env + Print>(
+/// Runs the proxy of a configuration, and waits meanwhile for nobody who reads what it says. Where its results can't be written, that is
+/// said, and the status is 1.
+fn serve<R: Machine + Files + AllocGlobal + RandomSource + Env>(
     rt: &R,
     arguments: &ArgMatches<'_>,
+) -> ExitCode {
+    let console = Console::open(rt);
+    let attended = Attended::new(rt, &console);
+    let manager = match read_surroundings(rt) {
+        Ok(manager) => manager,
+        Err(fault) => {
+            error!(attended; "{fault}");
+            return ExitCode::FAILURE;
+        }
+    };
+    match serve_file(&attended, arguments, &manager) {
+        Ok(status) => status,
+        Err(reason) => {
+            error!(attended; "writing failed: {reason}");
+            ExitCode::FAILURE
+        }
+    }
+}
+
+/// Runs the proxy of a configuration, each of its tables kept as the command line says.
+fn serve_file<R: ProxyRuntime + Files + AllocGlobal + Eprint + RandomSource + Print>(
+    rt: &R,
+    arguments: &ArgMatches<'_>,
+    manager: &Surroundings,
 ) -> io::Result<ExitCode> {
     let binds = match read_binds(rt.alloc(), arguments) {
         Ok(binds) => binds,
         Err(bad) => return refuse(rt, bad),
     };
-    let plan = match read_plan(arguments, binds.as_slice(), read_surroundings(rt)) {
+    let plan = match read_plan(arguments, binds.as_slice(), manager) {
         Ok(plan) => plan,
         Err(bad) => return refuse(rt, bad),
     };
     let path = arguments.get_str("FILE").unwrap_or("");
-    match read_served(rt, path)? {
-        Some(config) => serve_config(rt, &config, read_keeping(arguments), plan),
+    let Some(text) = read_text(rt, path)? else {
+        return Ok(ExitCode::FAILURE);
+    };
+    match read_served(rt, text.as_slice())? {
+        Some(config) => serve_config(rt, text.as_slice(), &config, read_keeping(arguments), plan),
         None => Ok(ExitCode::FAILURE),
     }
 }
 
-/// Runs the proxy of a configuration that was read.
+/// Runs the proxy of a configuration that was read of a text.
 fn serve_config<'a, R: ProxyRuntime + Files + AllocGlobal + Eprint + RandomSource + Print>(
     rt: &R,
+    text: &'a [u8],
     config: &'a Config,
     keeping: Keeping,
     plan: Plan<'a>,
@@ -369,9 +383,10 @@ fn serve_config<'a, R: ProxyRuntime + Files + AllocGlobal + Eprint + RandomSourc
     let Some(setup) = open_served(rt, config, keeping)? else {
         return Ok(ExitCode::FAILURE);
     };
-    // A name is made of ASCII letters, digits and a few signs.
+    // Names are made of ASCII letters, digits and a few signs.
     let frontend = str::from_utf8(frontend_name(config)).unwrap_or("");
-    let plan = with_frontend(plan, frontend);
+    let server = str::from_utf8(server_name(config, text)).unwrap_or("");
+    let plan = with_names(plan, frontend, server);
     let is_done = run_pooled(rt.alloc(), rt, &setup, plan)?;
     Ok(status_of(is_done))
 }
@@ -383,7 +398,7 @@ fn refuse<R: Eprint>(rt: &R, bad: BadWord<'_>) -> io::Result<ExitCode> {
 }
 
 /// Says on standard error why the replay stopped.
-fn report<R: Eprint>(rt: &R, fault: ReplayFault) -> io::Result<()> {
+pub(crate) fn report<R: Eprint>(rt: &R, fault: ReplayFault) -> io::Result<()> {
     let done = fault.done;
     match fault.kind {
         FaultKind::ReadFault => eprintln!(rt; "stickd: reading failed after {done} lines"),

@@ -5,11 +5,16 @@ use crate::arguments::{
 };
 use crate::help::{ADOPT_HELP, CHECK_HELP, CTL_HELP, REPLAY_HELP, RUN_HELP, STOP_HELP, TOP_HELP};
 use crate::options::{
-    backlog_option, bind_option, client_option, clients_option, connect_option, connections_option,
-    drain_option, fin_option, group_option, ipv4_prefix_option, ipv6_prefix_option,
-    keepalive_option, load_option, metrics_option, mode_option, purge_option, rejected_option,
-    report_option, retries_option, roll_option, save_option, server_option, shards_option,
-    socket_option, socket_time_option, stats_option, stop_option, stopped_option, threads_option,
+    backlog_option, bind_option, check_option, client_option, clients_option, connect_option,
+    connections_option, drain_option, fin_option, group_option, ipv4_prefix_option,
+    ipv6_prefix_option, keepalive_option, level_option, metrics_option, mode_option, purge_option,
+    rejected_option, report_option, retries_option, roll_option, server_option, shards_option,
+    socket_option, socket_time_option, stats_clients_option, stats_option, stop_drain_option,
+    stop_option, stopped_option, threads_option, user_timeout_option,
+};
+use crate::saved_options::{
+    fitting_option, lenient_option, load_option, patience_option, save_every_option, save_option,
+    to_option,
 };
 use clap::{Arg, ArgMatches, Command, Error};
 use std::alloc::{AllocError, Global};
@@ -45,7 +50,9 @@ fn check_command<'a>(alloc: Global) -> Result<Command<'a>, AllocError> {
         file_argument(alloc, true, "The configuration"),
     );
     let command = add_argument(command, all_option(alloc));
-    add_argument(command, explain_option(alloc))
+    let command = add_argument(command, explain_option(alloc));
+    let command = add_argument(command, fitting_option(alloc));
+    add_argument(command, shards_option(alloc))
 }
 
 /// `stickd adopt`.
@@ -99,7 +106,7 @@ fn ctl_command<'a>(alloc: Global) -> Result<Command<'a>, AllocError> {
     );
     let command = add_argument(command, socket_option(alloc));
     let command = add_argument(command, flag_option(alloc, "json", "Show answers as JSON"));
-    add_argument(
+    let command = add_argument(
         command,
         count_option(
             alloc,
@@ -108,7 +115,9 @@ fn ctl_command<'a>(alloc: Global) -> Result<Command<'a>, AllocError> {
             3600,
             "Ask again after so many seconds, 1 to 3600, until nobody answers",
         ),
-    )
+    );
+    let command = add_argument(command, to_option(alloc));
+    add_argument(command, patience_option(alloc))
 }
 
 /// The words of commands.
@@ -183,13 +192,16 @@ fn run_command<'a>(alloc: Global) -> Result<Command<'a>, AllocError> {
     );
     let command = add_argument(command, socket_option(alloc));
     let command = add_argument(command, threads_option(alloc));
+    let command = add_argument(command, check_option(alloc));
     let command = add_argument(command, bind_option(alloc));
     let command = add_argument(command, shards_option(alloc));
     let command = add_argument(command, purge_option(alloc));
     let command = add_argument(command, ipv4_prefix_option(alloc));
     let command = add_argument(command, ipv6_prefix_option(alloc));
     let command = add_argument(command, load_option(alloc));
+    let command = add_argument(command, lenient_option(alloc));
     let command = add_argument(command, save_option(alloc));
+    let command = add_argument(command, save_every_option(alloc));
     let command = add_argument(command, connections_option(alloc));
     let command = add_argument(command, backlog_option(alloc));
     let command = add_argument(command, connect_option(alloc));
@@ -198,11 +210,14 @@ fn run_command<'a>(alloc: Global) -> Result<Command<'a>, AllocError> {
     let command = add_argument(command, server_option(alloc));
     let command = add_argument(command, fin_option(alloc));
     let command = add_argument(command, keepalive_option(alloc));
+    let command = add_argument(command, user_timeout_option(alloc));
     let command = add_argument(command, mode_option(alloc));
     let command = add_argument(command, group_option(alloc));
+    let command = add_argument(command, level_option(alloc));
     let command = add_argument(command, clients_option(alloc));
     let command = add_argument(command, socket_time_option(alloc));
     let command = add_argument(command, stats_option(alloc));
+    let command = add_argument(command, stats_clients_option(alloc));
     let command = add_argument(command, metrics_option(alloc));
     let command = add_argument(command, report_option(alloc));
     let command = add_argument(command, rejected_option(alloc));
@@ -217,7 +232,8 @@ fn stop_command<'a>(alloc: Global) -> Result<Command<'a>, AllocError> {
         .about("Stop a running stickd, and wait until it has ended")
         .after_help(STOP_HELP)
         .arg(stopped_option(alloc));
-    add_argument(command, drain_option(alloc))
+    let command = add_argument(command, stop_drain_option(alloc));
+    add_argument(command, patience_option(alloc))
 }
 
 /// Adds a subcommand to a command, if there was memory to make it.

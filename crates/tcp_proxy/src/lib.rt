@@ -1,22 +1,28 @@
 //! The proxy at work: the tables of a setup, shared by its listener's workers, command socket and housekeeping; `stickd` runs it.
 #![tactic(auto)]
 
+mod asks;
 mod binding;
 mod counted;
 mod ending;
+mod handing;
 mod housekeeping;
 mod instruments;
 mod keeping;
+mod last_words;
 mod listeners;
 mod opening;
+mod places;
 mod plan;
 mod reporting;
 mod running;
 mod running_program;
+mod saver;
 mod service_threads;
 mod serving;
 mod shared;
 mod sockets;
+mod start_warnings;
 mod table_end;
 mod timetable;
 

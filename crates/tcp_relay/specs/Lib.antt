@@ -13,3 +13,4 @@ pub mod Seating
 pub mod Serving
 pub mod Sweeps
 pub mod Meeting
+pub mod Starting

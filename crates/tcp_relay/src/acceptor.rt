@@ -1,14 +1,15 @@
 //! When a worker accepts clients, and how long it may wait; `turning` asks it in each turn.
 
 ghost use Rattle.std.specs.Prelude.{◌≡◌, ◌≢◌, ◌&&◌, true, false, is_some, IsOk};
-ghost use Rattle.tcp_relay.specs.Accepting.{can_accept, is_shortage, pause_of};
+ghost use Rattle.tcp_relay.specs.Accepting.{can_accept, is_shortage, pause_of, sleep_of};
 
 use crate::accept_errors::AcceptFault;
 use crate::connection_counter::ConnectionCounter;
+use crate::sweep::TICK;
 use std::io;
 use std::net::{Net, SocketAddr};
 use std::sync::Wait;
-use tcp_link::{Keepalive, ServerSocket};
+use tcp_link::{Liveness, ServerSocket};
 
 /// How long a worker waits until something is ready.
 #[derive(Clone, Copy, Debug, PartialEq, Eq)]
@@ -18,6 +19,19 @@ pub(crate) enum Pause {
     Tick,
     /// Until something is ready, or a drain begins.
     UntilReady,
+}
+
+impl Pause {
+    /// For how many ms a worker sleeps at most. None where it sleeps until it is woken.
+    pub(crate) fn most(self) -> Option<u64>
+        ensures { result ≡ sleep_of self }
+    {
+        match self {
+            Pause::NotAtAll => Some(0),
+            Pause::Tick => Some(TICK),
+            Pause::UntilReady => None,
+        }
+    }
 }
 
 /// What a worker accepts clients by. A client is accepted only with a socket for its server at hand, so that no client is accepted
@@ -178,7 +192,7 @@ impl Acceptor {
         &mut self,
         rt: &impl Net,
         server: SocketAddr,
-        keepalive: Option<Keepalive>,
+        liveness: Liveness,
     ) -> io::Result<()>
         ensures ready { IsOk result → is_some self.new.server ≡ true }
         ensures same { (self.new.number ≡ self.old.number) × (self.new.may_have ≡ self.old.may_have) }
@@ -187,7 +201,7 @@ impl Acceptor {
         if self.server.is_some() {
             return Ok(());
         }
-        match ServerSocket::open(rt, server, keepalive) {
+        match ServerSocket::open(rt, server, liveness) {
             Ok(socket) => {
                 self.server = Some(socket);
                 Ok(())

@@ -59,8 +59,8 @@ pub(crate) fn close<'a, T: Table, J: Naming, R: ServeRuntime, G, W: Width>(
     link.close(shared.rt);
 }
 
-/// Closes the connections of which a peer had been silent for too long at a moment in ms, by the clock of silence. What the system was short of is tried
-/// again too.
+/// Closes the connections of which a peer had been silent for too long at a moment in ms, by the clock of silence, and those whose
+/// resets may come now. What the system was short of is tried again too.
 pub(crate) fn close_silent<'a, T: Table, J: Naming, R: ServeRuntime, G, W: Width>(
     shared: &Shared<'a, R, G, W>,
     worker: &mut Worker<'a, T, J, R, W>,
@@ -68,6 +68,9 @@ pub(crate) fn close_silent<'a, T: Table, J: Naming, R: ServeRuntime, G, W: Width
     as_of: u64,
 ) {
     for place in 0..worker.places.count() {
+        if worker.places.is_settled(place, as_of) {
+            close(shared, worker, &mut event_loop.clock, place, None);
+        }
         if let Some(late) = worker.places.lateness(place, as_of, &shared.timeouts) {
             let cause = Some(Ending::Late(late));
             close(shared, worker, &mut event_loop.clock, place, cause);
@@ -112,7 +115,7 @@ fn retry<'a, T: Table, J: Naming, R: ServeRuntime, G, W: Width>(
     place: usize,
     moment: u64,
 ) {
-    let Ok(server) = ServerSocket::open(shared.rt, shared.server, shared.keepalive) else {
+    let Ok(server) = ServerSocket::open(shared.rt, shared.server, shared.liveness) else {
         return;
     };
     let registry = event_loop.watch.registry();

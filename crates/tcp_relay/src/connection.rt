@@ -87,6 +87,14 @@ impl<'a, J: Naming, W: Width> Connection<'a, J, W> {
         }
     }
 
+    /// Whether it is open, and a side of it that is owed a reset has taken all, at a moment in ms.
+    pub(crate) fn is_settled(&self, moment: u64) -> bool {
+        match &self.link {
+            Some(link) => link.is_settled(moment),
+            None => false,
+        }
+    }
+
     /// Tries its server again, by this socket. Whether it is over now.
     pub(crate) fn retry(
         &mut self,

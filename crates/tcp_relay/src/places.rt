@@ -187,6 +187,14 @@ impl<'a, J: Naming, W: Width> Places<'a, J, W> {
         }
     }
 
+    /// Whether the connection in a place is open, and a side of it that is owed a reset has taken all, at a moment in ms.
+    pub(crate) fn is_settled(&self, place: usize, moment: u64) -> bool {
+        match self.held.get(place) {
+            Some(Some(connection)) => connection.is_settled(moment),
+            _ => false,
+        }
+    }
+
     /// Tries the server of the connection in a place again, by this socket. Whether the connection is over now.
     pub(crate) fn retry(
         &mut self,

@@ -19,7 +19,7 @@ use crate::met::{count_met, met_by};
 use crate::shared::Shared;
 use crate::sweep::Sweep;
 use crate::visiting::{arrive, end_admitted, end_at, judge_one};
-use crate::watch::{LISTENER, Watch};
+use crate::watch::{LISTENER, Watch, is_of_connection};
 use crate::width::Width;
 use crate::worker::Worker;
 use crate::{Gate, ServeRuntime};
@@ -221,7 +221,7 @@ fn try_to_accept<'a, T: Table, J: Naming, R: ServeRuntime, G: Gate, W: Width>(
 ) {
     let ready = event_loop
         .acceptor
-        .ready_server(shared.rt, shared.server, shared.keepalive);
+        .ready_server(shared.rt, shared.server, shared.liveness);
     if let Err(error) = ready {
         let error = error.raw_os_error().map(i32::unsigned_abs);
         note_short(shared, worker, &mut event_loop.acceptor, error);
@@ -309,7 +309,7 @@ fn turn_each<'a, T: Table, J: Naming, R: ServeRuntime, G: Gate, W: Width>(
         && accept_some(shared, worker, event_loop, buffer);
     event_loop.turn.end(shared.rt);
     for event in events.iter() {
-        if event.token() != LISTENER {
+        if is_of_connection(event.token()) {
             turn(shared, worker, event_loop, buffer, Ready::of(event), moment);
             only_accepts = false;
         }
@@ -332,11 +332,7 @@ fn wait<'a, T: Table, J: Naming, R: ServeRuntime, G: Gate, W: Width>(
     event_loop
         .turn
         .begin(shared.rt, event_loop.acceptor.can_accept(has_room));
-    let drain = shared.control.drain;
-    let is_well = event_loop
-        .watch
-        .wait(shared.rt, drain, events, pause)
-        .is_ok();
+    let is_well = event_loop.watch.wait(events, pause).is_ok();
     if !is_well {
         event_loop.turn.end(shared.rt);
     }

@@ -21,7 +21,9 @@ from lib.shims import build_shim
 TABLE = 'stick-table type ip size 1k store conn_cur,conn_cnt'
 TRACK = 'tcp-request connection track-sc0 src'
 SETTLED = re.compile(rb'settled www: \d+ calls, 0 references\n')
-LOGGED = re.compile(rb"(?m)^(?:\[(?:INFO|WARN) |stickd: warning: ).*\n")
+LOGGED = re.compile(rb"(?m)^(?:\[INFO |<4>stickd: warning: ).*\n")
+# What stands in front of an error, for the journal.
+MARK = re.compile(rb'(?m)^<3>')
 THREADS = 4
 NOBODY = 65534
 # The seconds that a start may take that is to stop at once.
@@ -39,8 +41,8 @@ class Site:
 
 
 def said_alone(ran):
-    """The same run, without the lines that tell how it goes."""
-    return ran._replace(stderr=LOGGED.sub(b'', ran.stderr))
+    """The same run, without the lines that tell how it goes, and without the marks of errors."""
+    return ran._replace(stderr=MARK.sub(b'', LOGGED.sub(b'', ran.stderr)))
 
 
 def settles_or_says(ran, *texts):

@@ -130,6 +130,7 @@ def one_that_sends_much_leaves_turns_to_others():
             with proxy.connect() as client:
                 client.sendall(b'?')
                 assert is_greeted(client), 'another is served'
+            # What a server still sends to those that leave is read too, and dropped.
             ends.set()
             for one in taking:
                 one.join()

@@ -1,14 +1,19 @@
 """Trials of what Prometheus is told, and that all counts add up."""
+import contextlib
+import os
+import re
 import socket
 import subprocess
 import threading
 import time
 
 from lib.operations.watched import watched
-from lib.proxy import PATIENCE, arrive, is_greeted, read_all, reset, wait_for
+from lib.proxy import PATIENCE, TABLE, TRACK, Proxy, Server, arrive, free_port, greets, is_greeted, read_all, reset, wait_for
 from lib.trials import wants
 
 ROUND = 25
+# How long a scrape may take, in seconds.
+SCRAPE = 5
 
 
 def metrics_are_answered():
@@ -46,6 +51,71 @@ def slow_scrapers_hold_up_nobody():
             assert read_all(stream) == b''
             stream.close()
         assert time.monotonic() - began < 15
+
+
+def head_is_answered_without_a_body():
+    """HEAD has the status and the fields that GET has, the length of the body among them, and no body."""
+    with watched() as proxy:
+        for path in ('/metrics', '/none'):
+            got, asked = (proxy.fetched(f'{method} {path} HTTP/1.1\r\nHost: here\r\n\r\n'.encode()) for method in ('GET', 'HEAD'))
+            assert asked[2] == '' and got[2] != '', (path, asked)
+            assert asked[0] == got[0], (path, asked[0], got[0])
+            lengths = [int(re.search(r'Content-Length: (\d+)', head)[1]) for head in (got[1], asked[1])]
+            # Between the two the counts may have gone on by a digit.
+            assert abs(lengths[0] - lengths[1]) < 20 and lengths[0] == len(got[2]), (path, lengths)
+
+
+def dripped(port):
+    """How long a client is waited for that sends a byte of a request every 0.2 seconds."""
+    with socket.create_connection(('127.0.0.1', port), PATIENCE) as stream:
+        stream.settimeout(0.2)
+        began = time.monotonic()
+        with contextlib.suppress(ConnectionError):
+            for byte in b'GET /metrics HTTP/1.1\r\nHost: here\r\nA: ' + b'a' * 15 * SCRAPE:
+                stream.sendall(bytes([byte]))
+                with contextlib.suppress(TimeoutError):
+                    if stream.recv(1) == b'':
+                        break
+        return time.monotonic() - began
+
+
+def a_request_has_one_deadline():
+    """However a request drips in, its client is closed 5 seconds after the accept, and not before."""
+    with watched() as proxy:
+        lasted = dripped(proxy.metrics_port)
+        assert SCRAPE - 0.5 < lasted < 2 * SCRAPE, lasted
+
+
+def the_process_is_told():
+    """What the system says of the process is told by the client libraries' names, and is what /proc says of it."""
+    with watched() as proxy:
+        body = proxy.fetched(b'GET /metrics HTTP/1.1\r\nHost: here\r\n\r\n')[2]
+        told = {name: float(value) for name, value in re.findall(r'^(process_[a-z_]+) ([0-9.]+)$', body, re.M)}
+        pid = proxy.program.pid
+        with open(f'/proc/{pid}/stat', encoding='ascii') as file:
+            fields = file.read().rpartition(')')[2].split()
+        ticks = (int(fields[11]) + int(fields[12])) / os.sysconf('SC_CLK_TCK')
+        assert 0 <= ticks - told['process_cpu_seconds_total'] < 2, (ticks, told)
+        assert abs(told['process_resident_memory_bytes'] - int(fields[21]) * os.sysconf('SC_PAGESIZE')) < 2**22, (fields, told)
+        assert abs(told['process_virtual_memory_bytes'] - int(fields[20])) < 2**26, (fields, told)
+        # The client of this scrape is gone by now.
+        assert abs(told['process_open_fds'] - len(os.listdir(f'/proc/{pid}/fd'))) <= 2, told
+        with open(f'/proc/{pid}/limits', encoding='ascii') as file:
+            assert told['process_max_fds'] == int(re.search(r'^Max open files +(\d+)', file.read(), re.M)[1]), told
+        assert 0 <= time.time() - told['process_start_time_seconds'] < 60, told
+
+
+def an_open_place_is_warned_of():
+    """A start warns of metrics that others can reach, and not of those at the machine's own address."""
+    for address, is_warned in (('0.0.0.0', True), ('[::]', True), ('127.0.0.1', False), ('[::1]', False)):
+        place = f'{address}:{free_port()}'
+        with Server(greets) as server, Proxy(server.port, [TABLE, TRACK], '--metrics', place) as proxy:
+            # Who is served comes after all that a start says.
+            with proxy.connect() as client:
+                assert is_greeted(client)
+            proxy.program.terminate()
+            said = proxy.program.communicate(timeout=PATIENCE)[1]
+            assert (f'stickd: warning: Whoever can connect to {place} reads the metrics.' in said) == is_warned, (place, said)
 
 
 def adds_up(shown):
@@ -87,4 +157,5 @@ def counts_add_up():
         assert shown['stickd_connections_accepted_total'] == admitted + rejected, shown
 
 
-TRIALS = [metrics_are_answered, promtool_finds_no_fault, slow_scrapers_hold_up_nobody, counts_add_up]
+TRIALS = [metrics_are_answered, promtool_finds_no_fault, slow_scrapers_hold_up_nobody, head_is_answered_without_a_body,
+          a_request_has_one_deadline, the_process_is_told, an_open_place_is_warned_of, counts_add_up]
