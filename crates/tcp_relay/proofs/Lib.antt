@@ -15,3 +15,5 @@ mod PassedGoes
 mod PassedStays
 mod PassedPlaces
 mod PassedOf
+mod UntrackedGoes
+mod MomentGoes

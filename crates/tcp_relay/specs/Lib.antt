@@ -12,5 +12,8 @@ pub mod Passed
 pub mod Seating
 pub mod Serving
 pub mod Sweeps
+pub mod Traffics
+pub mod Untracked
 pub mod Meeting
+pub mod Moments
 pub mod Starting

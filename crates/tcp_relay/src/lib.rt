@@ -35,6 +35,7 @@ mod shared;
 mod shares;
 mod start_gate;
 mod sweep;
+mod traffic;
 mod turning;
 mod visiting;
 mod watch;

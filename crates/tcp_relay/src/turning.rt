@@ -4,13 +4,13 @@ ghost use Rattle.std.specs.Prelude.{◌≡◌, Some, None, slice_get};
 ghost use Rattle.admit_core.specs.Conn.{needed};
 ghost use Rattle.admit_core.specs.declared.need.Need.TheVariants.{Rest};
 ghost use Rattle.tcp_relay.specs.Connections.{IsVisitor};
-ghost use Rattle.tcp_relay.specs.Passed.{HasPassedIn};
+ghost use Rattle.tcp_relay.specs.Addresses.{samples_of};
+ghost use Rattle.tcp_relay.specs.Passed.{HasPassedAs};
 
 use crate::accept_errors::{AcceptFault, Shortage, shortage_of};
 use crate::acceptor::Acceptor;
-use crate::addresses::samples;
 use crate::buffers::Buffers;
-use crate::closing::{close, close_all, close_silent, ended_of, retry_due};
+use crate::closing::{close, close_all, close_silent, count_open, ended_of, retry_due};
 use crate::drain::Phase;
 use crate::fates::{Ended, Ending};
 use crate::listener_turn::WorkerTurn;
@@ -18,6 +18,7 @@ use crate::listeners::Accepted;
 use crate::met::{count_met, met_by};
 use crate::shared::Shared;
 use crate::sweep::Sweep;
+use crate::traffic::Traffic;
 use crate::visiting::{arrive, end_admitted, end_at, judge_one};
 use crate::watch::{LISTENER, Watch, is_of_connection};
 use crate::width::Width;
@@ -65,7 +66,7 @@ fn take_in<'a, T: Table, J: Naming, R: ServeRuntime, G: Gate, W: Width>(
     requires free { slice_get worker.old.places.held.items place ≡ Some None }
 {
     let peer = accepted.peer;
-    let samples = samples(peer, accepted.port);
+    let samples = accepted.samples();
     let mut conn = arrive(shared, samples);
     let seated = &mut worker.seated;
     let is_admitted = judge_one(shared, seated, &mut event_loop.clock, number, &mut conn);
@@ -93,7 +94,7 @@ fn carry<'a, T: Table, J: Naming, R: ServeRuntime, G, W: Width>(
 )
     requires connection { IsVisitor W.tables W.shards conn }
     requires rests { needed conn ≡ Rest }
-    requires passed { HasPassedIn W.setup worker.old.seated.items conn }
+    requires passed { HasPassedAs W.setup (samples_of accepted.peer accepted.port) worker.old.seated.items conn }
     requires free { slice_get worker.old.places.held.items place ≡ Some None }
 {
     shared.control.gauge.enter();
@@ -146,7 +147,7 @@ fn start<R: ServeRuntime, G, W: Width>(
     if link.start(event_loop.watch.registry(), place, moment, buffer) {
         return Ok(link);
     }
-    let ended = ended_of(&link, None);
+    let ended = ended_of(&link, Traffic::none(), None);
     shared.control.note_end(ended.ending, &link);
     link.close(shared.rt);
     Err(ended)
@@ -363,6 +364,7 @@ pub(crate) fn turn_all<'a, T: Table, J: Naming, R: ServeRuntime, G: Gate, W: Wid
     let heard = event_loop.sweep.counted();
     let only_accepts = turn_each(shared, worker, event_loop, events, buffer, heard);
     if let Some(as_of) = as_of {
+        count_open(worker);
         close_silent(shared, worker, event_loop, as_of);
         if shared.retries > 0 {
             retry_due(shared, worker, event_loop, buffer);

@@ -65,14 +65,15 @@ def head_is_answered_without_a_body():
             assert abs(lengths[0] - lengths[1]) < 20 and lengths[0] == len(got[2]), (path, lengths)
 
 
-def dripped(port):
-    """How long a client is waited for that sends a byte of a request every 0.2 seconds."""
+def dripped(port, pause):
+    """How long a client is waited for that sends a byte of a request after each pause, in seconds."""
     with socket.create_connection(('127.0.0.1', port), PATIENCE) as stream:
-        stream.settimeout(0.2)
+        stream.settimeout(pause)
         began = time.monotonic()
         with contextlib.suppress(ConnectionError):
-            for byte in b'GET /metrics HTTP/1.1\r\nHost: here\r\nA: ' + b'a' * 15 * SCRAPE:
-                stream.sendall(bytes([byte]))
+            stream.sendall(b'GET /metrics HTTP/1.1\r\nHost: here\r\nA: ')
+            while time.monotonic() - began < 4 * SCRAPE:
+                stream.sendall(b'a')
                 with contextlib.suppress(TimeoutError):
                     if stream.recv(1) == b'':
                         break
@@ -80,10 +81,26 @@ def dripped(port):
 
 
 def a_request_has_one_deadline():
-    """However a request drips in, its client is closed 5 seconds after the accept, and not before."""
+    """However fast or slowly a request drips in, its client is closed 5 seconds after the accept, and not before."""
     with watched() as proxy:
-        lasted = dripped(proxy.metrics_port)
-        assert SCRAPE - 0.5 < lasted < 2 * SCRAPE, lasted
+        for pause in (0.01, 1.0):
+            lasted = dripped(proxy.metrics_port, pause)
+            assert SCRAPE - 0.5 < lasted < 2 * SCRAPE, (pause, lasted)
+
+
+def bytes_count_while_they_pass():
+    """Bytes of a connection are told while it is open, each once, and its end adds none of them again."""
+    way_in, way_out = 'stickd_bytes_total{direction="in"}', 'stickd_bytes_total{direction="out"}'
+    with watched() as proxy:
+        with proxy.connect() as client:
+            assert is_greeted(client)
+            for passed in (100_000, 300_000):
+                client.sendall(b'x' * (passed - int(proxy.metrics()[way_in])))
+                wait_for(f'{passed} bytes are told', lambda: proxy.metrics()[way_in] == passed, within=2)
+            assert proxy.metrics()[way_out] == 1 and proxy.metrics()['stickd_connections'] == 1
+        wait_for('it has ended', lambda: proxy.metrics()['stickd_connections'] == 0)
+        shown = proxy.metrics()
+        assert (shown[way_in], shown[way_out]) == (300_000, 1), shown
 
 
 def the_process_is_told():
@@ -158,4 +175,4 @@ def counts_add_up():
 
 
 TRIALS = [metrics_are_answered, promtool_finds_no_fault, slow_scrapers_hold_up_nobody, head_is_answered_without_a_body,
-          a_request_has_one_deadline, the_process_is_told, an_open_place_is_warned_of, counts_add_up]
+          a_request_has_one_deadline, bytes_count_while_they_pass, the_process_is_told, an_open_place_is_warned_of, counts_add_up]
