@@ -5,6 +5,7 @@ pub mod ServingLemmas
 mod LookLemmas
 mod ShareLemmas
 mod DrainLemmas
+mod BalanceLemmas
 mod PassedCalls
 mod PassedTold
 mod PassedLooks

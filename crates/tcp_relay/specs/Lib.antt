@@ -1,5 +1,6 @@
 pub mod Accepting
 pub mod Addresses
+pub mod Balance
 pub mod Connections
 pub mod Counting
 pub mod Counts

@@ -42,7 +42,7 @@ pub(crate) struct Acceptor {
     number: Option<u64>,
     /// Whether no number more is drawn.
     is_closed: bool,
-    /// Whether clients may wait: that was told, and not since that there is none.
+    /// Whether clients may wait: that was told, and since neither that there is none, nor that they are another's.
     may_have: bool,
     /// Whether the system was short of what a client takes; until a tick has passed, or a connection has ended.
     is_short: bool,
@@ -112,6 +112,14 @@ impl Acceptor {
         self.may_have = true;
     }
 
+    /// The clients that wait are another worker's.
+    pub(crate) fn leave(&mut self)
+        ensures told { self.new.may_have ≡ false }
+        ensures same { (self.new.number ≡ self.old.number) × (self.new.is_short ≡ self.old.is_short) }
+    {
+        self.may_have = false;
+    }
+
     /// Connections have ended, or a tick has passed: the system may have what a client takes again.
     pub(crate) fn try_again(&mut self)
         ensures short { self.new.is_short ≡ false }
@@ -151,7 +159,7 @@ impl Acceptor {
         }
     }
 
-    /// Whether a client may wait that wasn't accepted.
+    /// Whether a client may wait that wasn't accepted, nor is another's.
     pub(crate) fn may_have(&self) -> bool
         ensures { result ≡ self.now.may_have }
     {
@@ -173,7 +181,7 @@ impl Acceptor {
     }
 
     /// How long a worker waits now: one that has a place or not, is to look for silent peers or not, and holds connections or
-    /// not. It never waits while a client may wait that it can accept.
+    /// not. It never waits while a client may wait that it can accept, unless that is another's.
     pub(crate) fn pause(&self, has_place: bool, is_due: bool, holds: bool) -> Pause
         ensures pause { result ≡ pause_of (can_accept (is_some self.now.number) has_place self.now.is_short) self.now.may_have is_due holds self.now.is_short }
         ensures tried { result ≢ Pause.NotAtAll → can_accept (is_some self.now.number) has_place self.now.is_short ≡ true → self.now.may_have ≡ false }

@@ -9,6 +9,7 @@
 mod accept_errors;
 mod acceptor;
 mod addresses;
+mod balance;
 mod buffers;
 mod closing;
 mod connection;
@@ -33,6 +34,7 @@ mod served;
 mod serving;
 mod shared;
 mod shares;
+mod standing;
 mod start_gate;
 mod sweep;
 mod traffic;

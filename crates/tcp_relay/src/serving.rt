@@ -61,13 +61,14 @@ fn serve_each<'a, T: Table, J: Naming, R: ServeRuntime, G: Gate, W: Width>(
             .acceptor
             .draw(shared.counter, shared.rt, worker.keeps);
         if event_loop.acceptor.number().is_none() && worker.places.is_idle() {
-            return;
+            break;
         }
         if !turn_all(shared, worker, &mut event_loop, &mut buffers) {
             worker.tally.has_failed = true;
-            return;
+            break;
         }
     }
+    event_loop.turn.finish(shared.rt);
 }
 
 /// A watch of the listeners and of a drain for the next worker, of this number. None where the system refuses it.

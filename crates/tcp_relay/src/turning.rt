@@ -17,6 +17,7 @@ use crate::listener_turn::WorkerTurn;
 use crate::listeners::Accepted;
 use crate::met::{count_met, met_by};
 use crate::shared::Shared;
+use crate::standing::Stand;
 use crate::sweep::Sweep;
 use crate::traffic::Traffic;
 use crate::visiting::{arrive, end_admitted, end_at, judge_one};
@@ -180,10 +181,10 @@ fn accept_one<'a, T: Table, J: Naming, R: ServeRuntime, G: Gate, W: Width>(
     requires free { slice_get worker.old.places.held.items place ≡ Some None }
 {
     let accepted = shared.listeners.accept(event_loop.next);
-    // From here on another is told, as the gate may block this one.
-    event_loop.turn.end(shared.rt);
     match accepted {
         Ok(accepted) => {
+            // From here on another is told, as the gate may block this one.
+            event_loop.turn.pass(shared.rt, worker.places.open());
             event_loop.next = accepted.next;
             event_loop.acceptor.pass();
             worker.counted.count_accepted();
@@ -234,7 +235,7 @@ fn try_to_accept<'a, T: Table, J: Naming, R: ServeRuntime, G: Gate, W: Width>(
     }
 }
 
-/// Accepts the clients that wait, as far as this worker can. Whether none waits now.
+/// Accepts the clients that wait, as far as this worker can, and no other is to take them. Whether it has none to take now.
 fn accept_some<'a, T: Table, J: Naming, R: ServeRuntime, G: Gate, W: Width>(
     shared: &Shared<'a, R, G, W>,
     worker: &mut Worker<'a, T, J, R, W>,
@@ -251,7 +252,12 @@ fn accept_some<'a, T: Table, J: Naming, R: ServeRuntime, G: Gate, W: Width>(
         let Some(number) = event_loop.acceptor.number() else {
             break;
         };
+        if event_loop.turn.leaves(shared.rt, worker.places.open()) {
+            event_loop.acceptor.leave();
+            break;
+        }
         try_to_accept(shared, worker, event_loop, buffer, number);
+        event_loop.turn.hold(worker.places.open());
     }
     !event_loop.acceptor.may_have()
 }
@@ -294,7 +300,7 @@ fn tells_of_connections(events: &Events) -> bool {
     false
 }
 
-/// Gives each that is ready its turn, the listener first. Whether that was the listener alone, where no client waits now.
+/// Gives each that is ready its turn, the listener first. Whether that was the listener alone, where it has no client to take now.
 fn turn_each<'a, T: Table, J: Naming, R: ServeRuntime, G: Gate, W: Width>(
     shared: &Shared<'a, R, G, W>,
     worker: &mut Worker<'a, T, J, R, W>,
@@ -308,7 +314,6 @@ fn turn_each<'a, T: Table, J: Naming, R: ServeRuntime, G: Gate, W: Width>(
     }
     let mut only_accepts = event_loop.acceptor.may_have()
         && accept_some(shared, worker, event_loop, buffer);
-    event_loop.turn.end(shared.rt);
     for event in events.iter() {
         if is_of_connection(event.token()) {
             turn(shared, worker, event_loop, buffer, Ready::of(event), moment);
@@ -327,16 +332,16 @@ fn wait<'a, T: Table, J: Naming, R: ServeRuntime, G: Gate, W: Width>(
 ) -> bool {
     let has_room = worker.places.has_room();
     let holds = !worker.places.is_idle();
-    let pause = event_loop
-        .acceptor
-        .pause(has_room, event_loop.sweep.is_due(), holds);
-    event_loop
-        .turn
-        .begin(shared.rt, event_loop.acceptor.can_accept(has_room));
+    let acceptor = &event_loop.acceptor;
+    let pause = acceptor.pause(has_room, event_loop.sweep.is_due(), holds);
+    let stand = Stand {
+        can_accept: acceptor.can_accept(has_room),
+        may_have: acceptor.may_have(),
+        held: worker.places.open(),
+    };
+    event_loop.turn.begin(shared.rt, stand, pause);
     let is_well = event_loop.watch.wait(events, pause).is_ok();
-    if !is_well {
-        event_loop.turn.end(shared.rt);
-    }
+    event_loop.turn.end();
     is_well
 }
 
@@ -364,6 +369,7 @@ pub(crate) fn turn_all<'a, T: Table, J: Naming, R: ServeRuntime, G: Gate, W: Wid
     let heard = event_loop.sweep.counted();
     let only_accepts = turn_each(shared, worker, event_loop, events, buffer, heard);
     if let Some(as_of) = as_of {
+        event_loop.turn.look_after(shared.rt);
         count_open(worker);
         close_silent(shared, worker, event_loop, as_of);
         if shared.retries > 0 {
