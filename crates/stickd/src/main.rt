@@ -17,7 +17,9 @@ use byte_ports::{StreamSink, StreamSource};
 use clap::ArgMatches;
 use log::{Log, error};
 use rule_model::{Config, Setup};
-use run_plan::{BadWord, read_binds, read_drain, read_patience, read_plan, with_names};
+use run_plan::{
+    BadWord, read_binds, read_drain, read_patience, read_plan, read_stats, with_names,
+};
 use saved_file::{check_saved, replay_saved};
 use std::alloc::Global;
 use std::net::{Net, TcpListener, TcpStream};
@@ -352,7 +354,11 @@ fn serve_file<R: ProxyRuntime + Files + AllocGlobal + Eprint + RandomSource + Pr
         Ok(binds) => binds,
         Err(bad) => return refuse(rt, bad),
     };
-    let plan = match read_plan(arguments, binds.as_slice(), manager) {
+    let stats = match read_stats(rt.alloc(), arguments) {
+        Ok(stats) => stats,
+        Err(bad) => return refuse(rt, bad),
+    };
+    let plan = match read_plan(arguments, binds.as_slice(), stats.as_slice(), manager) {
         Ok(plan) => plan,
         Err(bad) => return refuse(rt, bad),
     };

@@ -15,7 +15,9 @@ use stickd_input::{
 use table_cli::Misfits;
 use table_socket::read_mode;
 use tcp_link::{Keepalive, Liveness, Timeouts, UserTimeout};
-use tcp_proxy::{About, KeepPlan, Plan, STATS_CLIENTS, SocketPlan, StatsPlan, WatchPlan};
+use tcp_proxy::{
+    About, KeepPlan, MOST_STATS_SOCKETS, Plan, STATS_CLIENTS, SocketPlan, StatsPlan, WatchPlan,
+};
 use tcp_relay::Limits;
 use tcp_watch::{Level, Surroundings, level_named};
 
@@ -58,6 +60,8 @@ pub enum BadWord<'a> {
     Level(&'a str),
     #[error("--bind can be given 16 times, and no more")]
     ManyBinds,
+    #[error("--stats-socket can be given 4 times, and no more")]
+    ManyStats,
     #[error("--save-every wants --save, which names the file")]
     NothingToSave,
     #[error("out of memory")]
@@ -235,15 +239,37 @@ fn split_stats(word: &str) -> Option<StatsPlan<'_>>
     None
 }
 
-/// The socket on which HAProxy's tools are answered.
-fn read_stats<'a>(arguments: &ArgMatches<'a>) -> Result<Option<StatsPlan<'a>>, BadWord<'a>> {
-    let Some(word) = arguments.get_str(STATS) else {
-        return Ok(None);
-    };
-    match split_stats(word) {
-        Some(stats) => Ok(Some(stats)),
-        None => Err(BadWord::Stats(word)),
+/// The sockets on which HAProxy's tools are answered.
+pub fn read_stats<'a>(
+    alloc: Global,
+    arguments: &ArgMatches<'a>,
+) -> Result<Vec<StatsPlan<'a>>, BadWord<'a>> {
+    match arguments.get_strs(STATS) {
+        Some(words) => read_each_stats(alloc, words),
+        None => Ok(Vec::new(alloc)),
     }
+}
+
+/// The stats sockets that these words say, each of which it has to.
+fn read_each_stats<'a>(
+    alloc: Global,
+    words: &[&'a str],
+) -> Result<Vec<StatsPlan<'a>>, BadWord<'a>>
+    ensures few { IfOk result (λ stats. length stats.items ≤ 4) }
+{
+    if words.len() > MOST_STATS_SOCKETS {
+        return Err(BadWord::ManyStats);
+    }
+    let mut each = Vec::new(alloc);
+    for word in words {
+        let Some(stats) = split_stats(word) else {
+            return Err(BadWord::Stats(word));
+        };
+        if each.push(stats).is_err() {
+            return Err(BadWord::Memory);
+        }
+    }
+    Ok(each)
 }
 
 /// What the clients of the command socket may do: all, where it isn't said otherwise.
@@ -305,6 +331,7 @@ fn read_keep<'a>(arguments: &ArgMatches<'a>) -> Result<KeepPlan<'a>, BadWord<'a>
 pub fn read_plan<'a>(
     arguments: &'a ArgMatches<'_>,
     more_binds: &'a [Endpoint],
+    stats: &'a [StatsPlan<'a>],
     manager: &'a Surroundings,
 ) -> Result<Plan<'a>, BadWord<'a>>
     ensures threads { IfOk result (λ plan. (1 ≤ plan.threads) × (plan.threads ≤ 64)) }
@@ -341,7 +368,8 @@ pub fn read_plan<'a>(
         keep: read_keep(arguments)?,
         watch: WatchPlan {
             report: read_timeout(arguments, REPORT)?,
-            stats: read_stats(arguments)?,
+            stats: stats.first().copied(),
+            more_stats: stats.get(1..).unwrap_or(&[]),
             stats_clients: arguments
                 .get_one::<u32>("stats-clients")
                 .unwrap_or(STATS_CLIENTS),

@@ -319,8 +319,9 @@ pub(crate) fn stats_option<'a>(alloc: Global) -> Arg<'a> {
         alloc,
         STATS,
         "PATH[,OPTION]",
-        "The Unix socket that speaks as HAProxy's stats socket does [default: none]; ,mode=M ,group=G ,level=L",
+        "A Unix socket that speaks as HAProxy's stats socket does [default: none]; ,mode=M ,group=G ,level=L; may be given 4 times",
     )
+    .action(ArgAction::Append)
 }
 
 /// How many clients of the stats socket are answered at once.
@@ -330,7 +331,7 @@ pub(crate) fn stats_clients_option<'a>(alloc: Global) -> Arg<'a> {
         "stats-clients",
         "N",
         32,
-        "How many clients of the stats socket are answered at once, 1 to 32, and a line of each further one",
+        "How many clients of each stats socket are answered at once, 1 to 32, and a line of each further one",
     )
     .default_value("4")
 }

@@ -1,5 +1,5 @@
 -- Who looks at a run while it goes on, and which threads that takes.
-use Rattle.std.specs.Prelude.{ℕ, nat_lt, min, max, Bool, ◌||◌, not, is_some, if◌then◌else◌}
+use Rattle.std.specs.Prelude.{ℕ, ◌+◌, length, nat_lt, min, max, Bool, ◌||◌, not, is_some, if◌then◌else◌}
 use Rattle.tcp_watch.specs.Handed.{has}
 use Rattle.tcp_watch.specs.declared.handed.Purpose.TheVariants.{Stats}
 use Rattle.tcp_watch.specs.declared.surroundings.Surroundings.{Surroundings}
@@ -23,6 +23,10 @@ is_manager_told manager = is_some manager.notify
 abbrev pub places_of : ℕ → ℕ
 places_of asked = min (max asked 1) 32
 
+-- one stats socket at least brings the further ones, up to four in all
+abbrev pub sockets_of : WatchPlan → Surroundings → ℕ
+sockets_of watch manager = if has_stats watch manager then 1 + min (length watch.more_stats.now) 3 else 0
+
 -- as many clients as there are places, or more, leave none
 abbrev pub are_full : ℕ → ℕ → Bool
 are_full taken count = not (nat_lt taken count)
@@ -31,8 +35,8 @@ are_full taken count = not (nat_lt taken count)
 abbrev pub duties_of : ℕ → WatchPlan → KeepPlan → Surroundings → Bool → Duties
 duties_of clients watch keep manager is_stop_blocked = record {
   commands = clients;
-  stats = if has_stats watch manager then places_of watch.stats_clients else 0;
-  kept = if has_stats watch manager then 1 else 0;
+  stats = places_of watch.stats_clients;
+  sockets = sockets_of watch manager;
   metrics = if is_some watch.metrics then METRICS_CLIENTS else 0;
   saving = if is_some keep.save then 1 else 0;
   reporting = if is_watched watch manager || is_stop_blocked || is_manager_told manager then 1 else 0;

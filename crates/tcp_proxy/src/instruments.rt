@@ -219,22 +219,14 @@ impl Instruments {
             handed: sockets.listeners.handed,
             drain: plan.drain,
             notifier: self.notifier.as_ref(),
-            stats: sockets.stats.as_ref().map(|stats| &stats.listener),
-            stats_level: stats_level(plan),
+            stats: sockets.stats.as_slice(),
+            watch: plan.watch,
             metrics: sockets.metrics.as_ref(),
             reports: reports_of(plan),
             status: self.watched_status(),
             start: sockets.start,
             started: self.started,
         }
-    }
-}
-
-/// What the clients of the stats socket may do: all, unless it is said otherwise.
-fn stats_level(plan: Plan<'_>) -> Level {
-    match plan.watch.stats {
-        Some(stats) => stats.level,
-        None => Level::Admin,
     }
 }
 

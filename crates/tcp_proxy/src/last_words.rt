@@ -1,10 +1,10 @@
-//! The last word of a run that somebody asked to stop, on its stats socket: `stickd stop` waits there for its end, and learns whether the
+//! The last word of a run that somebody asked to stop, on its stats sockets: `stickd stop` waits there for its end, and learns whether the
 //! tables were saved; `running` says it.
 
-use crate::sockets::Sockets;
+use crate::sockets::{Socket, Sockets};
 use std::io::Write;
 use std::mem;
-use std::os::unix::net::{UnixListener, UnixStream};
+use std::os::unix::net::UnixStream;
 use stickd_ctl::LastWord;
 
 /// How often it is looked for who waits. Each look takes a tenth of a second, where none comes.
@@ -17,27 +17,28 @@ fn tell(mut stream: UnixStream, word: LastWord) {
     mem::forget(stream);
 }
 
-/// Says it to those that wait at a socket, which nobody else answers any more, and waits for one of them to come.
-fn tell_waiting(listener: &UnixListener, word: LastWord) {
+/// Says it to those that wait at the sockets, which nobody else answers any more, and waits for one of them to come.
+fn tell_waiting(sockets: &[Socket], word: LastWord) {
     let mut is_told = false;
     for _look in 0..LOOKS {
-        match listener.accept() {
-            Ok((stream, _address)) => {
+        let before = is_told;
+        let mut is_new = false;
+        for socket in sockets {
+            if let Ok((stream, _address)) = socket.listener.accept() {
                 tell(stream, word);
                 is_told = true;
+                is_new = true;
             }
-            Err(_) if is_told => return,
-            Err(_) => {}
+        }
+        if before && !is_new {
+            return;
         }
     }
 }
 
-/// Says the last word of a run on its stats socket, where somebody asked it to stop.
+/// Says the last word of a run on its stats sockets, where somebody asked it to stop.
 pub(crate) fn say_last_word(sockets: &Sockets, is_asked: bool, is_saved: bool) {
-    let Some(stats) = &sockets.stats else {
-        return;
-    };
     if is_asked {
-        tell_waiting(&stats.listener, LastWord::of(is_saved));
+        tell_waiting(sockets.stats.as_slice(), LastWord::of(is_saved));
     }
 }

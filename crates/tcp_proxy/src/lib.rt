@@ -27,7 +27,8 @@ mod table_end;
 mod timetable;
 
 pub use plan::{
-    About, KeepPlan, METRICS_CLIENTS, Plan, STATS_CLIENTS, SocketPlan, StatsPlan, WatchPlan,
+    About, KeepPlan, METRICS_CLIENTS, MOST_STATS_SOCKETS, Plan, STATS_CLIENTS, SocketPlan,
+    StatsPlan, WatchPlan,
 };
 pub use running::{run_pooled, run_proxy};
 pub use shared::ProxyRuntime;

@@ -14,6 +14,9 @@ pub const STATS_CLIENTS: u32 = 4;
 /// How many places it has at most.
 pub const MOST_STATS_CLIENTS: u32 = 32;
 
+/// How many stats sockets there are at most.
+pub const MOST_STATS_SOCKETS: usize = 4;
+
 /// How many clients that scrape metrics are answered at once.
 pub const METRICS_CLIENTS: u32 = 8;
 
@@ -67,7 +70,9 @@ pub struct WatchPlan<'a> {
     pub report: Option<u64>,
     /// The socket on which HAProxy's tools are answered.
     pub stats: Option<StatsPlan<'a>>,
-    /// How many of its clients have a place: 1 to 32.
+    /// Further such sockets, three at most.
+    pub more_stats: &'a [StatsPlan<'a>],
+    /// How many clients of each have a place: 1 to 32.
     pub stats_clients: u32,
     /// Where metrics are scraped by HTTP.
     pub metrics: Option<Endpoint>,
@@ -120,6 +125,16 @@ pub struct Plan<'a> {
     pub is_check: bool,
 }
 
+impl<'a> WatchPlan<'a> {
+    /// The stats socket of this number: the first one's is 0.
+    pub(crate) fn stats_at(&self, number: usize) -> Option<StatsPlan<'a>> {
+        if number == 0 {
+            return self.stats;
+        }
+        self.more_stats.get(number - 1).copied()
+    }
+}
+
 impl<'a> Plan<'a> {
     /// Whether there is a stats socket: its own, or one that is handed over.
     pub(crate) fn has_stats(&self) -> bool
@@ -138,7 +153,19 @@ impl<'a> Plan<'a> {
             || self.watch.log_rejected
     }
 
-    /// How many places the stats socket has, where there is one.
+    /// How many stats sockets there are: with one at least, the further ones too, up to four in all.
+    pub(crate) fn stats_sockets(&self) -> u32
+        ensures sockets { result ≡ spec.sockets_of self.now.watch self.now.manager.now }
+        ensures few { result ≤ 4 }
+    {
+        if self.has_stats() {
+            1 + self.watch.more_stats.len().min(MOST_STATS_SOCKETS - 1) as u32
+        } else {
+            0
+        }
+    }
+
+    /// How many places each stats socket has.
     pub(crate) fn stats_places(&self) -> u32
         ensures places { result ≡ spec.places_of self.now.watch.stats_clients }
         ensures few { result ≤ 32 }
@@ -149,16 +176,12 @@ impl<'a> Plan<'a> {
     /// How many threads there are beside the listener and the housekeeping, by what they do. A signal that is blocked is looked for.
     pub(crate) fn duties(&self, is_stop_blocked: bool) -> Duties
         ensures duties { result ≡ spec.duties_of self.now.socket.clients self.now.watch self.now.keep self.now.manager.now is_stop_blocked }
-        ensures few { (result.stats ≤ 32) × (result.kept ≤ 1) × (result.metrics ≤ 8) × (result.saving ≤ 1) × (result.reporting ≤ 1) }
+        ensures few { (result.stats ≤ 32) × (result.sockets ≤ 4) × (result.metrics ≤ 8) × (result.saving ≤ 1) × (result.reporting ≤ 1) }
     {
         Duties {
             commands: self.socket.clients,
-            stats: if self.has_stats() {
-                self.stats_places()
-            } else {
-                0
-            },
-            kept: u32::from(self.has_stats()),
+            stats: self.stats_places(),
+            sockets: self.stats_sockets(),
             metrics: if self.watch.metrics.is_some() {
                 METRICS_CLIENTS
             } else {
@@ -177,10 +200,10 @@ impl<'a> Plan<'a> {
 pub(crate) struct Duties {
     /// Those that answer commands.
     pub commands: u32,
-    /// Those that answer on the stats socket, one for each of its places.
+    /// Those that answer on a stats socket, one for each of its places. One more answers there while all are taken.
     pub stats: u32,
-    /// The one that answers there while all places are taken.
-    pub kept: u32,
+    /// How many stats sockets there are.
+    pub sockets: u32,
     /// Those that are scraped.
     pub metrics: u32,
     /// The one that saves the tables.
@@ -192,9 +215,10 @@ pub(crate) struct Duties {
 impl Duties {
     /// All of them.
     pub fn sum(&self) -> u32
-        requires few { (self.now.commands ≤ 64) × (self.now.stats ≤ 32) × (self.now.kept ≤ 1) × (self.now.metrics ≤ 8) × (self.now.saving ≤ 1) × (self.now.reporting ≤ 1) }
-        ensures { result ≡ self.now.commands + self.now.stats + self.now.kept + self.now.metrics + self.now.saving + self.now.reporting }
+        requires few { (self.now.commands ≤ 64) × (self.now.stats ≤ 32) × (self.now.sockets ≤ 4) × (self.now.metrics ≤ 8) × (self.now.saving ≤ 1) × (self.now.reporting ≤ 1) }
+        ensures { result ≡ self.now.commands + self.now.sockets * (self.now.stats + 1) + self.now.metrics + self.now.saving + self.now.reporting }
     {
-        self.commands + self.stats + self.kept + self.metrics + self.saving + self.reporting
+        let stats = self.sockets * (self.stats + 1);
+        self.commands + stats + self.metrics + self.saving + self.reporting
     }
 }

@@ -5,10 +5,12 @@ ghost use Rattle.tcp_proxy.specs.Draining.{shutdown_of};
 
 use crate::asks::drain_time;
 use crate::places::Places;
-use crate::plan::About;
+use crate::plan::{About, MOST_STATS_SOCKETS, WatchPlan};
 use crate::reporting::Reports;
+use crate::sockets::Socket;
 use base_clock::{Clock, RunningClock, Start};
 use rule_warnings::allowed_descriptors;
+use std::array;
 use std::net::{Net, TcpListener};
 use std::os::unix::net::UnixListener;
 use std::sync::atomic::{AtomicBool, AtomicU64, Ordering};
@@ -105,8 +107,8 @@ pub(crate) struct Board {
     pub service: ServiceCounts,
     /// How many threads beside the listener are at work.
     at_work: AtomicU64,
-    /// Those of the stats socket.
-    pub places: Places,
+    /// Those of each stats socket, by its number.
+    places: [Places; MOST_STATS_SOCKETS],
     /// Clients accepted in a second.
     pub connections: RateCell,
     /// Clients admitted in a second.
@@ -116,16 +118,21 @@ pub(crate) struct Board {
 }
 
 impl Board {
-    /// Nothing has happened yet, where the stats socket has so many places.
+    /// Nothing has happened yet, where each stats socket has so many places.
     pub fn new(places: u32) -> Board {
         Board {
             service: ServiceCounts::new(),
             at_work: AtomicU64::new(0),
-            places: Places::new(places),
+            places: array::from_fn(|_| Places::new(places)),
             connections: RateCell::new(),
             sessions: RateCell::new(),
             stop_asked: AtomicBool::new(false),
         }
+    }
+
+    /// The places of the stats socket of this number.
+    pub fn places(&self, number: usize) -> Option<&Places> {
+        self.places.get(number)
     }
 
     /// One thread more is at work.
@@ -163,10 +170,9 @@ pub(crate) struct Running<'a, R> {
     /// How long open connections go on once the proxy drains, in ms.
     pub drain: u64,
     pub notifier: Option<&'a Notifier>,
-    /// Who looks at it: on the stats socket, by HTTP, and by what is said.
-    pub stats: Option<&'a UnixListener>,
-    /// What the clients of the stats socket may do.
-    pub stats_level: Level,
+    /// Who looks at it: on the stats sockets, by HTTP, and by what is said.
+    pub stats: &'a [Socket],
+    pub watch: WatchPlan<'a>,
     pub metrics: Option<&'a TcpListener>,
     pub reports: Reports<'a>,
     /// Where a signal that stops the run may wait, if one may.
@@ -181,6 +187,16 @@ impl<'a, R: Net + time::Clock> Running<'a, R> {
     /// The moment, in ms.
     fn now(&self) -> u64 {
         RunningClock::new(self.rt, self.start).now()
+    }
+
+    /// The stats socket of this number, and what its clients may do: all, unless it is said otherwise.
+    pub fn stats_at(&self, number: usize) -> Option<(&'a UnixListener, Level)> {
+        let socket = self.stats.get(number)?;
+        let level = match self.watch.stats_at(number) {
+            Some(planned) => planned.level,
+            None => Level::Admin,
+        };
+        Some((&socket.listener, level))
     }
 
     /// Tells the service manager, if there is one.

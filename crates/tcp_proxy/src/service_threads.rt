@@ -3,10 +3,10 @@
 
 use crate::counted::Counted;
 use crate::housekeeping::keep_tables;
-use crate::places::{BesidePlaces, Placed};
+use crate::places::{BesidePlaces, Placed, Places};
 use crate::plan::Duties;
 use crate::reporting::report_on;
-use crate::running_program::{Board, Running, ServiceCounts};
+use crate::running_program::{Running, ServiceCounts};
 use crate::saver::save_on;
 use crate::shared::{ProxyRuntime, Shared};
 use base_clock::{Clock, RunningClock};
@@ -56,10 +56,10 @@ pub(crate) const NOBODY: Served = Served {
 pub(crate) enum Duty {
     /// It answers commands.
     Commands,
-    /// It answers HAProxy's tools.
-    Stats,
-    /// It answers them while the threads that do have no place left, a line each.
-    Kept,
+    /// It answers HAProxy's tools on the stats socket of this number.
+    Stats(usize),
+    /// It answers them there while the threads that do have no place left, a line each.
+    Kept(usize),
     /// It is scraped.
     Metrics,
     /// It saves the tables.
@@ -98,8 +98,12 @@ impl<J: Naming> ServiceThread<J> {
         shared.running.board.begin_work();
         self.seats = match self.duty {
             Duty::Commands => answer_commands(shared, names, seats, &mut self.served),
-            Duty::Stats => answer_stats(shared, names, seats, Stay::Long, &mut self.served),
-            Duty::Kept => answer_stats(shared, names, seats, Stay::Short, &mut self.served),
+            Duty::Stats(number) => {
+                answer_stats(shared, names, seats, number, Stay::Long, &mut self.served)
+            }
+            Duty::Kept(number) => {
+                answer_stats(shared, names, seats, number, Stay::Short, &mut self.served)
+            }
             Duty::Metrics => answer_scrapes(shared, names, seats),
             Duty::Saving => save_seated(shared, names, seats),
             Duty::Reporting => report_seated(shared, names, seats),
@@ -204,11 +208,12 @@ fn serve_placed<K: Keeper, C: Clock + Drop, P: Program, R: Wait + time::Clock>(
     rt: &R,
     listener: &UnixListener,
     service: StatsService<'_, K, C, P>,
-    board: &Board,
+    places: &Places,
+    counts: &ServiceCounts,
     stop: &Latch,
 ) -> (Vec<Named<K>>, Served) {
-    let counted = Counted::new(service, &board.service);
-    let mut placed = Placed::new(counted, &board.places);
+    let counted = Counted::new(service, counts);
+    let mut placed = Placed::new(counted, places);
     let served = serve_clients(
         rt,
         listener,
@@ -225,16 +230,16 @@ fn serve_beside<K: Keeper, C: Clock + Drop, P: Program, R: Wait + time::Clock>(
     rt: &R,
     listener: &UnixListener,
     service: StatsService<'_, K, C, P>,
-    board: &Board,
+    places: &Places,
+    counts: &ServiceCounts,
     stop: &Latch,
 ) -> (Vec<Named<K>>, Served) {
-    let places = &board.places;
     let beside = BesidePlaces {
         rt,
         listener,
         places,
     };
-    let mut counted = Counted::new(service, &board.service);
+    let mut counted = Counted::new(service, counts);
     let served = serve_clients(
         rt,
         &beside,
@@ -327,15 +332,19 @@ fn teller_of<'a, T: Table, J: Naming, R: ProxyRuntime>(
     }
 }
 
-/// Answers the clients of the stats socket that may stay, or those that may not.
+/// Answers the clients of the stats socket of this number that may stay, or those that may not.
 fn answer_stats<T: Table, J: Naming, R: ProxyRuntime>(
     shared: &Shared<'_, T, J, R>,
     names: Vec<Name>,
     seats: Vec<SharedSeat<J>>,
+    number: usize,
     stay: Stay,
     served: &mut Served,
 ) -> Vec<SharedSeat<J>> {
-    let Some(listener) = shared.running.stats else {
+    let Some((listener, level)) = shared.running.stats_at(number) else {
+        return seats;
+    };
+    let Some(places) = shared.running.board.places(number) else {
         return seats;
     };
     let Asked { tables, back } = match seat(shared, names, seats) {
@@ -344,13 +353,13 @@ fn answer_stats<T: Table, J: Naming, R: ProxyRuntime>(
     };
     let service = StatsService {
         teller: teller_of(shared, tables),
-        level: shared.running.stats_level,
+        level,
         stay,
     };
-    let board = shared.running.board;
+    let counts = &shared.running.board.service;
     let (tables, all) = match stay {
-        Stay::Long => serve_placed(shared.rt, listener, service, board, shared.stop),
-        Stay::Short => serve_beside(shared.rt, listener, service, board, shared.stop),
+        Stay::Long => serve_placed(shared.rt, listener, service, places, counts, shared.stop),
+        Stay::Short => serve_beside(shared.rt, listener, service, places, counts, shared.stop),
     };
     *served = all;
     seats_of(tables, back)
@@ -428,6 +437,23 @@ fn take_one_of_each<J: Naming>(
     Ok(taken)
 }
 
+/// So many threads more with a duty.
+fn add_threads<J: Naming>(
+    alloc: Global,
+    setup: &Setup,
+    duty: Duty,
+    count: u32,
+    seats: &mut Vec<Vec<SharedSeat<J>>>,
+    threads: &mut Vec<ServiceThread<J>>,
+) -> Result<(), NoMemory> {
+    for _ in 0..count {
+        let names = names_of(alloc, setup)?;
+        let taken = take_one_of_each(alloc, seats)?;
+        threads.push(ServiceThread::new(duty, names, taken))?;
+    }
+    Ok(())
+}
+
 /// The threads beside the listener, by their duties, and the one that does the housekeeping. All have their memory.
 pub(crate) fn make_service_threads<J: Naming>(
     alloc: Global,
@@ -439,18 +465,18 @@ pub(crate) fn make_service_threads<J: Naming>(
     let mut service_threads = Vec::new(alloc);
     let counts = [
         (Duty::Commands, duties.commands),
-        (Duty::Stats, duties.stats),
-        (Duty::Kept, duties.kept),
         (Duty::Metrics, duties.metrics),
         (Duty::Saving, duties.saving),
         (Duty::Reporting, duties.reporting),
     ];
     for (duty, count) in counts {
-        for _ in 0..count {
-            let names = names_of(alloc, setup)?;
-            let seats = take_one_of_each(alloc, &mut seats)?;
-            service_threads.push(ServiceThread::new(duty, names, seats))?;
-        }
+        add_threads(alloc, setup, duty, count, &mut seats, &mut service_threads)?;
+    }
+    for number in 0..duties.sockets as usize {
+        let stats = Duty::Stats(number);
+        add_threads(alloc, setup, stats, duties.stats, &mut seats, &mut service_threads)?;
+        let kept = Duty::Kept(number);
+        add_threads(alloc, setup, kept, 1, &mut seats, &mut service_threads)?;
     }
     let names = Vec::new(alloc);
     service_threads.push(ServiceThread::new(Duty::Housekeeping, names, keepers))?;

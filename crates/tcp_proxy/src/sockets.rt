@@ -1,9 +1,9 @@
 //! Where connections and commands come in, and those that look at the proxy; `running` binds all by it.
 
-use crate::binding::{BindFault, say_unbound};
+use crate::binding::{BindFault, say_no_memory, say_unbound};
 use crate::handing::{check_handed, say_unserved};
 use crate::listeners::{BoundListeners, bind_listeners};
-use crate::plan::{Plan, StatsPlan};
+use crate::plan::{MOST_STATS_SOCKETS, Plan, StatsPlan};
 use crate::shared::ProxyRuntime;
 use base_clock::Start;
 use base_lines::read_number;
@@ -34,7 +34,8 @@ pub(crate) struct Socket {
 pub(crate) struct Sockets {
     pub listeners: BoundListeners,
     pub socket: Socket,
-    pub stats: Option<Socket>,
+    /// The stats sockets, by their numbers.
+    pub stats: Vec<Socket>,
     pub metrics: Option<TcpListener>,
     /// Where the clocks begin.
     pub start: Start,
@@ -69,11 +70,7 @@ fn bind_all<R: ProxyRuntime + Files + AllocGlobal + Eprint>(
         Some(place) => Some(bind_metrics(rt, place)?),
         None => None,
     };
-    let stats = match (first_handed(handed, Purpose::Stats), plan.watch.stats) {
-        (Some(socket), _) => Some(take_socket(rt, socket)?),
-        (None, Some(stats)) => Some(bind_stats(rt, stats)?),
-        (None, None) => None,
-    };
+    let stats = bind_each_stats(alloc, rt, plan)?;
     match bind_last(rt, plan, access) {
         Ok((start, socket)) => {
             say_places(rt, listeners.each.as_slice(), plan);
@@ -86,9 +83,57 @@ fn bind_all<R: ProxyRuntime + Files + AllocGlobal + Eprint>(
             })
         }
         Err(fault) => {
-            remove_stats(rt, plan, stats.as_ref());
+            remove_stats(rt, plan, stats.as_slice());
             Err(fault)
         }
+    }
+}
+
+/// Binds the stats sockets. Where one can't be bound, the files of those before it are removed.
+fn bind_each_stats<R: ProxyRuntime + Files + AllocGlobal + Eprint>(
+    alloc: Global,
+    rt: &R,
+    plan: Plan<'_>,
+) -> Result<Vec<Socket>, BindFault> {
+    let Ok(mut stats) = Vec::with_capacity(alloc, MOST_STATS_SOCKETS) else {
+        return Err(say_no_memory(rt));
+    };
+    match add_stats(rt, plan, &mut stats) {
+        Ok(()) => Ok(stats),
+        Err(fault) => {
+            remove_stats(rt, plan, stats.as_slice());
+            Err(fault)
+        }
+    }
+}
+
+/// Binds one stats socket after another, by their numbers.
+fn add_stats<R: ProxyRuntime + Files + AllocGlobal + Eprint>(
+    rt: &R,
+    plan: Plan<'_>,
+    stats: &mut Vec<Socket>,
+) -> Result<(), BindFault> {
+    for number in 0..MOST_STATS_SOCKETS {
+        let Some(socket) = bind_stats_at(rt, plan, number)? else {
+            return Ok(());
+        };
+        // There is room for all of them.
+        let _ = stats.push(socket);
+    }
+    Ok(())
+}
+
+/// Binds the stats socket of this number, or takes the first one where it is handed over. None where there are fewer.
+fn bind_stats_at<R: ProxyRuntime + Files + AllocGlobal + Eprint>(
+    rt: &R,
+    plan: Plan<'_>,
+    number: usize,
+) -> Result<Option<Socket>, BindFault> {
+    let handed = plan.manager.handed.as_slice();
+    match (first_handed(handed, Purpose::Stats), plan.watch.stats_at(number)) {
+        (Some(socket), _) if number == 0 => Ok(Some(take_socket(rt, socket)?)),
+        (_, Some(stats)) => Ok(Some(bind_stats(rt, stats)?)),
+        (_, None) => Ok(None),
     }
 }
 
@@ -107,14 +152,16 @@ fn bind_last<R: ProxyRuntime + Files + AllocGlobal + Eprint>(
     Ok((start, socket))
 }
 
-/// Removes the file that was made for the stats socket, if there is one.
+/// Removes the files that were made for stats sockets.
 fn remove_stats<R: ProxyRuntime + Files + AllocGlobal + Eprint>(
     rt: &R,
     plan: Plan<'_>,
-    stats: Option<&Socket>,
+    stats: &[Socket],
 ) {
-    if let (Some(socket), Some(planned)) = (stats, plan.watch.stats) {
-        socket.remove_file(rt, planned.path);
+    for number in 0..stats.len() {
+        if let Some(planned) = plan.watch.stats_at(number) {
+            stats[number].remove_file(rt, planned.path);
+        }
     }
 }
 
@@ -134,9 +181,11 @@ fn say_places<R: ProxyRuntime + Files + AllocGlobal + Eprint>(
     for further in listeners.iter().skip(1) {
         say_listener(rt, further);
     }
-    if let Some(stats) = plan.watch.stats {
-        let path = stats.path;
-        info!(rt; "stats on {path}");
+    for number in 0..MOST_STATS_SOCKETS {
+        if let Some(stats) = plan.watch.stats_at(number) {
+            let path = stats.path;
+            info!(rt; "stats on {path}");
+        }
     }
     if let Some(place) = plan.watch.metrics {
         let address = socket_address(place);
@@ -238,7 +287,7 @@ impl Sockets {
         plan: Plan<'_>,
     ) {
         self.socket.remove_file(rt, plan.socket.path);
-        remove_stats(rt, plan, self.stats.as_ref());
+        remove_stats(rt, plan, self.stats.as_slice());
     }
 }
 
@@ -269,8 +318,10 @@ pub(crate) fn check_groups<R: ProxyRuntime + Files + AllocGlobal + Eprint>(
     plan: Plan<'_>,
 ) -> Result<(), BindFault> {
     access_of(rt, plan.socket.mode, plan.socket.group)?;
-    if let Some(stats) = plan.watch.stats {
-        access_of(rt, stats.mode, stats.group)?;
+    for number in 0..MOST_STATS_SOCKETS {
+        if let Some(stats) = plan.watch.stats_at(number) {
+            access_of(rt, stats.mode, stats.group)?;
+        }
     }
     Ok(())
 }
