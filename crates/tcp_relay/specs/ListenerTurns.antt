@@ -1,6 +1,7 @@
 -- Who is told of clients, and what a worker shows the others.
-use Rattle.std.specs.Prelude.{ℕ, Bool, ◌==◌, ◌&&◌, ◌||◌, ◌-◌, ◌^◌, not, true, false, if◌then◌else◌}
+use Rattle.std.specs.Prelude.{ℕ, Option, None, Some, Bool, ◌==◌, ◌&&◌, ◌||◌, ◌-◌, ◌^◌, not, true, false, if◌then◌else◌}
 use Rattle.tcp_relay.specs.Balance.{away, is_waiting, shown}
+use Rattle.tcp_relay.specs.declared.standing.Seen.{Seen}
 use Rattle.tcp_relay.specs.declared.standing.Stand.{Stand}
 use Rattle.tcp_relay.specs.declared.standing.Told.{Told}
 use Rattle.tcp_relay.specs.declared.standing.Told.TheVariants.{Itself, Nobody, Waiting, Working}
@@ -24,6 +25,11 @@ claims Working can_accept is_bounded = can_accept && not is_bounded
 abbrev pub gives_on : Told → Bool → Bool → Bool
 gives_on Itself can_accept may_have = not can_accept || may_have
 gives_on other can_accept may_have = false
+
+-- who is told is held up: a tick before it was at work, and it has begun no wait since
+abbrev pub is_held_up : Option Seen → Option Seen → Bool
+is_held_up (Some before) (Some now) = before.worker == now.worker && before.waits == now.waits
+is_held_up before now = false
 
 -- a worker is left clients where it can accept them and has none to take first
 abbrev pub word_of : Stand → Bool → ℕ

@@ -5,14 +5,15 @@
 //! left to the one that holds least, also where that is at work: so none has more clients that stay than the others. Whoever is told
 //! anew hears also of those that wait already.
 //!
-//! Nobody waits for a worker that is held up. Whoever leaves a client holds a connection, and so looks each tick whether the one that
-//! is told waits. If it doesn't, the one that looks is told in its place, and leaves it nothing until it has waited again.
+//! Nobody waits for a worker that is held up. Whoever leaves a client holds a connection, and so looks each tick at the one that is
+//! told. If that is at work, and has begun no wait since the last look, the one that looks is told in its place, and leaves it nothing
+//! until it waits again.
 
 ghost use Rattle.std.specs.Prelude.{◌≤◌};
 
 use crate::acceptor::Pause;
 use crate::balance::{AWAY, Candidate, is_away, is_waiting, least_of, leaves_to, left_to};
-use crate::standing::{NOBODY, Stand, Told, claims, gives_on, told_as, word_of};
+use crate::standing::{NOBODY, Seen, Stand, Told, claims, gives_on, is_held_up, told_as, word_of};
 use crate::watch::{CONNECTIONS, LISTENER, NOTHING};
 use base_sequence::NoMemory;
 use crossbeam_utils::CachePadded;
@@ -26,6 +27,24 @@ use std::sync::{Mutex, Wait};
 /// The most workers.
 const WORKERS: usize = 64;
 
+/// What a worker shows the others.
+#[derive(Drop)]
+struct Shown {
+    word: AtomicUsize,
+    /// How often it has begun to wait, modulo the words of the machine.
+    waits: AtomicUsize,
+}
+
+impl Shown {
+    /// Of a worker that is away, and hasn't waited yet.
+    fn new() -> Shown {
+        Shown {
+            word: AtomicUsize::new(AWAY),
+            waits: AtomicUsize::new(0),
+        }
+    }
+}
+
 /// The workers of a listener, of whom one at a time is told of new connections.
 #[derive(Drop)]
 pub(crate) struct ListenerTurn {
@@ -34,7 +53,7 @@ pub(crate) struct ListenerTurn {
     /// Through which each worker is told, by its number.
     registries: Vec<Registry>,
     /// What each worker shows, by its number. Padded, so that no two write on one line of a processor's cache.
-    words: Vec<CachePadded<AtomicUsize>>,
+    shown: Vec<CachePadded<Shown>>,
     /// Who is told of clients.
     told: CachePadded<AtomicUsize>,
     /// Under which it is changed.
@@ -44,11 +63,11 @@ pub(crate) struct ListenerTurn {
 impl ListenerTurn {
     /// All are away, and nobody is told.
     pub(crate) fn new(watched: Option<RawFd>, parts: TurnParts) -> ListenerTurn {
-        let TurnParts { registries, words } = parts;
+        let TurnParts { registries, shown } = parts;
         ListenerTurn {
             watched,
             registries,
-            words,
+            shown,
             told: CachePadded::new(AtomicUsize::new(NOBODY)),
             changes: Mutex::new(()),
         }
@@ -75,9 +94,17 @@ impl ListenerTurn {
 
     /// What a worker shows.
     fn word(&self, worker: usize) -> usize {
-        match self.words.get(worker) {
-            Some(cell) => cell.load(Ordering::SeqCst),
+        match self.shown.get(worker) {
+            Some(shown) => shown.word.load(Ordering::SeqCst),
             None => AWAY,
+        }
+    }
+
+    /// How often a worker has begun to wait.
+    fn waits(&self, worker: usize) -> usize {
+        match self.shown.get(worker) {
+            Some(shown) => shown.waits.load(Ordering::SeqCst),
+            None => 0,
         }
     }
 
@@ -96,17 +123,18 @@ impl ListenerTurn {
     fn count(&self) -> usize
         ensures few { result ≤ 64 }
     {
-        self.words.as_slice().len().min(WORKERS)
+        self.shown.as_slice().len().min(WORKERS)
     }
 
     /// Shows of a worker that was at work that it is away, unless it shows something else by now.
     fn pass_over(&self, worker: usize) {
-        let Some(cell) = self.words.get(worker) else {
+        let Some(shown) = self.shown.get(worker) else {
             return;
         };
-        let word = cell.load(Ordering::SeqCst);
+        let word = shown.word.load(Ordering::SeqCst);
         if !is_waiting(word) {
-            let _ = cell.compare_exchange(word, AWAY, Ordering::SeqCst, Ordering::SeqCst);
+            let order = Ordering::SeqCst;
+            let _ = shown.word.compare_exchange(word, AWAY, order, order);
         }
     }
 
@@ -119,11 +147,13 @@ impl ListenerTurn {
         let _ = registry.reregister(&mut SourceFd(&watched), LISTENER, what);
     }
 
-    /// Has a worker told in place of who is, or nobody.
+    /// Has a worker told in place of who is, or nobody. First it is known: a worker that is told, and still took another for the one
+    /// that is, would leave it the clients of which it alone hears.
     fn tell_instead(&self, worker: usize) {
-        self.tell(self.told(), NOTHING);
-        self.tell(worker, CONNECTIONS);
+        let former = self.told();
         self.told.store(worker, Ordering::SeqCst);
+        self.tell(former, NOTHING);
+        self.tell(worker, CONNECTIONS);
     }
 }
 
@@ -131,7 +161,7 @@ impl ListenerTurn {
 #[derive(Drop)]
 pub(crate) struct TurnParts {
     registries: Vec<Registry>,
-    words: Vec<CachePadded<AtomicUsize>>,
+    shown: Vec<CachePadded<Shown>>,
 }
 
 impl TurnParts {
@@ -139,14 +169,14 @@ impl TurnParts {
     pub(crate) fn reserve(alloc: Global, workers: usize) -> Result<TurnParts, NoMemory> {
         Ok(TurnParts {
             registries: Vec::with_capacity(alloc, workers)?,
-            words: Vec::with_capacity(alloc, workers)?,
+            shown: Vec::with_capacity(alloc, workers)?,
         })
     }
 
     /// The next worker's registry. False where there is no room for it.
     pub(crate) fn add(&mut self, registry: Registry) -> bool {
-        let word = CachePadded::new(AtomicUsize::new(AWAY));
-        self.words.push(word).is_ok() && self.registries.push(registry).is_ok()
+        let shown = CachePadded::new(Shown::new());
+        self.shown.push(shown).is_ok() && self.registries.push(registry).is_ok()
     }
 }
 
@@ -161,6 +191,10 @@ pub(crate) struct WorkerTurn<'a> {
     word: usize,
     /// What the one of the others showed that showed least, when it last looked in this turn.
     least: usize,
+    /// How often it has begun to wait.
+    waits: usize,
+    /// Who was told at its last tick, where that was another that was at work.
+    seen: Option<Seen>,
 }
 
 impl<'a> WorkerTurn<'a> {
@@ -172,6 +206,8 @@ impl<'a> WorkerTurn<'a> {
             stand: Stand::away(),
             word: AWAY,
             least: 0,
+            waits: 0,
+            seen: None,
         }
     }
 
@@ -182,8 +218,16 @@ impl<'a> WorkerTurn<'a> {
             return;
         }
         self.word = word;
-        if let Some(cell) = self.listener_turn.words.get(self.worker) {
-            cell.store(word, Ordering::SeqCst);
+        if let Some(shown) = self.listener_turn.shown.get(self.worker) {
+            shown.word.store(word, Ordering::SeqCst);
+        }
+    }
+
+    /// Shows that it begins to wait once more.
+    fn count_wait(&mut self) {
+        self.waits = self.waits.wrapping_add(1);
+        if let Some(shown) = self.listener_turn.shown.get(self.worker) {
+            shown.waits.store(self.waits, Ordering::SeqCst);
         }
     }
 
@@ -196,6 +240,7 @@ impl<'a> WorkerTurn<'a> {
     /// It begins a wait: where it only looks whether something is ready it stays at work.
     pub(crate) fn begin(&mut self, rt: &impl Wait, stand: Stand, pause: Pause) {
         self.stand = stand;
+        self.count_wait();
         self.show(pause != Pause::NotAtAll);
         let is_bounded = pause != Pause::UntilReady;
         let told = self.listener_turn.told_as(self.worker);
@@ -213,11 +258,18 @@ impl<'a> WorkerTurn<'a> {
         self.least = 0;
     }
 
-    /// A tick has passed: if another is told of clients that doesn't wait, this one is told in its place.
-    pub(crate) fn look_after(&self, rt: &impl Wait) {
+    /// A tick has passed: if another is told of clients that has been at work since the last one, this one is told in its place, and
+    /// leaves it none until it waits again.
+    pub(crate) fn look_after(&mut self, rt: &impl Wait) {
+        let worker = self.listener_turn.told();
+        let waits = self.listener_turn.waits(worker);
         let told = self.listener_turn.told_as(self.worker);
-        if claims(told, self.stand.can_accept, false) {
-            self.take(rt, false);
+        let seen = (told == Told::Working).then_some(Seen { worker, waits });
+        let is_bounded = !is_held_up(self.seen, seen);
+        self.seen = seen;
+        if claims(told, self.stand.can_accept, is_bounded) {
+            self.listener_turn.pass_over(worker);
+            self.take(rt, is_bounded);
         }
     }
 
@@ -277,7 +329,6 @@ impl<'a> WorkerTurn<'a> {
         let _changes = listener_turn.changes.lock(rt);
         let told = listener_turn.told_as(self.worker);
         if claims(told, self.stand.can_accept, is_bounded) {
-            listener_turn.pass_over(listener_turn.told());
             listener_turn.tell_instead(self.worker);
         }
     }

@@ -1,7 +1,7 @@
 //! How a worker stands at the listener: what it shows, and when it is told of clients in place of another; `listener_turn` goes by it.
 
 ghost use Rattle.std.specs.Prelude.{◌≡◌, false};
-ghost use Rattle.tcp_relay.specs.ListenerTurns.{claims, gives_on, told_as, word_of};
+ghost use Rattle.tcp_relay.specs.ListenerTurns.{claims, gives_on, is_held_up, told_as, word_of};
 
 use crate::balance::{AWAY, is_waiting, shown};
 
@@ -54,6 +54,23 @@ pub(crate) fn gives_on(told: Told, can_accept: bool, may_have: bool) -> bool
     ensures { result ≡ gives_on told can_accept may_have }
 {
     told == Told::Itself && (!can_accept || may_have)
+}
+
+/// A worker that is told of clients and at work, and how often it had begun to wait.
+#[derive(Clone, Copy, Debug, PartialEq, Eq)]
+pub(crate) struct Seen {
+    pub(crate) worker: usize,
+    pub(crate) waits: usize,
+}
+
+/// Whether who is told is held up: it was at work a tick before, and has begun no wait since.
+pub(crate) fn is_held_up(before: Option<Seen>, now: Option<Seen>) -> bool
+    ensures { result ≡ is_held_up before now }
+{
+    match (before, now) {
+        (Some(before), Some(now)) => before == now,
+        (_, _) => false,
+    }
 }
 
 /// How a worker stands that waits, or is at work.

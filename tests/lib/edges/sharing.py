@@ -71,21 +71,21 @@ def clients_that_stay_are_shared_out(rounds=None):
 
 
 def nobody_waits_for_a_thread_that_is_held_up():
-    """A thread that stands still for 3 s at a client, and holds fewest, keeps nobody waiting: 100 clients that come meanwhile are served
-    within a second, as the others look each tick whether the one that is told of clients waits."""
+    """A thread that stands still for 5 s at a client, and holds fewest, keeps nobody waiting: 20 clients that come meanwhile are served
+    well before, as the others look each tick whether the one that is told of clients has waited since."""
     slow = '127.0.0.9'
     with tempfile.TemporaryDirectory(prefix='stickd-') as room, EchoServer() as server:
-        held_up = {**os.environ, 'LD_PRELOAD': build_shim(room, 'slow_accept'), 'SLOW_CLIENT': slow, 'SLOW_FOR': '3000'}
+        held_up = {**os.environ, 'LD_PRELOAD': build_shim(room, 'slow_accept'), 'SLOW_CLIENT': slow, 'SLOW_FOR': '5000'}
         with Proxy(server.port, [TABLE, TRACK], threads=4, environment=held_up) as proxy:
             clients = come_at_once(proxy, 15)
             clients.append(proxy.newcomer(slow))
-            time.sleep(0.2)
+            time.sleep(0.1)
             began = time.monotonic()
-            clients += come_at_once(proxy, 100)
+            clients += come_at_once(proxy, 20)
             took = time.monotonic() - began
             for client in clients:
                 client.close()
-        assert took < 1, f'they took {took:.2f} s'
+        assert took < 2.5, f'they took {took:.2f} s'
 
 
 TRIALS = [clients_that_stay_are_shared_out, nobody_waits_for_a_thread_that_is_held_up]
