@@ -1,6 +1,6 @@
 //! What a run of the proxy is asked; `stickd` makes it of the command line, and `running` and `sockets` go by it.
 
-ghost use Rattle.std.specs.Prelude.{◌≡◌, ◌≤◌, ◌+◌};
+ghost use Rattle.std.specs.Prelude.{◌≡◌, ◌≤◌, ◌*◌, ◌+◌};
 ghost use Rattle.tcp_proxy.specs.Watching as spec;
 
 use rule_addresses::Endpoint;

@@ -2,10 +2,12 @@
 import grp
 import os
 import re
+import socket
 import stat
+import subprocess
 
 from lib.operations.watched import Watched
-from lib.proxy import PATIENCE, TABLE, TRACK, Server, greets
+from lib.proxy import PATIENCE, TABLE, TRACK, Server, greets, stickd
 
 HEADER = '# table: www, type: ip, size:1024, used:1\n'
 ROW = '0x0: key=10.0.0.1 use=0 exp=0 conn_cnt=3 conn_cur=0 bytes_in_cnt=0 bytes_out_cnt=0\n'
@@ -85,4 +87,56 @@ def the_stats_socket_has_its_group_and_mode():
         assert stat.S_IMODE(found.st_mode) == 0o640 and found.st_gid == os.getegid(), found
 
 
-TRIALS = [each_level_has_its_answers, a_level_below_admin_stops_nothing, the_stats_socket_has_its_group_and_mode]
+class Several(Watched):
+    """The program with a stats socket for each level, which all may connect to but the administrators'."""
+
+    def start(self):
+        self.stats = os.path.join(self.room.name, 'stats')
+        self.of = {'admin': self.stats, 'user': f'{self.stats}.user', 'operator': f'{self.stats}.operator'}
+        for level, path in self.of.items():
+            self.words += ['--stats-socket', f'{path},level={level},mode={"600" if level == "admin" else "666"}']
+        super().start()
+
+    def told_at(self, path, line):
+        """What one line of commands is answered at this stats socket."""
+        own, self.stats = self.stats, path
+        try:
+            return self.told(line)
+        finally:
+            self.stats = own
+
+    def monitors_at(self, path):
+        """Clients that hold all places of this stats socket."""
+        held = [socket.socket(socket.AF_UNIX) for _ in range(4)]
+        for client in held:
+            client.settimeout(PATIENCE)
+            client.connect(path)
+            client.sendall(b'prompt\n')
+            assert client.recv(100).endswith(b'> '), path
+        return held
+
+
+def each_stats_socket_has_its_own():
+    """Of several stats sockets each has its own level, mode and places. A stop waits at the one that it is told to, and then the files of all
+    are gone. A fifth is refused."""
+    with Server(greets) as server, Several(server.port, [TABLE, TRACK]) as proxy:
+        for place, level in enumerate(('user', 'operator', 'admin'), start=1):
+            path = proxy.of[level]
+            assert stat.S_IMODE(os.stat(path).st_mode) == (0o600 if level == 'admin' else 0o666), path
+            assert proxy.told_at(path, ANSWERS[5][0]) == ANSWERS[5][place], level
+            held = proxy.monitors_at(path)
+            for other in proxy.of.values():
+                assert proxy.told_at(other, 'show info').startswith('Name: stickd'), (level, other)
+            for client in held:
+                client.close()
+        done = subprocess.run([stickd(), 'stop', '--stats-socket', proxy.stats], stdin=subprocess.DEVNULL, timeout=PATIENCE, check=False)
+        assert done.returncode == 0 and proxy.program.wait(PATIENCE) == 0
+        assert not any(map(os.path.exists, proxy.of.values())), os.listdir(proxy.room.name)
+        words = [word for number in range(5) for word in ('--stats-socket', f'{proxy.stats}{number}')]
+        done = subprocess.run([stickd(), 'run', 'none', '--socket', proxy.path, '--threads', '1', *words], stdin=subprocess.DEVNULL,
+                              capture_output=True, text=True, timeout=PATIENCE, check=False)
+        assert (done.returncode, done.stderr) == (2, 'stickd: --stats-socket can be given 4 times, and no more\n'), done
+
+
+TRIALS = [each_level_has_its_answers, a_level_below_admin_stops_nothing, the_stats_socket_has_its_group_and_mode,
+          each_stats_socket_has_its_own]
