@@ -68,7 +68,8 @@ def redis(room):
 
 
 def redis_rates(port, scale):
-    said = said_by(['redis-benchmark', '-h', '127.0.0.1', '-p', str(port), '-t', 'ping_mbulk,set,get', '-c', '50', '-n', str(int(100_000 * scale)), '--csv'])
+    words = ['-t', 'ping_mbulk,set,get', '-c', '50', '-n', str(int(100_000 * scale)), '--csv']
+    said = said_by(['redis-benchmark', '-h', '127.0.0.1', '-p', str(port), *words])
     return {f'redis {name} a s': float(rate) for name, rate in re.findall(r'^"([A-Z]+)[^"]*","([0-9.]+)"', said, re.M)}
 
 
@@ -86,7 +87,8 @@ def postgres(room):
     shutil.chown(room, user)
     as_user = ['runuser', '-u', user, '--'] if os.getuid() == 0 else []
     said_by([*as_user, f'{folder}/initdb', '-D', data, '-A', 'trust', '-U', 'bench', '--no-sync'], cwd=room)
-    words = [f'{folder}/postgres', '-D', data, '-p', str(SERVED), '-h', '127.0.0.1', '-k', room, '-c', 'max_connections=200', '-c', 'fsync=off']
+    words = [f'{folder}/postgres', '-D', data, '-p', str(SERVED), '-h', '127.0.0.1', '-k', room, '-c', 'max_connections=200',
+             '-c', 'fsync=off']
     # Postgres ends at once by SIGINT, and waits for its clients by SIGTERM: all of them are gone by then.
     with served([*as_user, *words], SERVED, cwd=room):
         said_by([f'{folder}/pgbench', '-h', '127.0.0.1', '-p', str(SERVED), '-U', 'bench', '-i', '-q', '-s', '10', 'postgres'])
