@@ -129,6 +129,18 @@ fn of_defaults_line(
     }
 }
 
+/// What becomes of a line of `global` for which no option stands.
+fn of_global_line(alloc: Global, words: &[Vec<u8>]) -> Result<Fate, NoMemory> {
+    let keyword = word_at(words, 0);
+    if is_one_of(keyword, &["maxconnrate", "maxsessrate"]) && !is_word(word_at(words, 1), "0") {
+        return left(alloc, FateKind::Lost, Why::RateLimit);
+    }
+    if is_word(keyword, "hard-stop-after") {
+        return left(alloc, FateKind::Lost, Why::DrainTime);
+    }
+    left(alloc, FateKind::Harmless, Why::ProcessSetting)
+}
+
 /// What is said of a line for which options stand; nothing where none does.
 fn option_note(
     alloc: Global,
@@ -198,7 +210,7 @@ fn of_line(
         Kind::Global if begins(words, "stats", "socket") => {
             left(alloc, FateKind::Harmless, Why::OwnSocket)
         }
-        Kind::Global => left(alloc, FateKind::Harmless, Why::ProcessSetting),
+        Kind::Global => of_global_line(alloc, words),
         Kind::Other => left(alloc, FateKind::Harmless, Why::OtherSection),
         Kind::Defaults => of_defaults_line(alloc, plan, place, number, line),
         Kind::Frontend | Kind::Backend | Kind::Listen => {

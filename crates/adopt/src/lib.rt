@@ -43,6 +43,7 @@ mod tables;
 mod texts;
 mod values;
 mod variables;
+mod waits;
 mod written;
 
 pub use adoption::{Adoption, adopt, wanted_files};

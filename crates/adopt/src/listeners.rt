@@ -74,8 +74,14 @@ pub(crate) fn further_binds(alloc: Global, plan: &Plan) -> Result<Vec<FurtherBin
     let first = first_bind(plan);
     for number in section.first..section.end {
         let words = plan.words(number);
-        if begins(words, "bind", "") && bind_loss(words).is_none() {
-            let from = usize::from(first == Some(number));
+        let is_first = first == Some(number);
+        let loss = if is_first {
+            bind_loss(words)
+        } else {
+            further_loss(words)
+        };
+        if begins(words, "bind", "") && loss.is_none() {
+            let from = usize::from(is_first);
             add_binds(alloc, words, number, from, &mut binds)?;
         }
     }
@@ -126,6 +132,33 @@ fn loss_of(word: &[u8]) -> Why {
     Why::BindWords
 }
 
+/// Whether a line limits the connections of its own listeners alone.
+fn has_own_limit(words: &[Vec<u8>]) -> bool {
+    option_value(words, "maxconn").is_some_and(|most| !is_word(most, "0"))
+}
+
+/// How many lines `bind` the frontend has.
+fn count_binds(plan: &Plan) -> usize {
+    let Some(section) = plan.frontend.and_then(|place| plan.section(place)) else {
+        return 0;
+    };
+    let mut count = 0usize;
+    for number in section.first..section.end {
+        if begins(plan.words(number), "bind", "") {
+            count = count.saturating_add(1);
+        }
+    }
+    count
+}
+
+/// Why a line `bind` that isn't the first is left out, where options don't stand for it.
+pub(crate) fn further_loss(words: &[Vec<u8>]) -> Option<Why> {
+    if has_own_limit(words) {
+        return Some(Why::ListenerPlaces);
+    }
+    bind_loss(words)
+}
+
 /// What the options of a listener lose that changes what is served.
 pub(crate) fn bind_loss(words: &[Vec<u8>]) -> Option<Why> {
     let mut skips = false;
@@ -159,6 +192,7 @@ pub(crate) fn option_value<'a>(words: &'a [Vec<u8>], name: &str) -> Option<&'a [
 /// The first line `bind` in stickd's spelling: its first address alone. Of so many of its others options take care.
 pub(crate) fn convert_bind(
     alloc: Global,
+    plan: &Plan,
     words: &[Vec<u8>],
     others: usize,
 ) -> Result<Converted, Refusal> {
@@ -170,12 +204,14 @@ pub(crate) fn convert_bind(
     let mut written: Words = Vec::new(alloc);
     written.push(text_of(alloc, "bind")?)?;
     written.push(copy_text(alloc, first)?)?;
-    let loss = bind_loss(words);
-    let altered = if loss.is_none() && endpoints.len() > others.saturating_add(1) {
-        Some(Why::ManyListeners)
-    } else {
-        loss
-    };
+    let is_alone = endpoints.len() == 1 && count_binds(plan) == 1;
+    let mut altered = bind_loss(words);
+    if altered.is_none() && endpoints.len() > others.saturating_add(1) {
+        altered = Some(Why::ManyListeners);
+    }
+    if altered.is_none() && has_own_limit(words) && !is_alone {
+        altered = Some(Why::ListenerPlaces);
+    }
     Ok(Converted {
         words: written,
         altered,

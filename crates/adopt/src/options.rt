@@ -1,5 +1,6 @@
 //! Options of the command line that stand for lines; `adoption` makes them, and `command` and `fates` go by them.
 
+use crate::keywords::is_one_of;
 use crate::listeners::{FurtherBind, first_bind, further_binds, option_value};
 use crate::plan::{Plan, begins};
 use crate::sections::Kind;
@@ -36,6 +37,14 @@ const IPV4_PREFIX: &str = "--ipv4-prefix";
 const IPV6_PREFIX: &str = "--ipv6-prefix";
 
 const STATS_SOCKET: &str = "--stats-socket";
+
+const DRAIN: &str = "--drain";
+
+/// How often HAProxy tries a server again where no line says it.
+const USUAL_RETRIES: &str = "3";
+
+/// What HAProxy's tools may do on a stats socket where its line says no level.
+const USUAL_LEVEL: &[u8] = b"operator";
 
 /// How many bytes a socket's path may have (unix(7)).
 const LONGEST_PATH: usize = 107;
@@ -239,6 +248,9 @@ fn add_global_line(
     if begins(words, "stats", "socket") {
         return add_stats_socket(alloc, words, line, found);
     }
+    if begins(words, "hard-stop-after", "") {
+        return add_drain(alloc, words, line, found);
+    }
     if !begins(words, "nbthread", "") {
         return Ok(());
     }
@@ -248,6 +260,20 @@ fn add_global_line(
         }
         _ => Ok(()),
     }
+}
+
+/// How long connections may go on once the program is to stop.
+fn add_drain(
+    alloc: Global,
+    words: &[Vec<u8>],
+    line: usize,
+    found: &mut Found,
+) -> Result<(), NoMemory> {
+    let time = word_at(words, 1);
+    if found.has(DRAIN) || read_time(time).is_err() {
+        return Ok(());
+    }
+    found.add(DRAIN, copy_text(alloc, time)?, line)
 }
 
 /// Whether a word says permissions, as stickd reads them: up to four octal digits, up to 0777.
@@ -261,7 +287,21 @@ fn is_socket_path(word: &[u8]) -> bool {
     word.starts_with(b"/") && word.len() <= LONGEST_PATH && !word.contains(&b',')
 }
 
-/// The first stats socket that has a path: it, and its mode where that is said.
+/// What clients of a stats socket may do, by its line. An operator may change nothing here, so nobody may do more than in HAProxy.
+fn stats_level(words: &[Vec<u8>]) -> &[u8] {
+    match option_value(words, "level") {
+        Some(level) if is_one_of(level, &["user", "operator", "admin"]) => level,
+        Some(_) => b"user",
+        None => USUAL_LEVEL,
+    }
+}
+
+/// Whether a word is a group's name that can stand in the option.
+fn is_group(word: &[u8]) -> bool {
+    !word.is_empty() && !word.contains(&b',')
+}
+
+/// The first stats socket that has a path: it, its mode and its group where they are said, and what its clients may do.
 fn add_stats_socket(
     alloc: Global,
     words: &[Vec<u8>],
@@ -279,6 +319,14 @@ fn add_stats_socket(
         append_str(&mut value, ",mode=")?;
         append(&mut value, mode)?;
     }
+    if let Some(group) = option_value(words, "group")
+        && is_group(group)
+    {
+        append_str(&mut value, ",group=")?;
+        append(&mut value, group)?;
+    }
+    append_str(&mut value, ",level=")?;
+    append(&mut value, stats_level(words))?;
     found.add(STATS_SOCKET, value, line)
 }
 
@@ -361,6 +409,21 @@ fn add_prefixes(
     }
 }
 
+/// How often a server is tried again. Where no line says it, the backend's first line stands for it.
+fn add_retries(alloc: Global, plan: &Plan, found: &mut Found) -> Result<(), NoMemory> {
+    let Some(backend) = plan.backend else {
+        return Ok(());
+    };
+    if let Some(line) = plan.effective(backend, "retries", "") {
+        let number = read_number(word_at(plan.words(line), 1));
+        return found.add_number(alloc, RETRIES, MOST_RETRIES, number, line);
+    }
+    match plan.section(backend) {
+        Some(section) => found.add(RETRIES, text_of(alloc, USUAL_RETRIES)?, section.first),
+        None => Ok(()),
+    }
+}
+
 /// The options that stand for lines of a file.
 pub(crate) fn command_options(alloc: Global, plan: &Plan) -> Result<Vec<CommandOption>, NoMemory> {
     let mut found = Found {
@@ -378,11 +441,7 @@ pub(crate) fn command_options(alloc: Global, plan: &Plan) -> Result<Vec<CommandO
         found.add(BIND, endpoint, line)?;
     }
     add_times(alloc, plan, &mut found, frontend)?;
-    let backend = plan.backend.unwrap_or(frontend);
-    if let Some(line) = plan.effective(backend, "retries", "") {
-        let number = read_number(word_at(plan.words(line), 1));
-        found.add_number(alloc, RETRIES, MOST_RETRIES, number, line)?;
-    }
+    add_retries(alloc, plan, &mut found)?;
     add_sockets(alloc, plan, &mut found, frontend)?;
     add_prefixes(alloc, plan, &mut found, frontend)?;
     let Found { options } = found;

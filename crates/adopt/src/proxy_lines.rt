@@ -6,7 +6,7 @@ use crate::criteria::{behind_two, convert_criterion};
 use crate::fates::{Fate, FateKind, left};
 use crate::keywords::{is_one_of, left_out};
 use crate::lexer::SourceLine;
-use crate::listeners::{bind_loss, convert_bind, first_bind, further_binds};
+use crate::listeners::{convert_bind, first_bind, further_binds, further_loss};
 use crate::options::is_limit;
 use crate::plan::{Plan, begins};
 use crate::reasons::{Refusal, Why};
@@ -14,7 +14,7 @@ use crate::roles::{Role, has_rules_of, role_of};
 use crate::rule_lines::of_rule;
 use crate::rules::{is_waiting, phase_of};
 use crate::sections::Section;
-use crate::servers::{convert_server, kept_server, server_loss, servers_of};
+use crate::servers::{convert_server, has_queue, kept_server, server_loss, servers_of};
 use crate::standing::{of_converted, two_words, written};
 use crate::tables::convert_table;
 use crate::texts::{is_word, word_at};
@@ -41,11 +41,11 @@ fn of_bind(alloc: Global, plan: &Plan, number: usize, line: &SourceLine) -> Resu
     if first_bind(plan) == Some(number) {
         let binds = further_binds(alloc, plan)?;
         let others = binds.iter().filter(|bind| bind.line == number).count();
-        return of_converted(alloc, line, convert_bind(alloc, words, others));
+        return of_converted(alloc, line, convert_bind(alloc, plan, words, others));
     }
     // Where options stand for the line, they are told in place of this.
     let why = match endpoints_of(alloc, word_at(words, 1)) {
-        Ok(_) => bind_loss(words).unwrap_or(Why::ManyListeners),
+        Ok(_) => further_loss(words).unwrap_or(Why::ManyListeners),
         Err(Refusal::OutOfMemory) => return Err(NoMemory),
         Err(Refusal::Lost(why)) => why,
     };
@@ -197,6 +197,18 @@ fn of_mode(alloc: Global, line: &SourceLine) -> Result<Fate, NoMemory> {
     written(alloc, line, two.as_slice(), None)
 }
 
+/// What becomes of a line of a time for which no option stands.
+fn of_timeout(alloc: Global, plan: &Plan, words: &[Vec<u8>]) -> Result<Fate, NoMemory> {
+    if !is_word(word_at(words, 1), "queue") {
+        return left(alloc, FateKind::Harmless, timeout_reason(words));
+    }
+    if has_queue(plan) {
+        left(alloc, FateKind::Lost, Why::ServerPlaces)
+    } else {
+        left(alloc, FateKind::Harmless, Why::NoQueue)
+    }
+}
+
 /// Why a line of a time is left out.
 fn timeout_reason(words: &[Vec<u8>]) -> Why {
     if !is_one_of(word_at(words, 1), &TIMEOUTS) {
@@ -230,7 +242,12 @@ fn of_unlike(alloc: Global, section: &Section, words: &[Vec<u8>]) -> Result<Fate
 }
 
 /// What becomes of a line that any proxy may have.
-fn of_any(alloc: Global, section: &Section, line: &SourceLine) -> Result<Fate, NoMemory> {
+fn of_any(
+    alloc: Global,
+    plan: &Plan,
+    section: &Section,
+    line: &SourceLine,
+) -> Result<Fate, NoMemory> {
     let words = line.words.as_slice();
     let keyword = word_at(words, 0);
     if is_word(keyword, "mode") {
@@ -240,7 +257,7 @@ fn of_any(alloc: Global, section: &Section, line: &SourceLine) -> Result<Fate, N
         return of_converted(alloc, line, convert_table(alloc, words));
     }
     if is_word(keyword, "timeout") {
-        return left(alloc, FateKind::Harmless, timeout_reason(words));
+        return of_timeout(alloc, plan, words);
     }
     if is_limit(keyword) {
         return left(alloc, FateKind::Harmless, Why::LargerLimit);
@@ -285,5 +302,5 @@ pub(crate) fn of_proxy_line(
     {
         return Ok(fate);
     }
-    of_any(alloc, section, line)
+    of_any(alloc, plan, section, line)
 }

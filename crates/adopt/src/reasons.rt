@@ -69,6 +69,12 @@ pub enum Why {
     NoRetries,
     OwnSocket,
     NeverEnds,
+    ServerPlaces,
+    NoQueue,
+    ListenerPlaces,
+    NobodyWaits,
+    UncountedSessions,
+    DrainTime,
 }
 
 impl Why {
@@ -138,6 +144,15 @@ impl Why {
             Why::OnePort => "the server is reached on one port, whatever port a client came to",
             Why::NoRetries => "a server that refuses isn't tried again",
             Why::NeverEnds => "no connection ends by it",
+            Why::ServerPlaces =>
+                "connections wait unjudged: HAProxy judges them, and then they wait for a place",
+            Why::NoQueue => "no connection waits for a place at the server",
+            Why::ListenerPlaces =>
+                "connections are limited at all addresses together, and not at this one",
+            Why::NobodyWaits => "nobody is held until the delay is over",
+            Why::UncountedSessions =>
+                "HAProxy has counted the session by then, and stickd counts what isn't rejected",
+            Why::DrainTime => "the time can't be read, and connections may go on for 30s",
             Why::OwnSocket => "commands are answered on the socket that --socket names",
         }
     }

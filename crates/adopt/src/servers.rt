@@ -88,8 +88,34 @@ fn loss_of(word: &[u8]) -> Why {
     Why::ServerWords
 }
 
+/// Whether a server's line, or one of defaults, limits the server's connections.
+fn limits(words: &[Vec<u8>]) -> bool {
+    for (place, word) in words.iter().enumerate() {
+        let value = word_at(words, place.saturating_add(1));
+        if place > 0 && is_word(word.as_slice(), "maxconn") && !is_word(value, "0") {
+            return true;
+        }
+    }
+    false
+}
+
+/// Whether a line of the file limits a server's connections, so that HAProxy lets others wait.
+pub(crate) fn has_queue(plan: &Plan) -> bool {
+    for line in &plan.lines {
+        let words = line.words.as_slice();
+        let is_server = begins(words, "server", "") || begins(words, "default-server", "");
+        if is_server && limits(words) {
+            return true;
+        }
+    }
+    false
+}
+
 /// What the options from a place on lose that changes what is served.
 pub(crate) fn server_loss(words: &[Vec<u8>], from: usize) -> Option<Why> {
+    if limits(words) {
+        return Some(Why::ServerPlaces);
+    }
     let mut skips = false;
     let mut loss = None;
     for (place, word) in words.iter().enumerate() {
@@ -98,9 +124,7 @@ pub(crate) fn server_loss(words: &[Vec<u8>], from: usize) -> Option<Why> {
             skips = false;
             continue;
         }
-        skips = is_one_of(word, &SERVER_VALUES)
-            || is_one_of(word, &TLS_VALUES)
-            || is_word(word, "maxconn");
+        skips = is_one_of(word, &SERVER_VALUES) || is_one_of(word, &TLS_VALUES);
         if !skips && !is_one_of(word, &SERVER_FLAGS) && loss.is_none() {
             loss = Some(loss_of(word));
         }
