@@ -27,7 +27,7 @@ _stickd() {
     fi
     ((${#choices[@]})) || case "$command ${word:0:1}" in
         "adopt -")
-            choices=(-W "--anyway --command --first-server --frontend -h --help")
+            choices=(-W "--anyway --command --first-server --frontend --verbose -h --help")
             ;;
         "adopt "*)
             compopt -o filenames 2>/dev/null

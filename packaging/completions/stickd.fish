@@ -21,6 +21,7 @@ complete -c stickd -n '__stickd_at adopt' -l anyway -d 'Write it also where what
 complete -c stickd -n '__stickd_at adopt' -l command -d 'Write the command line that runs it, and nothing else'
 complete -c stickd -n '__stickd_at adopt' -l first-server -d 'Keep the first of several servers'
 complete -c stickd -n '__stickd_at adopt' -l frontend -x -d 'The frontend or listen section to serve [default: the first that isn\'t HTTP]'
+complete -c stickd -n '__stickd_at adopt' -l verbose -d 'Say of each line that is lost without harm why'
 complete -c stickd -n '__stickd_at adopt' -s h -l help -d 'Print help'
 complete -c stickd -n '__stickd_at adopt' -F
 

@@ -3,3 +3,4 @@ pub mod Written
 pub mod Checked
 pub mod Lines
 pub mod Keywords
+pub mod Report

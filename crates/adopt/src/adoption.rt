@@ -170,7 +170,9 @@ fn lose(
             fate.text = copy_text(alloc, line.raw.as_slice())?;
         }
         FateKind::Rewritten | FateKind::Altered => fate.kind = FateKind::Altered,
-        FateKind::Moved | FateKind::Harmless | FateKind::Lost => fate.kind = FateKind::Lost,
+        FateKind::Moved | FateKind::Carried | FateKind::Harmless | FateKind::Lost => {
+            fate.kind = FateKind::Lost;
+        }
     }
     Ok(())
 }

@@ -2,7 +2,7 @@
 
 use crate::adoption::{Adoption, adopt, wanted_files};
 use crate::plan::{PatternFile, Wishes};
-use crate::report::report_of;
+use crate::report::{Wanted, report_of};
 use crate::status::SAME;
 use crate::texts::{append, append_str, copy_text};
 use crate::variables::Variable;
@@ -23,6 +23,8 @@ pub struct Asked {
     pub anyway: bool,
     /// Whether the command line is written in place of the configuration.
     pub command: bool,
+    /// Whether the report says why of each line that is lost without harm.
+    pub verbose: bool,
 }
 
 /// The variables of the environment. None are had where one of them isn't UTF-8.
@@ -142,12 +144,17 @@ fn show_adoption<R: Print + Eprint + AllocGlobal>(
     adoption: &Adoption,
     asked: &Asked,
 ) -> io::Result<u8> {
-    let Ok(report) = report_of(rt.alloc(), adoption) else {
+    let shown = adoption.status == SAME || asked.anyway;
+    let wanted = Wanted {
+        verbose: asked.verbose,
+        shown,
+    };
+    let Ok(report) = report_of(rt.alloc(), adoption, wanted) else {
         eprintln!(rt; "stickd: out of memory")?;
         return Ok(UNREADABLE);
     };
     tell(rt, report.as_slice())?;
-    if adoption.status != SAME && !asked.anyway {
+    if !shown {
         return Ok(adoption.status);
     }
     if asked.command {

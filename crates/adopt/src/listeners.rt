@@ -2,7 +2,8 @@
 //! it.
 
 use crate::addresses::{endpoints_of, port_of, without_family};
-use crate::keywords::{BIND_FLAGS, BIND_VALUES, is_one_of};
+use crate::keywords::options_loss;
+use crate::manual::{BIND_FLAGS, BIND_VALUES};
 use crate::plan::{Plan, begins};
 use crate::reasons::{Refusal, Why};
 use crate::rules::Converted;
@@ -108,30 +109,6 @@ pub(crate) fn listener_port(alloc: Global, plan: &Plan) -> Option<u64> {
     }
 }
 
-/// What a listener's option loses, by its word.
-fn loss_of(word: &[u8]) -> Why {
-    if is_word(word, "accept-proxy") || is_word(word, "accept-netscaler-cip") {
-        return Why::ProxyProtocol;
-    }
-    if is_one_of(
-        word,
-        &[
-            "ssl",
-            "crt",
-            "crt-list",
-            "ca-file",
-            "verify",
-            "alpn",
-            "ciphers",
-            "no-sslv3",
-            "no-tlsv10",
-        ],
-    ) {
-        return Why::Tls;
-    }
-    Why::BindWords
-}
-
 /// Whether a line limits the connections of its own listeners alone.
 fn has_own_limit(words: &[Vec<u8>]) -> bool {
     option_value(words, "maxconn").is_some_and(|most| !is_word(most, "0"))
@@ -161,22 +138,7 @@ pub(crate) fn further_loss(words: &[Vec<u8>]) -> Option<Why> {
 
 /// What the options of a listener lose that changes what is served.
 pub(crate) fn bind_loss(words: &[Vec<u8>]) -> Option<Why> {
-    let mut skips = false;
-    let mut loss = None;
-    for (place, word) in words.iter().enumerate() {
-        let word = word.as_slice();
-        if place < 2 || skips {
-            skips = false;
-            continue;
-        }
-        skips = is_one_of(word, &BIND_VALUES)
-            || is_word(word, "maxconn")
-            || is_word(word, "backlog");
-        if !skips && !is_one_of(word, &BIND_FLAGS) && loss.is_none() {
-            loss = Some(loss_of(word));
-        }
-    }
-    loss
+    options_loss(words, 2, &BIND_VALUES, &BIND_FLAGS)
 }
 
 /// The value behind an option of a line.

@@ -40,6 +40,8 @@ const STATS_SOCKET: &str = "--stats-socket";
 
 const DRAIN: &str = "--drain";
 
+const USER_TIMEOUT: &str = "--tcp-user-timeout";
+
 /// How often HAProxy tries a server again where no line says it.
 const USUAL_RETRIES: &str = "3";
 
@@ -101,10 +103,20 @@ impl Found {
         flag: &'static str,
         line: Option<usize>,
     ) -> Result<(), NoMemory> {
-        let Some(line) = line else {
-            return Ok(());
-        };
-        let time = word_at(plan.words(line), 2);
+        match line {
+            Some(line) => self.add_word(alloc, flag, word_at(plan.words(line), 2), line),
+            None => Ok(()),
+        }
+    }
+
+    /// Adds a time, unless it has no end, or there is one.
+    fn add_word(
+        &mut self,
+        alloc: Global,
+        flag: &'static str,
+        time: &[u8],
+        line: usize,
+    ) -> Result<(), NoMemory> {
         if self.has(flag) || read_time(time).is_err() {
             return Ok(());
         }
@@ -249,7 +261,7 @@ fn add_global_line(
         return add_stats_socket(alloc, words, line, found);
     }
     if begins(words, "hard-stop-after", "") {
-        return add_drain(alloc, words, line, found);
+        return found.add_word(alloc, DRAIN, word_at(words, 1), line);
     }
     if !begins(words, "nbthread", "") {
         return Ok(());
@@ -260,20 +272,6 @@ fn add_global_line(
         }
         _ => Ok(()),
     }
-}
-
-/// How long connections may go on once the program is to stop.
-fn add_drain(
-    alloc: Global,
-    words: &[Vec<u8>],
-    line: usize,
-    found: &mut Found,
-) -> Result<(), NoMemory> {
-    let time = word_at(words, 1);
-    if found.has(DRAIN) || read_time(time).is_err() {
-        return Ok(());
-    }
-    found.add(DRAIN, copy_text(alloc, time)?, line)
 }
 
 /// Whether a word says permissions, as stickd reads them: up to four octal digits, up to 0777.
@@ -366,7 +364,7 @@ fn keepalive_time(alloc: Global, plan: &Plan, frontend: usize) -> Result<Vec<u8>
     Ok(time)
 }
 
-/// Keepalive and the backlog.
+/// Keepalive, how long a peer may acknowledge nothing, and the backlog.
 fn add_sockets(
     alloc: Global,
     plan: &Plan,
@@ -375,6 +373,13 @@ fn add_sockets(
 ) -> Result<(), NoMemory> {
     if let Some(line) = keepalive_line(plan, frontend) {
         found.add(KEEPALIVE, keepalive_time(alloc, plan, frontend)?, line)?;
+    }
+    for line in [first_bind(plan), kept_server(plan)] {
+        if let Some(line) = line
+            && let Some(time) = option_value(plan.words(line), "tcp-ut")
+        {
+            found.add_word(alloc, USER_TIMEOUT, time, line)?;
+        }
     }
     if let Some(line) = plan.effective(frontend, "backlog", "") {
         let number = read_number(word_at(plan.words(line), 1));
@@ -446,9 +451,4 @@ pub(crate) fn command_options(alloc: Global, plan: &Plan) -> Result<Vec<CommandO
     add_prefixes(alloc, plan, &mut found, frontend)?;
     let Found { options } = found;
     Ok(options)
-}
-
-/// Whether a line's keyword is one for which options may stand.
-pub(crate) fn is_limit(keyword: &[u8]) -> bool {
-    is_word(keyword, "maxconn")
 }

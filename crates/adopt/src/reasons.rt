@@ -75,6 +75,16 @@ pub enum Why {
     NobodyWaits,
     UncountedSessions,
     DrainTime,
+    Resolved,
+    NoTls,
+    OtherFiles,
+    Environment,
+    Lua,
+    OtherProcesses,
+    OtherFailures,
+    OneSilence,
+    OtherUnit,
+    BytesAtEnd,
 }
 
 impl Why {
@@ -153,6 +163,16 @@ impl Why {
             Why::UncountedSessions =>
                 "HAProxy has counted the session by then, and stickd counts what isn't rejected",
             Why::DrainTime => "the time can't be read, and connections may go on for 30s",
+            Why::Resolved => "its value stands where it is used",
+            Why::NoTls => "it says nothing where TLS isn't spoken",
+            Why::OtherFiles => "files are looked for here, and beside the configuration",
+            Why::Environment => "variables stay as they are",
+            Why::Lua => "Lua isn't run",
+            Why::OtherProcesses => "one process serves, with one set of tables",
+            Why::OtherFailures => "which failures are tried again can't be chosen",
+            Why::OneSilence => "a connection in which one side speaks isn't silent",
+            Why::OtherUnit => "bytes are counted one by one",
+            Why::BytesAtEnd => "bytes are counted as their connection ends",
             Why::OwnSocket => "commands are answered on the socket that --socket names",
         }
     }

@@ -19,7 +19,11 @@ fn matters(line: &Adopted) -> bool
 {
     match line.fate.kind {
         FateKind::Altered | FateKind::Lost => true,
-        FateKind::Kept | FateKind::Rewritten | FateKind::Moved | FateKind::Harmless => false,
+        FateKind::Kept
+        | FateKind::Rewritten
+        | FateKind::Moved
+        | FateKind::Carried
+        | FateKind::Harmless => false,
     }
 }
 

@@ -51,7 +51,7 @@ pub(crate) fn waits(plan: &Plan, rule: &RuleAt) -> bool {
 }
 
 /// Whether a rule or an ACL of the file has this text in a word.
-fn is_asked(plan: &Plan, text: &[u8]) -> bool {
+pub(crate) fn is_asked(plan: &Plan, text: &[u8]) -> bool {
     for line in &plan.lines {
         let words = line.words.as_slice();
         let is_asking = begins(words, "acl", "") || begins(words, "tcp-request", "");

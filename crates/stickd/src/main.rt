@@ -159,6 +159,7 @@ fn read_asked(alloc: Global, arguments: &ArgMatches<'_>) -> Result<Asked, NoMemo
         },
         anyway: arguments.get_flag("anyway"),
         command: arguments.get_flag("command"),
+        verbose: arguments.get_flag("verbose"),
     })
 }
 

@@ -84,13 +84,21 @@ fn adopt_command<'a>(alloc: Global) -> Result<Command<'a>, AllocError> {
         command,
         flag_option(alloc, "first-server", "Keep the first of several servers"),
     );
-    add_argument(
+    let command = add_argument(
         command,
         value_option(
             alloc,
             "frontend",
             "NAME",
             "The frontend or listen section to serve [default: the first that isn't HTTP]",
+        ),
+    );
+    add_argument(
+        command,
+        flag_option(
+            alloc,
+            "verbose",
+            "Say of each line that is lost without harm why",
         ),
     )
 }

@@ -18,9 +18,10 @@ in order, each as it is, rewritten, or left out as a comment with the reason. Th
 line is the command line, as a comment. Standard error says what became of each line:
   kept
   rewritten: LINE
-  lost without harm: REASON
+  lost without harm: REASON (with --verbose; else one line has the numbers of all)
   rewritten, with a change of what is served: REASON
   lost with a change of what is served: REASON
+and then how many they are, what becomes of limits, and how to run what was written.
 The status is 0 where what is served is the same, and 1 where FILE can't be read, or has
 no such frontend. It is 3 where what is served changes, and nothing is written then
 without --anyway.";

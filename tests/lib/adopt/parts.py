@@ -41,7 +41,7 @@ def lines_of(text):
 def fates_of(said):
     """What the report says of each line, by its number."""
     fates = {}
-    for line in said:
+    for line in (line for line in said if line.startswith('stickd: line ')):
         _, number, fate = line.split(': ', 1)[0], *line.removeprefix('stickd: line ').split(': ', 1)
         fates[int(number)] = ''.join(letter if letter < '\x80' else '?' for letter in fate)
     return fates
@@ -79,7 +79,7 @@ class Adopter:
         self.program = os.path.abspath(program)
 
     def adopt(self, path, *options):
-        return run([self.program, 'adopt', path, *options])
+        return run([self.program, 'adopt', path, '--verbose', *options])
 
     def check_fault(self, path):
         """What `stickd check` says of a file, apart from that it is valid."""
