@@ -1,7 +1,7 @@
 //! What becomes of each line; `adoption` calls `fates_of`, and the modules of lines make fates.
 
 use crate::headings::{add_table_of_all, of_heading};
-use crate::keywords::{Told, left_of};
+use crate::keywords::{Told, is_one_of, left_of};
 use crate::lexer::SourceLine;
 use crate::manual::{GLOBAL, OTHER_SECTIONS, TUNE};
 use crate::options::CommandOption;
@@ -167,9 +167,19 @@ fn of_defaults_line(
     of_left(alloc, defaults_left(plan, place, words))
 }
 
+/// Whether a line says how many connections there may be.
+fn has_limit(plan: &Plan) -> bool {
+    plan.lines
+        .iter()
+        .any(|line| begins(line.words.as_slice(), "maxconn", ""))
+}
+
 /// What becomes of a line of `global` for which no option stands.
-fn of_global_line(alloc: Global, words: &[Vec<u8>]) -> Result<Fate, NoMemory> {
+fn of_global_line(alloc: Global, plan: &Plan, words: &[Vec<u8>]) -> Result<Fate, NoMemory> {
     let keyword = word_at(words, 0);
+    if is_one_of(keyword, &["fd-hard-limit", "ulimit-n"]) && has_limit(plan) {
+        return left(alloc, FateKind::Harmless, Why::LargerLimit);
+    }
     if begins(words, "global", "") {
         return left(alloc, FateKind::Harmless, Why::ProcessSetting);
     }
@@ -245,7 +255,7 @@ fn of_line(
         return left(alloc, FateKind::Harmless, Why::NotServed);
     };
     match section.kind {
-        Kind::Global => of_global_line(alloc, words),
+        Kind::Global => of_global_line(alloc, plan, words),
         Kind::Other => of_left(alloc, left_of(word_at(words, 0), &OTHER_SECTIONS)),
         Kind::Defaults => of_defaults_line(alloc, plan, place, number, line),
         Kind::Frontend | Kind::Backend | Kind::Listen => {

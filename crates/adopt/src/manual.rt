@@ -8,8 +8,9 @@ use crate::reasons::Why;
 pub(crate) type Row = (Sort, Why, &'static str);
 
 /// Lines of `global`.
-pub(crate) const GLOBAL: [Row; 17] = [
+pub(crate) const GLOBAL: [Row; 18] = [
     (Kept, Why::DrainTime, "hard-stop-after"),
+    (Kept, Why::Descriptors, "fd-hard-limit ulimit-n"),
     (Carried, Why::LargerLimit, "maxconn"),
     (Carried, Why::ProcessSetting, "nbthread"),
     (Carried, Why::OwnSocket, "stats"),
@@ -17,12 +18,12 @@ pub(crate) const GLOBAL: [Row; 17] = [
         Harmless,
         Why::ProcessSetting,
         "ca-base chroot cluster-secret cpu-map cpu-policy cpu-set crt-base daemon description expose-deprecated-directives \
-         expose-experimental-directives fd-hard-limit force-cfg-parser-pause gid grace group insecure-fork-wanted \
-         insecure-setuid-wanted issuers-chain-path key-base localpeer master-worker mworker-max-reloads node numa-cpu-mapping \
-         pidfile prealloc-fd set-dumpable setcap stats-file strict-limits thread-group thread-groups thread-hard-limit uid \
-         ulimit-n unix-bind user busy-polling close-spread-time max-spread-checks maxcompcpuusage maxcomprate maxpipes \
-         maxzlibmem no no-memory-trimming noepoll noevports nogetaddrinfo nokqueue nopoll noreuseport nosplice profiling.memory \
-         profiling.tasks server-state-base server-state-file spread-checks debug quiet zero-warning anonkey shm-stats-file \
+         expose-experimental-directives force-cfg-parser-pause gid grace group insecure-fork-wanted insecure-setuid-wanted \
+         issuers-chain-path key-base localpeer master-worker mworker-max-reloads node numa-cpu-mapping pidfile prealloc-fd \
+         set-dumpable setcap stats-file strict-limits thread-group thread-groups thread-hard-limit uid unix-bind user \
+         busy-polling close-spread-time max-spread-checks maxcompcpuusage maxcomprate maxpipes maxzlibmem no no-memory-trimming \
+         noepoll noevports nogetaddrinfo nokqueue nopoll noreuseport nosplice profiling.memory profiling.tasks \
+         server-state-base server-state-file spread-checks debug quiet zero-warning anonkey shm-stats-file \
          warn-blocked-traffic-after",
     ),
     (Harmless, Why::NoLogs, "log log-send-hostname log-tag"),
@@ -144,9 +145,8 @@ pub(crate) const PROXY: [Row; 27] = [
     (
         Harmless,
         Why::NeedsHttp,
-        "monitor monitor-net monitor-uri errorfile errorfiles errorloc errorloc302 errorloc303 http-error http-request \
-         http-response http-after-response http-reuse http-send-name-header max-keep-alive-queue compression redirect \
-         quic-initial",
+        "monitor monitor-uri errorfile errorfiles errorloc errorloc302 errorloc303 http-error http-request http-response \
+         http-after-response http-reuse http-send-name-header max-keep-alive-queue compression redirect quic-initial",
     ),
     (Harmless, Why::NotServed, "disabled"),
     (Change, Why::Filter, "filter"),

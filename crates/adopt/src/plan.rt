@@ -30,7 +30,7 @@ pub struct Track {
     pub table: Option<usize>,
     /// Whether the key is the client's address.
     pub is_source: bool,
-    /// Whether the rule has no condition.
+    /// Whether the rule has no condition, and no rule before it asks by a key.
     pub is_sure: bool,
 }
 

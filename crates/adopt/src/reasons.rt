@@ -75,6 +75,7 @@ pub enum Why {
     NobodyWaits,
     UncountedSessions,
     DrainTime,
+    Descriptors,
     Resolved,
     NoTls,
     OtherFiles,
@@ -163,6 +164,7 @@ impl Why {
             Why::UncountedSessions =>
                 "HAProxy has counted the session by then, and stickd counts what isn't rejected",
             Why::DrainTime => "the time can't be read, and connections may go on for 30s",
+            Why::Descriptors => "HAProxy takes no more connections than these descriptors allow",
             Why::Resolved => "its value stands where it is used",
             Why::NoTls => "it says nothing where TLS isn't spoken",
             Why::OtherFiles => "files are looked for here, and beside the configuration",

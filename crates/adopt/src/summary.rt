@@ -71,6 +71,21 @@ fn limits(text: &[u8]) -> bool {
     false
 }
 
+/// Whether a line of a configuration is a server.
+fn has_server(text: &[u8]) -> bool {
+    let mut lines = Parts::new(text, b'\n');
+    while let Some(line) = lines.next() {
+        let mut words = Words::new(line, Blanks::SpacesAndTabs);
+        if words
+            .next()
+            .is_some_and(|word| word == b"server".as_slice())
+        {
+            return true;
+        }
+    }
+    false
+}
+
 /// Whether the rules of a configuration accept nobody: one without a condition refuses, and none before it accepts.
 fn refuses_all(text: &[u8]) -> bool {
     let mut lines = Parts::new(text, b'\n');
@@ -114,8 +129,11 @@ fn add_counts(text: &mut Vec<u8>, lines: &[Adopted]) -> Result<(), NoMemory> {
     add_count(text, count_of(lines, FateKind::Lost), " lost")
 }
 
-/// Adds what becomes of limits, where one is gone or nobody is accepted.
+/// Adds what is missing: a server, whoever is accepted, or a limit.
 fn add_limits(text: &mut Vec<u8>, adoption: &Adoption) -> Result<(), NoMemory> {
+    if adoption.serves && !has_server(adoption.text.as_slice()) {
+        return append_str(text, ": no server is left, and a start wants one");
+    }
     if refuses_all(adoption.text.as_slice()) {
         return append_str(text, ": everybody is refused");
     }

@@ -1,6 +1,7 @@
 //! What HAProxy's rules of later phases do that stickd's don't: they wait for bytes, and see a session that was counted;
 //! `rule_lines` and `rules` ask it.
 
+use crate::lexer::SourceLine;
 use crate::plan::{Plan, RuleAt, begins};
 use crate::texts::{is_word, word_at};
 
@@ -66,6 +67,34 @@ fn has_text(word: &[u8], text: &[u8]) -> bool {
     for start in 0..word.len() {
         let (_, rest) = word.split_at(start);
         if rest.starts_with(text) {
+            return true;
+        }
+    }
+    false
+}
+
+/// Whether a word asks by a slot's key in a table, or counts by the source: what is read here as the source's own entry, or counted by
+/// a slot.
+fn asks_by_key(word: &[u8]) -> bool {
+    let is_counting = has_text(word, b"src_inc_") || has_text(word, b"src_clr_");
+    let is_numbered = has_text(word, b"sc0_") || has_text(word, b"sc1_") || has_text(word, b"sc2_");
+    is_counting
+        || (is_numbered && has_text(word, b"("))
+        || (has_text(word, b"sc_") && has_text(word, b","))
+}
+
+fn has_fetch(words: &[Vec<u8>]) -> bool {
+    words.iter().any(|word| asks_by_key(word.as_slice()))
+}
+
+/// Whether a rule asks so, itself or by an ACL, which says other things before a slot tracks than behind.
+pub(crate) fn asks_entry(lines: &[SourceLine], words: &[Vec<u8>]) -> bool {
+    if has_fetch(words) {
+        return true;
+    }
+    for line in lines {
+        let given = line.words.as_slice();
+        if begins(given, "acl", "") && has_fetch(given) && names(words, word_at(given, 1)) {
             return true;
         }
     }

@@ -52,6 +52,8 @@ TRAPS = {
     'an accept of all': DEFAULTS + 'frontend www\n    bind 127.0.0.1:PORT\n    default_backend be\n'
     + '    tcp-request content accept # trap\n    tcp-request content reject\nbackend be\n' + TABLE
     + '    tcp-request content track-sc0 src\n    tcp-request content reject if { sc0_conn_cur gt 3 }\n' + SERVER,
+    'a count before the track': LISTEN + TABLE.replace('store ', 'store gpc0,') + '    tcp-request connection reject if { src_inc_gpc0 gt 3 } # trap\n'
+                                + '    tcp-request connection track-sc0 src\n' + SERVER,
     'several servers': LISTEN + SERVER + '    server two 127.0.0.1:SERVER # trap\n',
 }
 
