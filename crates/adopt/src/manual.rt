@@ -96,8 +96,8 @@ pub(crate) const TUNE: [Row; 2] = [
          renice.startup ring.queues runqueue-depth sched.low-latency sndbuf.backend sndbuf.client sndbuf.frontend sndbuf.server \
          ssl.cachesize ssl.capture-buffer-size ssl.capture-cipherlist-size ssl.default-dh-param ssl.force-private-cache \
          ssl.hard-maxrecord ssl.keylog ssl.lifetime ssl.maxrecord ssl.ocsp-update.maxdelay ssl.ocsp-update.mindelay \
-         ssl.ssl-ctx-cache-size stick-counters takeover-other-tg-connections vars.global-max-size vars.proc-max-size \
-         vars.reqres-max-size vars.sess-max-size vars.txn-max-size zlib.memlevel zlib.windowsize",
+         ssl.ssl-ctx-cache-size stick-counters takeover-other-tg-connections vars.check-max-size vars.global-max-size \
+         vars.proc-max-size vars.reqres-max-size vars.sess-max-size vars.txn-max-size zlib.memlevel zlib.windowsize",
     ),
     (Change, Why::UnknownKeyword, "fail-alloc"),
 ];
@@ -307,7 +307,8 @@ pub(crate) const SERVER_FLAGS: [Row; 6] = [
     (
         Harmless,
         Why::NoChecks,
-        "agent-check check check-reuse-pool check-send-proxy check-ssl check-via-socks4 no-agent-check no-check no-check-ssl",
+        "agent-check check check-reuse-pool check-send-proxy check-ssl check-via-socks4 no-agent-check no-check \
+         no-check-send-proxy no-check-ssl",
     ),
     (
         Harmless,
@@ -356,9 +357,9 @@ pub(crate) const ACTIONS: [Row; 6] = [
     (
         Change,
         Why::UnknownAction,
-        "attach-srv do-resolve reject-with sc-add-gpc send-spoe-group set-bandwidth-limit set-bc-mark set-bc-tos set-dst \
-         set-dst-port set-fc-mark set-fc-tos set-mark set-priority-class set-priority-offset set-src set-src-port set-tos \
-         switch-mode use-service",
+        "attach-srv do-resolve ot-group reject-with sc-add-gpc send-spoe-group set-bandwidth-limit set-bc-mark set-bc-tos \
+         set-dst set-dst-port set-fc-mark set-fc-tos set-mark set-priority-class set-priority-offset set-src set-src-port \
+         set-tos switch-mode use-service",
     ),
 ];
 
@@ -383,9 +384,10 @@ pub(crate) const OTHER_SECTIONS: [Row; 2] = [
         "acme cache crt-store fcgi-app http-errors haterm log-profile mailers peers program resolvers ring traces userlist \
          accepted_payload_size account-key acl acme-provider acme-vars backing-file backlog bind bits challenge command contact \
          crt-base curves default-bind default-server description directory disabled docroot enabled errorfile fd-events format \
-         group hold index key-base keytype load log log-stderr log-tag mailer map max-age max-object-size max-secondary-entries \
-         maxconn maxlen nameserver no on option parse-resolv-conf pass-header path-info peer dgram-bind process-vary \
-         provider-name resolve_retries reuse-key server set-param shards size start table timeout total-max-size trace user",
+         group hold http-request http-response index key-base keytype load log log-stderr log-tag mailer map max-age \
+         max-object-size max-secondary-entries maxconn maxlen nameserver no on option parse-resolv-conf pass-header path-info \
+         peer dgram-bind process-vary provider-name resolve_retries reuse-key server set-param shards size start table timeout \
+         total-max-size trace user",
     ),
     (Change, Why::UnknownKeyword, "log-forward"),
 ];
