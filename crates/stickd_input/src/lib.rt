@@ -15,6 +15,7 @@ mod declared;
 mod expected;
 mod explanation;
 mod guesses;
+mod habits;
 mod help;
 mod hints;
 mod keeping;
