@@ -1,7 +1,38 @@
-//! Words that are at home elsewhere, and what to do here instead; `hints` guesses by them, and `explanation` prints the advice.
+//! Words and files that are at home elsewhere, and what to do here instead; `hints` guesses by them, `explanation` prints the advice, and
+//! `read_file` says whose a file is.
 
 use crate::expected::Expected;
 use crate::suspects::is_among;
+use base_lines::{Blanks, Words};
+use rule_model::{Fault, ReadError};
+use rule_words::{Lines, before_comment, next_or_empty};
+
+/// Whether a line begins a section that only a file of HAProxy's has.
+fn begins_foreign(line: &[u8]) -> bool {
+    let mut words = Words::new(before_comment(line), Blanks::SpacesAndTabs);
+    is_among(next_or_empty(&mut words), &["global", "defaults"])
+}
+
+/// Whether a text is a file of HAProxy's, by a fault that such a file has and a section that only it has.
+pub(crate) fn is_foreign(kind: ReadError, text: &[u8]) -> bool {
+    let is_usual = matches!(
+        kind,
+        ReadError::Wrong(
+            Fault::UnknownKeyword
+                | Fault::BadCondition
+                | Fault::UnknownAcl
+                | Fault::SecondServer
+                | Fault::ModeHttp
+        )
+    );
+    let mut lines = Lines::new(text);
+    while let Some(line) = lines.next() {
+        if begins_foreign(line) {
+            return is_usual;
+        }
+    }
+    false
+}
 
 /// The word that stands here for one of elsewhere.
 pub(crate) fn meant_by(expected: Expected, word: &[u8]) -> Option<&'static [u8]> {

@@ -30,6 +30,7 @@ use all_faults::find_faults;
 use base_sequence::{NoMemory, Sequence};
 pub use command_line::{VERSION, read_command_line};
 use explanation::{explain_fault, explain_warnings};
+use habits::is_foreign;
 pub use keeping::{Keeping, read_checked_keeping, read_keeping};
 pub use options::{
     BIND, CHECK, CLIENT, CONNECT, DRAIN, FIN, KEEPALIVE, LEVEL, LOG_REJECTED, METRICS, REPORT,
@@ -118,9 +119,16 @@ fn report<R: Eprint + AllocGlobal>(
     detail: Detail,
 ) -> io::Result<()> {
     if telling == Telling::First || fault.kind == ReadError::OutOfMemory {
-        return report_fault(rt, text, text, fault, detail);
+        report_fault(rt, text, text, fault, detail)?;
+    } else {
+        report_all(rt, text, detail)?;
     }
-    report_all(rt, text, detail)
+    if is_foreign(fault.kind, text) {
+        return eprintln!(rt;
+            "stickd: it looks like a file of HAProxy's: 'stickd adopt' writes what stickd runs in its place"
+        );
+    }
+    Ok(())
 }
 
 /// Prints a warning for each line that is read past.
