@@ -87,7 +87,7 @@ fn has_fetch(words: &[Vec<u8>]) -> bool {
     words.iter().any(|word| asks_by_key(word.as_slice()))
 }
 
-/// Whether a rule asks so, itself or by an ACL, which says other things before a slot tracks than behind.
+/// Whether a rule asks so, itself or by an ACL, which says other things before a slot tracks than after it.
 pub(crate) fn asks_entry(lines: &[SourceLine], words: &[Vec<u8>]) -> bool {
     if has_fetch(words) {
         return true;
