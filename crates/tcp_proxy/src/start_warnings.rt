@@ -1,6 +1,7 @@
 //! What a start warns of, and a start that is only tried; `running` calls them.
 
 ghost use Rattle.std.specs.Prelude.{◌≡◌, is_some};
+ghost use Rattle.std.specs.List.{list_any};
 ghost use Rattle.admit_drive.specs.Tables.{CanOpen};
 ghost use Rattle.tcp_proxy.specs.Places as spec;
 
@@ -36,14 +37,26 @@ pub(crate) fn check_start<R: ProxyRuntime + Files + AllocGlobal + Eprint>(
     }
 }
 
-/// Whether one of these is an address of IPv6.
+/// Whether clients come with IPv6 addresses to this or to one of those.
 fn takes_ipv6(bind: Endpoint, more: &[Endpoint]) -> bool
     ensures { result ≡ spec.takes_ipv6 bind more.now }
 {
     if is_ipv6(bind) {
         return true;
     }
-    more.iter().any(|bind| is_ipv6(*bind))
+    has_ipv6(more)
+}
+
+/// Whether one of these is an address of IPv6.
+fn has_ipv6(binds: &[Endpoint]) -> bool
+    ensures { result ≡ list_any spec.is_ipv6 binds.now }
+{
+    for bind in binds {
+        if is_ipv6(*bind) {
+            return true;
+        }
+    }
+    false
 }
 
 fn is_ipv6(bind: Endpoint) -> bool

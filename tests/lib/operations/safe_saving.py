@@ -174,7 +174,7 @@ def a_cut_file_is_refused():
     whose midst a line is gone. A file without that first line is loaded, with a warning."""
     with room_of(TABLE) as room:
         conf, path = os.path.join(room, 'conf'), os.path.join(room, 'saved')
-        lines = ''.join(f'9 cmd set table www key 10.0.0.{number} data.gpc0 {number}\n' for number in range(1, 13))
+        lines = ''.join(f'9000 cmd set table www key 10.0.0.{number} data.gpc0 {number}\n' for number in range(1, 13))
         whole = FIRST + '# a note\n' + lines + '# entries: 12\n'
         for length in [*range(1, 90), *range(90, len(whole) - 1, 7), len(whole) - 2]:
             write(path, whole[:length])
@@ -184,7 +184,7 @@ def a_cut_file_is_refused():
         for text in (whole, whole[:-1]):
             status, written, said = ran('replay', conf, '--load', write(path, text), text='0 cmd show table\n')
             assert (status, said) == (0, '') and 'used:12' in written, (status, said)
-        write(path, whole.replace('9 cmd set table www key 10.0.0.7 data.gpc0 7\n', ''))
+        write(path, whole.replace('9000 cmd set table www key 10.0.0.7 data.gpc0 7\n', ''))
         assert ran('replay', conf, '--load', path)[::2] == (1, f'stickd: {path}: line 14: the last line says 12 entries, and the file has 11\n')
         with Server(greets) as server, Watched(server.port, [TABLE], '--load', write(path, lines)) as proxy:
             assert 'used:12' in proxy.command('show table www')
