@@ -72,14 +72,8 @@ fn collect_words(rt: &HostRuntime) -> Result<Vec<String>, WordsFault> {
     }
 }
 
-/// What the proxy asks of the system, but for where its lines go.
-trait Machine: Net<Listener = TcpListener, Stream = TcpStream> + Threads + Wait + Clock + Sync {}
-
-impl<R: Net<Listener = TcpListener, Stream = TcpStream> + Threads + Wait + Clock + Sync> Machine
-    for R {}
-
-/// Does what the command line asks, and answers the status. An error is one of writing. The bounds are a `Machine`'s and more, one by
-/// one: no proof covers that trait at the runtime itself.
+/// Does what the command line asks, and answers the status. An error is one of writing. The bounds stand one by one, down to `serve`:
+/// what that sends to threads may not rest on a trait that has several of them.
 fn run<
     R: Net<Listener = TcpListener, Stream = TcpStream>
         + Threads
@@ -115,10 +109,20 @@ fn run<
 }
 
 /// Does what a command asks. The status is 1 where that fails, which is then said on standard error.
-fn run_command<R: Machine + Files + AllocGlobal + Eprint + RandomSource + Env + Input + Print>(
-    rt: &R,
-    matches: &ArgMatches<'_>,
-) -> io::Result<ExitCode> {
+fn run_command<
+    R: Net<Listener = TcpListener, Stream = TcpStream>
+        + Threads
+        + Wait
+        + Clock
+        + Sync
+        + RandomSource
+        + Files
+        + Env
+        + Input
+        + Print
+        + Eprint
+        + AllocGlobal,
+>(rt: &R, matches: &ArgMatches<'_>) -> io::Result<ExitCode> {
     let done = match matches.subcommand() {
         Some(("adopt", arguments)) => return adopt_named(rt, arguments),
         Some(("check", arguments)) => check(rt, arguments)?,
@@ -184,12 +188,17 @@ fn ask_named<R: Net + Files + Clock + Env + Print + Eprint + AllocGlobal>(
         Ok(patience) => patience,
         Err(bad) => return refuse(rt, bad),
     };
+    let path = arguments.get_str("socket");
+    let path = path.unwrap_or("");
+    let words = arguments.get_strs("COMMAND");
+    let words = words.unwrap_or(&[]);
+    let to = arguments.get_str(TO);
     let asked = Ctl {
-        path: arguments.get_str("socket").unwrap_or(""),
-        words: arguments.get_strs("COMMAND").unwrap_or(&[]),
+        path,
+        words,
         json: arguments.get_flag("json"),
         watch: arguments.get_one::<u32>("watch").map(u64::from),
-        to: arguments.get_str(TO),
+        to,
         patience,
     };
     Ok(ExitCode::from(ask_running(rt, &asked)?))
@@ -320,10 +329,17 @@ pub(crate) fn report_bad_lines<R: Eprint>(rt: &R, bad: &BadLines) -> io::Result<
 
 /// Runs the proxy of a configuration, and waits meanwhile for nobody who reads what it says. Where its results can't be written, that is
 /// said, and the status is 1.
-fn serve<R: Machine + Files + AllocGlobal + RandomSource + Env>(
-    rt: &R,
-    arguments: &ArgMatches<'_>,
-) -> ExitCode {
+fn serve<
+    R: Net<Listener = TcpListener, Stream = TcpStream>
+        + Threads
+        + Wait
+        + Clock
+        + Sync
+        + RandomSource
+        + Files
+        + Env
+        + AllocGlobal,
+>(rt: &R, arguments: &ArgMatches<'_>) -> ExitCode {
     let console = Console::open(rt);
     let attended = Attended::new(rt, &console);
     let manager = match read_surroundings(rt) {
