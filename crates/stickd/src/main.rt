@@ -11,7 +11,7 @@ mod run_plan;
 mod saved_file;
 
 use adopt::{Asked, Wishes, adopt_file, text_of};
-use base_console::{Attended, Console};
+use base_console::{Attended, Console, Lines};
 use base_sequence::NoMemory;
 use byte_ports::{StreamSink, StreamSource};
 use clap::ArgMatches;
@@ -43,7 +43,9 @@ const BAD_COMMAND_LINE: u8 = 2;
 
 fn main(rt: HostRuntime) -> ExitCode {
     let words = collect_words(&rt);
-    match run(&rt, words) {
+    let console = Console::open(&rt);
+    let attended = Attended::new(&rt, &console);
+    match run(&rt, &attended, words) {
         Ok(status) => status,
         Err(reason) => {
             // Where standard error can't be written either, the status alone tells.
@@ -75,19 +77,20 @@ fn collect_words(rt: &HostRuntime) -> Result<Vec<String>, WordsFault> {
 /// Does what the command line asks, and answers the status. An error is one of writing. The bounds stand one by one, down to `serve`:
 /// what that sends to threads may not rest on a trait that has several of them.
 fn run<
-    R: Net<Listener = TcpListener, Stream = TcpStream>
+    R: Net + Clock + Files + Env + Input + Print + Eprint + AllocGlobal,
+    A: Net<Listener = TcpListener, Stream = TcpStream>
         + Threads
         + Wait
         + Clock
+        + Log
+        + Lines
         + Sync
         + RandomSource
         + Files
-        + Env
-        + Input
         + Print
         + Eprint
         + AllocGlobal,
->(rt: &R, words: Result<Vec<String>, WordsFault>) -> io::Result<ExitCode> {
+>(rt: &R, attended: &A, words: Result<Vec<String>, WordsFault>) -> io::Result<ExitCode> {
     let words = match words {
         Ok(words) => words,
         Err(WordsFault::NotUtf8) => {
@@ -100,7 +103,7 @@ fn run<
         }
     };
     match read_command_line(rt.alloc(), words.as_slice()) {
-        Ok(matches) => run_command(rt, &matches),
+        Ok(matches) => run_command(rt, attended, &matches),
         Err(error) => {
             error.print(rt)?;
             Ok(ExitCode::from(error.exit_code() as u8))
@@ -110,24 +113,14 @@ fn run<
 
 /// Does what a command asks. The status is 1 where that fails, which is then said on standard error.
 fn run_command<
-    R: Net<Listener = TcpListener, Stream = TcpStream>
-        + Threads
-        + Wait
-        + Clock
-        + Sync
-        + RandomSource
-        + Files
-        + Env
-        + Input
-        + Print
-        + Eprint
-        + AllocGlobal,
->(rt: &R, matches: &ArgMatches<'_>) -> io::Result<ExitCode> {
+    R: Net + Clock + Files + Env + Input + Print + Eprint + AllocGlobal,
+    A: ProxyRuntime + Files + AllocGlobal + Eprint + RandomSource + Print,
+>(rt: &R, attended: &A, matches: &ArgMatches<'_>) -> io::Result<ExitCode> {
     let done = match matches.subcommand() {
         Some(("adopt", arguments)) => return adopt_named(rt, arguments),
         Some(("check", arguments)) => check(rt, arguments)?,
         Some(("ctl", arguments)) => return ask_named(rt, arguments),
-        Some(("run", arguments)) => return Ok(serve(rt, arguments)),
+        Some(("run", arguments)) => return Ok(serve(rt, attended, arguments)),
         Some(("stop", arguments)) => return stop_named(rt, arguments),
         Some(("top", arguments)) => return show_greatest(rt, arguments),
         Some((_, arguments)) => {
@@ -192,7 +185,10 @@ fn ask_named<R: Net + Files + Clock + Env + Print + Eprint + AllocGlobal>(
     let path = path.unwrap_or("");
     let words = arguments.get_strs("COMMAND");
     let words = words.unwrap_or(&[]);
-    let to = arguments.get_str(TO);
+    let to = match arguments.get_str(TO) {
+        Some(to) => Some(to),
+        None => None,
+    };
     let asked = Ctl {
         path,
         words,
@@ -330,18 +326,9 @@ pub(crate) fn report_bad_lines<R: Eprint>(rt: &R, bad: &BadLines) -> io::Result<
 /// Runs the proxy of a configuration, and waits meanwhile for nobody who reads what it says. Where its results can't be written, that is
 /// said, and the status is 1.
 fn serve<
-    R: Net<Listener = TcpListener, Stream = TcpStream>
-        + Threads
-        + Wait
-        + Clock
-        + Sync
-        + RandomSource
-        + Files
-        + Env
-        + AllocGlobal,
->(rt: &R, arguments: &ArgMatches<'_>) -> ExitCode {
-    let console = Console::open(rt);
-    let attended = Attended::new(rt, &console);
+    R: Env + AllocGlobal,
+    A: ProxyRuntime + Files + AllocGlobal + Eprint + RandomSource + Print,
+>(rt: &R, attended: &A, arguments: &ArgMatches<'_>) -> ExitCode {
     let manager = match read_surroundings(rt) {
         Ok(manager) => manager,
         Err(fault) => {
@@ -349,7 +336,7 @@ fn serve<
             return ExitCode::FAILURE;
         }
     };
-    match serve_file(&attended, arguments, &manager) {
+    match serve_file(attended, arguments, &manager) {
         Ok(status) => status,
         Err(reason) => {
             error!(attended; "writing failed: {reason}");
