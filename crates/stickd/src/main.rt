@@ -11,7 +11,7 @@ mod run_plan;
 mod saved_file;
 
 use adopt::{Asked, Wishes, adopt_file, text_of};
-use base_console::{Attended, Console};
+use base_console::{Attended, Console, Lines};
 use base_sequence::NoMemory;
 use byte_ports::{StreamSink, StreamSource};
 use clap::ArgMatches;
@@ -45,7 +45,9 @@ const BAD_COMMAND_LINE: u8 = 2;
 
 fn main(rt: HostRuntime) -> ExitCode {
     let words = collect_words(&rt);
-    match run(&rt, words) {
+    let console = Console::open(&rt);
+    let attended = Attended::new(&rt, &console);
+    match run(&rt, &attended, words) {
         Ok(status) => status,
         Err(reason) => {
             // Where standard error can't be written either, the status alone tells.
@@ -74,28 +76,23 @@ fn collect_words(rt: &HostRuntime) -> Result<Vec<String>, WordsFault> {
     }
 }
 
-/// What the proxy asks of the system, but for where its lines go.
-trait Machine: Net<Listener = TcpListener, Stream = TcpStream> + Threads + Wait + Clock + Sync {}
-
-impl<R: Net<Listener = TcpListener, Stream = TcpStream> + Threads + Wait + Clock + Sync> Machine
-    for R {}
-
-/// Does what the command line asks, and answers the status. An error is one of writing. The bounds are a `Machine`'s and more, one by
-/// one: no proof covers that trait at the runtime itself.
+/// Does what the command line asks, and answers the status. An error is one of writing. The bounds stand one by one, down to `serve`:
+/// what that sends to threads may not rest on a trait that has several of them.
 fn run<
-    R: Net<Listener = TcpListener, Stream = TcpStream>
+    R: Net + Clock + Files + Env + Input + Print + Eprint + AllocGlobal,
+    A: Net<Listener = TcpListener, Stream = TcpStream>
         + Threads
         + Wait
         + Clock
+        + Log
+        + Lines
         + Sync
         + RandomSource
         + Files
-        + Env
-        + Input
         + Print
         + Eprint
         + AllocGlobal,
->(rt: &R, words: Result<Vec<String>, WordsFault>) -> io::Result<ExitCode> {
+>(rt: &R, attended: &A, words: Result<Vec<String>, WordsFault>) -> io::Result<ExitCode> {
     let words = match words {
         Ok(words) => words,
         Err(WordsFault::NotUtf8) => {
@@ -108,7 +105,7 @@ fn run<
         }
     };
     match read_command_line(rt.alloc(), words.as_slice()) {
-        Ok(matches) => run_command(rt, &matches),
+        Ok(matches) => run_command(rt, attended, &matches),
         Err(error) => {
             error.print(rt)?;
             Ok(ExitCode::from(error.exit_code() as u8))
@@ -117,15 +114,15 @@ fn run<
 }
 
 /// Does what a command asks. The status is 1 where that fails, which is then said on standard error.
-fn run_command<R: Machine + Files + AllocGlobal + Eprint + RandomSource + Env + Input + Print>(
-    rt: &R,
-    matches: &ArgMatches<'_>,
-) -> io::Result<ExitCode> {
+fn run_command<
+    R: Net + Clock + Files + Env + Input + Print + Eprint + AllocGlobal,
+    A: ProxyRuntime + Files + AllocGlobal + Eprint + RandomSource + Print,
+>(rt: &R, attended: &A, matches: &ArgMatches<'_>) -> io::Result<ExitCode> {
     let done = match matches.subcommand() {
         Some(("adopt", arguments)) => return adopt_named(rt, arguments),
         Some(("check", arguments)) => check(rt, arguments)?,
         Some(("ctl", arguments)) => return ask_named(rt, arguments),
-        Some(("run", arguments)) => return Ok(serve(rt, arguments)),
+        Some(("run", arguments)) => return Ok(serve(rt, attended, arguments)),
         Some(("stop", arguments)) => return stop_named(rt, arguments),
         Some(("top", arguments)) => return show_greatest(rt, arguments),
         Some((_, arguments)) => {
@@ -187,12 +184,20 @@ fn ask_named<R: Net + Files + Clock + Env + Print + Eprint + AllocGlobal>(
         Ok(patience) => patience,
         Err(bad) => return refuse(rt, bad),
     };
+    let path = arguments.get_str("socket");
+    let path = path.unwrap_or("");
+    let words = arguments.get_strs("COMMAND");
+    let words = words.unwrap_or(&[]);
+    let to = match arguments.get_str(TO) {
+        Some(to) => Some(to),
+        None => None,
+    };
     let asked = Ctl {
-        path: arguments.get_str("socket").unwrap_or(""),
-        words: arguments.get_strs("COMMAND").unwrap_or(&[]),
+        path,
+        words,
         json: arguments.get_flag("json"),
         watch: arguments.get_one::<u32>("watch").map(u64::from),
-        to: arguments.get_str(TO),
+        to,
         patience,
     };
     Ok(ExitCode::from(ask_running(rt, &asked)?))
@@ -323,12 +328,10 @@ pub(crate) fn report_bad_lines<R: Eprint>(rt: &R, bad: &BadLines) -> io::Result<
 
 /// Runs the proxy of a configuration, and waits meanwhile for nobody who reads what it says. Where its results can't be written, that is
 /// said, and the status is 1.
-fn serve<R: Machine + Files + AllocGlobal + RandomSource + Env>(
-    rt: &R,
-    arguments: &ArgMatches<'_>,
-) -> ExitCode {
-    let console = Console::open(rt);
-    let attended = Attended::new(rt, &console);
+fn serve<
+    R: Env + AllocGlobal,
+    A: ProxyRuntime + Files + AllocGlobal + Eprint + RandomSource + Print,
+>(rt: &R, attended: &A, arguments: &ArgMatches<'_>) -> ExitCode {
     let manager = match read_surroundings(rt) {
         Ok(manager) => manager,
         Err(fault) => {
@@ -336,7 +339,7 @@ fn serve<R: Machine + Files + AllocGlobal + RandomSource + Env>(
             return ExitCode::FAILURE;
         }
     };
-    match serve_file(&attended, arguments, &manager) {
+    match serve_file(attended, arguments, &manager) {
         Ok(status) => status,
         Err(reason) => {
             error!(attended; "writing failed: {reason}");

@@ -79,7 +79,7 @@ def descriptors(given):
     socket answers in the end. Then the same crowd until the program stops, whose table is settled."""
     report = Report()
     limits = loadable(stickd(), [(f'{most} descriptors', limited(resource.RLIMIT_NOFILE, most)) for most in range(3, 40)])
-    texts = ("stickd: a thread can't", 'stickd: 127.0.0.1:', 'stickd: /', 'stickd: no random numbers')
+    texts = ("stickd: a thread can't", "stickd: what wakes threads can't", 'stickd: 127.0.0.1:', 'stickd: /', 'stickd: no random numbers')
     start_each(report, stickd(), limits, texts)
     with Server(greets) as server, Proxy(server.port, [TABLE, TRACK], threads=2, descriptors=64) as proxy:
         held = [proxy.connect() for _ in range(100)]
