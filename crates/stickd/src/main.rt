@@ -184,10 +184,14 @@ fn ask_named<R: Net + Files + Clock + Env + Print + Eprint + AllocGlobal>(
         Ok(patience) => patience,
         Err(bad) => return refuse(rt, bad),
     };
-    let path = arguments.get_str("socket");
-    let path = path.unwrap_or("");
-    let words = arguments.get_strs("COMMAND");
-    let words = words.unwrap_or(&[]);
+    let path = match arguments.get_str("socket") {
+        Some(path) => path,
+        None => "",
+    };
+    let words: &[&str] = match arguments.get_strs("COMMAND") {
+        Some(words) => words,
+        None => &[],
+    };
     let to = match arguments.get_str(TO) {
         Some(to) => Some(to),
         None => None,
