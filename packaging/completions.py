@@ -21,7 +21,7 @@ COMMAND = re.compile(r'  ([\w-]+)  +(\S.*)$')
 LINES = {'Commands': COMMAND, 'Arguments': ARGUMENT, 'Options': OPTION}
 # What the value of an option, or an argument, of such a name is taken from. Of all others nothing is known.
 FILES, GROUPS, COMMANDS = 'files', 'groups', 'commands'
-KINDS = {'FILE': FILES, 'PATH': FILES, 'PATH[,mode=M]': FILES, 'GROUP': GROUPS, 'COMMAND': COMMANDS}
+KINDS = {'FILE': FILES, 'PATH': FILES, 'PATH[,OPTION]': FILES, 'GROUP': GROUPS, 'COMMAND': COMMANDS}
 
 
 class Option(NamedTuple):

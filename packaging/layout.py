@@ -9,9 +9,11 @@ from typing import NamedTuple
 TOP = os.path.dirname(os.path.dirname(os.path.abspath(__file__)))
 BUILT = os.path.join(TOP, 'crates', 'stickd', 'out', 'stickd')
 CONFIGURATION = 'etc/stickd/stickd.cfg'
+# Where the program lies below a prefix, which a launcher starts.
+PROGRAM = 'lib/stickd/stickd'
 # What the sources name, and what stands in its place once it is installed.
 PROGRAM_OF_UNIT = '/usr/local/bin/stickd'
-EXAMPLE = 'examples/connection-limit.cfg'
+EXAMPLE = 'examples/both-families.cfg'
 # Where zsh looks for the completions of a distribution's packages, and of all others.
 OF_A_DISTRIBUTION, OF_OTHERS = 'vendor-completions', 'site-functions'
 
@@ -89,7 +91,8 @@ def files(prefix, program, zsh_folder):
     """What is installed below a prefix, as /usr, or nothing for the root, and in /etc: each file once."""
     below = f'{prefix}/'.lstrip('/')
     share, documented = f'{below}share', f'{below}share/doc/stickd'
-    yield File(f'{below}bin/stickd', 0o755, program)
+    yield File(f'{below}bin/stickd', 0o755, source('packaging', 'launcher'))
+    yield File(f'{below}{PROGRAM}', 0o755, program)
     yield File(f'{share}/man/man1/stickd.1.gz', 0o644, packed(source('man', 'stickd.1')))
     unit = replaced('examples/stickd.service', PROGRAM_OF_UNIT, f'{prefix}/bin/stickd')
     yield File(f'{below}lib/systemd/system/stickd.service', 0o644, unit)

@@ -11,10 +11,10 @@ _stickd() {
     fi
     # What the option before wants; else what the command has.
     case "$command $before" in
-        "adopt --frontend" | "ctl --watch" | "replay --shards" | "replay --purge" | "replay --ipv4-prefix" | "replay --ipv6-prefix" | "run --threads" | "run --bind" | "run --shards" | "run --purge" | "run --ipv4-prefix" | "run --ipv6-prefix" | "run --connections" | "run --backlog" | "run --timeout-connect" | "run --retries" | "run --timeout-client" | "run --timeout-server" | "run --timeout-fin" | "run --keepalive" | "run --socket-mode" | "run --socket-clients" | "run --timeout-socket" | "run --metrics" | "run --report" | "run --drain" | "run --stop-after" | "run --roll-at" | "stop --drain" | "top --table" | "top --by" | "top --rows")
+        "adopt --frontend" | "check --shards" | "check --frontend" | "ctl --watch" | "ctl --timeout" | "replay --shards" | "replay --purge" | "replay --ipv4-prefix" | "replay --ipv6-prefix" | "run --threads" | "run --frontend" | "run --bind" | "run --shards" | "run --purge" | "run --ipv4-prefix" | "run --ipv6-prefix" | "run --save-every" | "run --connections" | "run --backlog" | "run --timeout-connect" | "run --retries" | "run --timeout-client" | "run --timeout-server" | "run --timeout-fin" | "run --keepalive" | "run --tcp-user-timeout" | "run --socket-mode" | "run --socket-level" | "run --socket-clients" | "run --timeout-socket" | "run --stats-clients" | "run --metrics" | "run --report" | "run --drain" | "run --stop-after" | "run --roll-at" | "stop --drain" | "stop --timeout" | "top --table" | "top --by" | "top --rows")
             return
             ;;
-        "ctl --socket" | "replay --load" | "run --socket" | "run --load" | "run --save" | "run --stats-socket" | "stop --stats-socket" | "top --socket")
+        "check --load" | "ctl --socket" | "ctl --to" | "replay --load" | "run --socket" | "run --load" | "run --save" | "run --stats-socket" | "stop --stats-socket" | "top --socket")
             compopt -o filenames 2>/dev/null
             choices=(-f)
             ;;
@@ -27,21 +27,21 @@ _stickd() {
     fi
     ((${#choices[@]})) || case "$command ${word:0:1}" in
         "adopt -")
-            choices=(-W "--anyway --command --first-server --frontend -h --help")
+            choices=(-W "--anyway --command --first-server --frontend --verbose -h --help")
             ;;
         "adopt "*)
             compopt -o filenames 2>/dev/null
             choices=(-f)
             ;;
         "check -")
-            choices=(-W "--all --explain -h --help")
+            choices=(-W "--all --explain --load --shards --haproxy --first-server --frontend -h --help")
             ;;
         "check "*)
             compopt -o filenames 2>/dev/null
             choices=(-f)
             ;;
         "ctl -")
-            choices=(-W "--socket --json --watch -h --help")
+            choices=(-W "--socket --json --watch --to --timeout -h --help")
             ;;
         "ctl "*)
             return
@@ -54,14 +54,14 @@ _stickd() {
             choices=(-f)
             ;;
         "run -")
-            choices=(-W "--socket --threads --bind --shards --purge --ipv4-prefix --ipv6-prefix --load --save --connections --backlog --timeout-connect --retries --timeout-client --timeout-server --timeout-fin --keepalive --socket-mode --socket-group --socket-clients --timeout-socket --stats-socket --metrics --report --log-rejected --drain --stop-after --roll-at -h --help")
+            choices=(-W "--socket --threads --check --haproxy --anyway --first-server --frontend --bind --shards --purge --ipv4-prefix --ipv6-prefix --load --load-lenient --save --save-every --connections --backlog --timeout-connect --retries --timeout-client --timeout-server --timeout-fin --keepalive --tcp-user-timeout --socket-mode --socket-group --socket-level --socket-clients --timeout-socket --stats-socket --stats-clients --metrics --report --log-rejected --drain --stop-after --roll-at -h --help")
             ;;
         "run "*)
             compopt -o filenames 2>/dev/null
             choices=(-f)
             ;;
         "stop -")
-            choices=(-W "--stats-socket --drain -h --help")
+            choices=(-W "--stats-socket --drain --timeout -h --help")
             ;;
         "top -")
             choices=(-W "--socket --table --by --rows -h --help")

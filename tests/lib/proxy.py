@@ -166,12 +166,16 @@ class FarServer:
 class Proxy:
     """The program at work on a configuration, in a folder of its own."""
 
-    def __init__(self, server, lines, *words, threads=8, descriptors=None, others='', environment=None, umask=-1):
+    # Where what it says goes.
+    errors = subprocess.PIPE
+
+    def __init__(self, server, lines, *words, threads=8, descriptors=None, others='', environment=None, umask=-1,
+                 host='127.0.0.1'):
         self.room = tempfile.TemporaryDirectory(prefix='stickd-')
         self.port, self.path = free_port(), os.path.join(self.room.name, 'commands')
         conf = os.path.join(self.room.name, 'proxy.cfg')
         with open(conf, 'w', encoding='utf-8') as file:
-            file.write('\n    '.join(['listen www', f'bind 127.0.0.1:{self.port}', *lines, f'server one 127.0.0.1:{server}']) + '\n' + others)
+            file.write('\n    '.join(['listen www', f'bind 127.0.0.1:{self.port}', *lines, f'server one {host}:{server}']) + '\n' + others)
         self.descriptors, self.environment, self.umask = descriptors, environment, umask
         self.words = ['run', conf, '--socket', self.path, '--threads', str(threads), *words]
         self.start()
@@ -179,7 +183,7 @@ class Proxy:
     def start(self):
         self.began = time.monotonic()
         self.program = subprocess.Popen([stickd(), *self.words], stdin=subprocess.DEVNULL, stdout=subprocess.PIPE,
-                                        stderr=subprocess.PIPE, text=True, preexec_fn=self.limit, env=self.environment, umask=self.umask)
+                                        stderr=self.errors, text=True, preexec_fn=self.limit, env=self.environment, umask=self.umask)
         wait_for('the program answers', lambda: self.program.poll() is not None or self.is_up())
         assert self.program.poll() is None, f'it ended at once: {self.program.stderr.read()}'
 

@@ -11,7 +11,7 @@ begin with four blanks are a configuration, read without those.
 
 *.lines      LINE => WANTED: the block's configuration and this line behind it, as `stickd check` reads them (where the
              configuration ends in `...`, the line goes on there). WANTED is `valid: ..`, or the fault of this line; and
-             behind `; ` the lines that are read past, in order.
+             behind `; ` the lines that are read past, in order. Behind a fault and `; HAProxy's` the file is told as one of HAProxy's.
 *.prefixes   |PIECE| WANTED: the pieces joined are a configuration for `check`, or behind `run replay` a script. However much
              of a piece is there, a byte at least, WANTED is answered, a fault with its line; so is an empty piece. Where a
              script's answer ends with `bad line`, its last line is named on standard error.
@@ -97,6 +97,9 @@ def cut(line, at):
     return before.strip(), after.strip()
 
 
+HAPROXYS = b"stickd: it looks like a file of HAProxy's: 'stickd adopt' writes what stickd runs in its place\n"
+
+
 def checked(answer, number=None):
     """What `check` is to write for an answer of a table; a fault without a line is of the line with this number."""
     said, *passed = answer.split('; ')
@@ -104,7 +107,8 @@ def checked(answer, number=None):
     if said.startswith('valid: '):
         return Wanted((said + '\n').encode(), stderr.encode(), 0)
     place = '' if said.startswith('line ') else 'line %d: ' % number
-    return Wanted(b'', ('stickd: %s%s\n' % (place, said)).encode(), 1)
+    hint = HAPROXYS if passed == ["HAProxy's"] else b''
+    return Wanted(b'', ('stickd: %s%s\n' % (place, said)).encode() + hint, 1)
 
 
 def bad_lines_said(numbers):

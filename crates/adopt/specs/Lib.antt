@@ -3,3 +3,5 @@ pub mod Written
 pub mod Checked
 pub mod Lines
 pub mod Keywords
+pub mod Report
+pub mod StartWords

@@ -3,13 +3,14 @@ use Rattle.std.specs.Prelude.{ℕ, Bool, true, false, List, if◌then◌else◌}
 use Rattle.std.specs.List.{list_any}
 use Rattle.adopt.specs.declared.written.Adopted.{Adopted}
 use Rattle.adopt.specs.declared.fates.FateKind.{FateKind}
-use Rattle.adopt.specs.declared.fates.FateKind.TheVariants.{Kept, Rewritten, Moved, Harmless, Altered, Lost}
+use Rattle.adopt.specs.declared.fates.FateKind.TheVariants.{Kept, Rewritten, Moved, Carried, Harmless, Altered, Lost}
 
 -- the kinds of loss that change what is served
 abbrev pub changes : FateKind → Bool
 changes Kept = false
 changes Rewritten = false
 changes Moved = false
+changes Carried = false
 changes Harmless = false
 changes Altered = true
 changes Lost = true

@@ -6,7 +6,7 @@ use Rattle.std.specs.declared.vec.Vec.{Vec}
 use Rattle.std.specs.declared.alloc.Global.{Global}
 use Rattle.adopt.specs.declared.written.Adopted.{Adopted}
 use Rattle.adopt.specs.declared.fates.FateKind.{FateKind}
-use Rattle.adopt.specs.declared.fates.FateKind.TheVariants.{Kept, Rewritten, Moved, Harmless, Altered, Lost}
+use Rattle.adopt.specs.declared.fates.FateKind.TheVariants.{Kept, Rewritten, Moved, Carried, Harmless, Altered, Lost}
 
 -- a byte of ASCII, or a question mark
 abbrev pub ascii : ℕ → ℕ
@@ -29,6 +29,7 @@ abbrev pub in_place : FateKind → List ℕ → List ℕ → List ℕ → List �
 in_place Kept raw note text = line_of raw
 in_place Rewritten raw note text = line_of text
 in_place Moved raw note text = comment_of raw note
+in_place Carried raw note text = comment_of raw note
 in_place Harmless raw note text = comment_of raw note
 in_place Altered raw note text = line_of text
 in_place Lost raw note text = comment_of raw note

@@ -1,7 +1,8 @@
 //! What rules do, in stickd's spelling; `rules` converts by it, and `guards` and `rule_lines` ask parts.
 
 use crate::calls::{read_call, slot_of};
-use crate::keywords::is_one_of;
+use crate::keywords::{is_one_of, left_of, told_of};
+use crate::manual::ACTIONS;
 use crate::masks::{mask_of, table_type, tracked_section};
 use crate::plan::{Plan, RuleAt};
 use crate::reasons::{Refusal, Why};
@@ -20,23 +21,10 @@ pub(crate) struct Action {
     pub altered: Option<Why>,
 }
 
-/// What rules can do that decides and counts nothing.
-const IDLE: [&str; 9] = [
-    "set-log-level",
-    "set-nice",
-    "capture",
-    "do-log",
-    "unset-var",
-    "set-var",
-    "set-var-fmt",
-    "set-fc-mark",
-    "set-fc-tos",
-];
-
 /// Whether a rule that does this decides and counts nothing.
 pub(crate) fn is_idle(word: &[u8]) -> bool {
     let (name, _) = before_parenthesis(word);
-    is_one_of(name, &IDLE)
+    told_of(name, &ACTIONS).is_some_and(|told| !told.matters)
 }
 
 /// The slot of `track-sc0` and its kin.
@@ -215,7 +203,7 @@ fn convert_count(alloc: Global, plan: &Plan, words: &[Vec<u8>]) -> Result<Action
     }
     let is_set = is_word(name, "sc-set-gpt0") || is_word(name, "sc-set-gpt");
     if !is_set {
-        return Err(Refusal::Lost(Why::UnknownAction));
+        return Err(Refusal::Lost(left_of(name, &ACTIONS).why));
     }
     let slot = if is_word(name, "sc-set-gpt0") {
         word_at(arguments, 0)
@@ -269,9 +257,6 @@ pub(crate) fn convert_action(
     }
     if tracked_slot(first).is_some() {
         return convert_track(alloc, plan, rule, words);
-    }
-    if first.starts_with(b"expect-".as_slice()) {
-        return Err(Refusal::Lost(Why::ProxyProtocol));
     }
     convert_count(alloc, plan, words)
 }

@@ -30,6 +30,10 @@ pub struct Adoption {
     pub text: Vec<u8>,
     /// The command line.
     pub command: Vec<u8>,
+    /// The options that stand for lines.
+    pub options: Vec<CommandOption>,
+    /// Whether the file was adopted already, so that its first line has the command line.
+    pub was_adopted: bool,
     /// Whether one of its frontends is served.
     pub serves: bool,
     /// The exit status: 0 where what is served is the same, 3 where something that matters was lost.
@@ -170,7 +174,9 @@ fn lose(
             fate.text = copy_text(alloc, line.raw.as_slice())?;
         }
         FateKind::Rewritten | FateKind::Altered => fate.kind = FateKind::Altered,
-        FateKind::Moved | FateKind::Harmless | FateKind::Lost => fate.kind = FateKind::Lost,
+        FateKind::Moved | FateKind::Carried | FateKind::Harmless | FateKind::Lost => {
+            fate.kind = FateKind::Lost;
+        }
     }
     Ok(())
 }
@@ -281,6 +287,8 @@ pub fn adopt(
         lines,
         text,
         command,
+        options,
+        was_adopted,
         serves: plan.frontend.is_some(),
         status,
     }))

@@ -8,6 +8,7 @@ use crate::plan::{PatternFile, Plan, RuleAt, Track, Wishes, begins};
 use crate::rules::{rules_of, track_of};
 use crate::sections::{Kind, Section, read_sections};
 use crate::texts::{is_word, word_at};
+use crate::waits::asks_entry;
 use base_sequence::NoMemory;
 use std::alloc::Global;
 
@@ -136,13 +137,13 @@ fn find_rules(alloc: Global, plan: &Plan) -> Result<Vec<RuleAt>, NoMemory> {
 /// What rules track.
 fn find_tracks(alloc: Global, plan: &Plan, rules: &[RuleAt]) -> Result<Vec<Track>, NoMemory> {
     let mut tracks = Vec::new(alloc);
+    let mut is_late = false;
     for rule in rules {
-        if let Some(track) = track_of(
-            plan.sections.as_slice(),
-            plan.words(rule.line),
-            rule.origin,
-        ) {
-            tracks.push(track)?;
+        let words = plan.words(rule.line);
+        is_late = is_late || asks_entry(plan.lines.as_slice(), words);
+        if let Some(track) = track_of(plan.sections.as_slice(), words, rule.origin) {
+            let is_sure = track.is_sure && !is_late;
+            tracks.push(Track { is_sure, ..track })?;
         }
     }
     Ok(tracks)

@@ -1,15 +1,26 @@
 //! The command line that stands for lines of limits and times; `adoption` writes it.
 
+ghost use Rattle.std.specs.Prelude.{◌≡◌, OnOk};
+ghost use Rattle.adopt.specs.StartWords as spec;
+
 use crate::options::CommandOption;
-use crate::texts::{append, append_str, copy_text};
+use crate::texts::{append, append_str, copy_text, text_of};
 use base_sequence::NoMemory;
 use std::alloc::Global;
 
 /// What the command line begins with: the configuration's name and the socket are for whoever runs it to change.
 const START: &str = "stickd run stickd.cfg --socket /run/stickd/stickd.sock";
 
-/// The option without which the program doesn't run.
+/// The socket on which a start answers commands, unless it is told of another.
+const USUAL_SOCKET: &str = "/run/stickd/stickd.sock";
+
+/// The options without which the program doesn't run.
+const SOCKET: &str = "--socket";
+
 const THREADS: &str = "--threads";
+
+/// How many threads HAProxy has where no line says it, as far as it is known here.
+const USUAL_THREADS: &str = "1";
 
 /// What a file begins with that was adopted already.
 pub(crate) const HEAD: &str = "# stickd run ";
@@ -50,7 +61,8 @@ fn from_options(alloc: Global, options: &[CommandOption]) -> Result<Vec<u8>, NoM
     let mut text = copy_text(alloc, START.as_bytes())?;
     let has_threads = options.iter().any(|option| option.flag == THREADS);
     if !has_threads {
-        append_str(&mut text, " --threads 1")?;
+        append_str(&mut text, " --threads ")?;
+        append_str(&mut text, USUAL_THREADS)?;
     }
     for option in options {
         append_str(&mut text, " ")?;
@@ -73,4 +85,44 @@ pub(crate) fn command_of(
         return copy_text(alloc, command);
     }
     from_options(alloc, options)
+}
+
+/// Whether an option is there.
+fn has(options: &[CommandOption], flag: &str) -> bool
+    ensures { result ≡ spec.has options.now flag.now }
+{
+    for option in options {
+        if option.flag == flag {
+            return true;
+        }
+    }
+    false
+}
+
+/// Adds an option that stands for no line, unless it is there.
+fn add_unless(
+    alloc: Global,
+    options: &mut Vec<CommandOption>,
+    flag: &'static str,
+    value: &str,
+) -> Result<(), NoMemory>
+    ensures { OnOk result (spec.shown options.new.items ≡ spec.with_unless (spec.shown options.old.items) flag.now value.now) }
+{
+    if has(options.as_slice(), flag) {
+        return Ok(());
+    }
+    options.push(CommandOption {
+        flag,
+        value: text_of(alloc, value)?,
+        line: None,
+    })?;
+    Ok(())
+}
+
+/// Adds the options without which the program doesn't run, where they aren't there.
+pub(crate) fn add_usual(alloc: Global, options: &mut Vec<CommandOption>) -> Result<(), NoMemory>
+    ensures { OnOk result (spec.shown options.new.items ≡ spec.with_usual (spec.shown options.old.items)) }
+{
+    add_unless(alloc, options, SOCKET, USUAL_SOCKET)?;
+    add_unless(alloc, options, THREADS, USUAL_THREADS)
 }

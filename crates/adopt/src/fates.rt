@@ -1,16 +1,17 @@
 //! What becomes of each line; `adoption` calls `fates_of`, and the modules of lines make fates.
 
 use crate::headings::{add_table_of_all, of_heading};
-use crate::keywords::{is_one_of, left_out};
+use crate::keywords::{Told, is_one_of, left_of};
 use crate::lexer::SourceLine;
+use crate::manual::{GLOBAL, OTHER_SECTIONS, TUNE};
 use crate::options::CommandOption;
 use crate::plan::{Plan, begins};
-use crate::proxy_lines::of_proxy_line;
+use crate::proxy_lines::{of_proxy_line, unlike};
 use crate::reasons::Why;
 use crate::roles::has_rules_of;
 use crate::rule_lines::{add_rules, of_rule};
-use crate::rules::rule_place;
-use crate::sections::Kind;
+use crate::rules::{is_waiting, phase_of, rule_place};
+use crate::sections::{Kind, kind_of};
 use crate::servers::server_loss;
 use crate::standing::{added, written};
 use crate::texts::{Words, append, append_str, is_word, text_of, word_at};
@@ -26,6 +27,8 @@ pub enum FateKind {
     Rewritten,
     /// It is left out, and what it says stands elsewhere.
     Moved,
+    /// It is left out, and an option of the command line stands for it.
+    Carried,
     /// It is left out, which changes nothing that is served.
     Harmless,
     /// Another line stands in its place that means less.
@@ -66,6 +69,15 @@ pub(crate) fn left(alloc: Global, kind: FateKind, why: Why) -> Result<Fate, NoMe
     })
 }
 
+/// The fate of a line that is left out, as its keyword says.
+pub(crate) fn of_left(alloc: Global, told: Told) -> Result<Fate, NoMemory> {
+    if told.matters {
+        left(alloc, FateKind::Lost, told.why)
+    } else {
+        left(alloc, FateKind::Harmless, told.why)
+    }
+}
+
 /// Whether what stands for a line is a line of its own.
 pub(crate) fn stands(kind: FateKind) -> bool {
     matches!(
@@ -91,18 +103,44 @@ fn is_inherited(plan: &Plan, defaults: usize) -> bool {
     false
 }
 
-/// What is lost by a line of `defaults`, if anything that matters.
-fn defaults_loss(words: &[Vec<u8>]) -> Option<Why> {
+/// Whether a rule of `defaults` runs for a proxy that has these alone: a backend has rules `content` only.
+fn is_frontends(plan: &Plan, defaults: usize) -> bool {
+    match plan.frontend.and_then(|place| plan.section(place)) {
+        Some(section) => section.defaults == Some(defaults),
+        None => false,
+    }
+}
+
+/// Why a line of `defaults` is left out that a proxy has from there, and for which nothing else stands.
+fn defaults_left(plan: &Plan, place: usize, words: &[Vec<u8>]) -> Told {
     let keyword = word_at(words, 0);
     if is_word(keyword, "default-server") {
-        return server_loss(words, 1);
+        let loss = server_loss(words, 1);
+        return Told {
+            why: loss.unwrap_or(Why::NoChecks),
+            matters: loss.is_some(),
+        };
     }
-    let is_option = is_word(keyword, "option");
-    if is_option || is_one_of(keyword, &["filter", "rate-limit", "source", "transparent"]) {
-        let left = left_out(keyword, word_at(words, 1));
-        return if left.matters { Some(left.why) } else { None };
+    let harmless = if is_word(keyword, "acl") {
+        Some(Why::AclOfLostRule)
+    } else if is_word(keyword, "mode") {
+        Some(Why::SectionHeader)
+    } else if is_word(keyword, "default_backend") {
+        Some(Why::Overruled)
+    } else if is_waiting(words) {
+        Some(Why::InspectDelay)
+    } else if phase_of(words).is_some_and(|phase| phase < 3) && !is_frontends(plan, place) {
+        Some(Why::NotServed)
+    } else {
+        None
+    };
+    match harmless {
+        Some(why) => Told {
+            why,
+            matters: false,
+        },
+        None => unlike(plan, false, words),
     }
-    None
 }
 
 /// What becomes of a line of `defaults`.
@@ -123,9 +161,31 @@ fn of_defaults_line(
     if plan.names_backend == Some(number) {
         return left(alloc, FateKind::Moved, Why::MovedBelow);
     }
-    match defaults_loss(words) {
-        Some(why) if is_inherited(plan, place) => left(alloc, FateKind::Lost, why),
-        _ => left(alloc, FateKind::Harmless, Why::SectionHeader),
+    if !is_inherited(plan, place) || kind_of(word_at(words, 0)).is_some() {
+        return left(alloc, FateKind::Harmless, Why::SectionHeader);
+    }
+    of_left(alloc, defaults_left(plan, place, words))
+}
+
+/// Whether a line says how many connections there may be.
+fn has_limit(plan: &Plan) -> bool {
+    plan.lines
+        .iter()
+        .any(|line| begins(line.words.as_slice(), "maxconn", ""))
+}
+
+/// What becomes of a line of `global` for which no option stands.
+fn of_global_line(alloc: Global, plan: &Plan, words: &[Vec<u8>]) -> Result<Fate, NoMemory> {
+    let keyword = word_at(words, 0);
+    if is_one_of(keyword, &["fd-hard-limit", "ulimit-n"]) && has_limit(plan) {
+        return left(alloc, FateKind::Harmless, Why::LargerLimit);
+    }
+    if begins(words, "global", "") {
+        return left(alloc, FateKind::Harmless, Why::ProcessSetting);
+    }
+    match keyword.strip_prefix(b"tune.".as_slice()) {
+        Some(rest) => of_left(alloc, left_of(rest, &TUNE)),
+        None => of_left(alloc, left_of(keyword, &GLOBAL)),
     }
 }
 
@@ -138,7 +198,7 @@ fn option_note(
     let mut note = Vec::new(alloc);
     let mut count = 0usize;
     for option in options {
-        if option.line == number {
+        if option.line == Some(number) {
             append_str(&mut note, option.flag)?;
             append_str(&mut note, " ")?;
             append(&mut note, option.value.as_slice())?;
@@ -195,11 +255,8 @@ fn of_line(
         return left(alloc, FateKind::Harmless, Why::NotServed);
     };
     match section.kind {
-        Kind::Global if begins(words, "stats", "socket") => {
-            left(alloc, FateKind::Harmless, Why::OwnSocket)
-        }
-        Kind::Global => left(alloc, FateKind::Harmless, Why::ProcessSetting),
-        Kind::Other => left(alloc, FateKind::Harmless, Why::OtherSection),
+        Kind::Global => of_global_line(alloc, plan, words),
+        Kind::Other => of_left(alloc, left_of(word_at(words, 0), &OTHER_SECTIONS)),
         Kind::Defaults => of_defaults_line(alloc, plan, place, number, line),
         Kind::Frontend | Kind::Backend | Kind::Listen => {
             if number == section.first {
@@ -224,7 +281,7 @@ fn fate_of(
     let note = option_note(alloc, options, number)?;
     if !note.is_empty() && !stands(fate.kind) {
         fate = Fate {
-            kind: FateKind::Moved,
+            kind: FateKind::Carried,
             note,
             text: Vec::new(alloc),
             after: fate.after,

@@ -1,8 +1,12 @@
-//! The adoption of a named file: what is read, and what is written where; `stickd` calls `adopt_file`.
+//! The adoption of a named file: what is read, and what is written where; `stickd` calls `adopt_file`, and `take_file` for a start.
+
+ghost use Rattle.std.specs.Prelude.{◌≡◌, IfOk, IfSome, false};
+ghost use Rattle.adopt.specs.Checked.{IsTaken};
 
 use crate::adoption::{Adoption, adopt, wanted_files};
+use crate::command::add_usual;
 use crate::plan::{PatternFile, Wishes};
-use crate::report::report_of;
+use crate::report::{Wanted, changes_of, report_of};
 use crate::status::SAME;
 use crate::texts::{append, append_str, copy_text};
 use crate::variables::Variable;
@@ -23,6 +27,8 @@ pub struct Asked {
     pub anyway: bool,
     /// Whether the command line is written in place of the configuration.
     pub command: bool,
+    /// Whether the report says why of each line that is lost without harm.
+    pub verbose: bool,
 }
 
 /// The variables of the environment. None are had where one of them isn't UTF-8.
@@ -95,7 +101,9 @@ fn adopt_text<R: Files + Env + AllocGlobal>(
     path: &str,
     text: &[u8],
     wishes: &Wishes,
-) -> Result<Option<Adoption>, NoMemory> {
+) -> Result<Option<Adoption>, NoMemory>
+    ensures taken { IfOk result (λ found. IfSome found (λ adoption. IsTaken adoption.text.items)) }
+{
     let variables = environment(rt)?;
     let names = wanted_files(rt.alloc(), text, variables.as_slice())?;
     let files = read_patterns(rt, path, names.as_slice())?;
@@ -142,12 +150,17 @@ fn show_adoption<R: Print + Eprint + AllocGlobal>(
     adoption: &Adoption,
     asked: &Asked,
 ) -> io::Result<u8> {
-    let Ok(report) = report_of(rt.alloc(), adoption) else {
+    let shown = adoption.status == SAME || asked.anyway;
+    let wanted = Wanted {
+        verbose: asked.verbose,
+        shown,
+    };
+    let Ok(report) = report_of(rt.alloc(), adoption, wanted) else {
         eprintln!(rt; "stickd: out of memory")?;
         return Ok(UNREADABLE);
     };
     tell(rt, report.as_slice())?;
-    if adoption.status != SAME && !asked.anyway {
+    if !shown {
         return Ok(adoption.status);
     }
     if asked.command {
@@ -159,6 +172,36 @@ fn show_adoption<R: Print + Eprint + AllocGlobal>(
     Ok(adoption.status)
 }
 
+/// Adopts the file of this name. Where it can't be read, or has no such frontend as is asked for, that is said, and the status
+/// answered.
+fn read_adoption<R: Files + Env + Eprint + AllocGlobal>(
+    rt: &R,
+    path: &str,
+    wishes: &Wishes,
+) -> io::Result<Result<Adoption, u8>>
+    ensures taken { IfOk result (λ read. IfOk read (λ adoption. IsTaken adoption.text.items)) }
+{
+    let text = match fs::read(rt, path) {
+        Ok(text) => text,
+        Err(reason) => {
+            eprintln!(rt; "stickd: {path} can't be read: {reason}")?;
+            return Ok(Err(UNREADABLE));
+        }
+    };
+    let Ok(adopted) = adopt_text(rt, path, text.as_slice(), wishes) else {
+        eprintln!(rt; "stickd: out of memory")?;
+        return Ok(Err(UNREADABLE));
+    };
+    let Some(adoption) = adopted else {
+        eprintln!(rt; "stickd: {path} can't be adopted")?;
+        return Ok(Err(UNREADABLE));
+    };
+    if lacks_frontend(rt, path, &adoption, wishes)? {
+        return Ok(Err(UNREADABLE));
+    }
+    Ok(Ok(adoption))
+}
+
 /// Adopts the file of this name: writes the configuration, or the command line, to standard output, and the report to
 /// standard error. Answers the status: 0 where what is served is the same, 3 where something that matters was lost, and
 /// 1 where the file can't be read, or has no such frontend as is asked for.
@@ -167,23 +210,57 @@ pub fn adopt_file<R: Files + Env + Print + Eprint + AllocGlobal>(
     path: &str,
     asked: &Asked,
 ) -> io::Result<u8> {
-    let text = match fs::read(rt, path) {
-        Ok(text) => text,
-        Err(reason) => {
-            eprintln!(rt; "stickd: {path} can't be read: {reason}")?;
-            return Ok(UNREADABLE);
-        }
-    };
-    let Ok(adopted) = adopt_text(rt, path, text.as_slice(), &asked.wishes) else {
-        eprintln!(rt; "stickd: out of memory")?;
-        return Ok(UNREADABLE);
-    };
-    let Some(adoption) = adopted else {
-        eprintln!(rt; "stickd: {path} can't be adopted")?;
-        return Ok(UNREADABLE);
-    };
-    if lacks_frontend(rt, path, &adoption, &asked.wishes)? {
-        return Ok(UNREADABLE);
+    match read_adoption(rt, path, &asked.wishes)? {
+        Ok(adoption) => show_adoption(rt, &adoption, asked),
+        Err(status) => Ok(status),
     }
-    show_adoption(rt, &adoption, asked)
+}
+
+/// Says what a start loses of a file. False where there was no memory for it, which is then said.
+fn tell_changes<R: Eprint + AllocGlobal>(rt: &R, adoption: &Adoption) -> io::Result<bool> {
+    let Ok(changes) = changes_of(rt.alloc(), adoption) else {
+        eprintln!(rt; "stickd: out of memory")?;
+        return Ok(false);
+    };
+    tell(rt, changes.as_slice())?;
+    Ok(true)
+}
+
+/// Adopts the file of this name for a start: says of each line whose loss changes what is served, and how many lines have which fate.
+/// Where it isn't to be run the reason is said, and the status answered: 3 where something that matters was lost, unless it is to be run
+/// anyway, and 1 where the file can't be read, was adopted already, or has no such frontend as is asked for.
+pub fn take_file<R: Files + Env + Eprint + AllocGlobal>(
+    rt: &R,
+    path: &str,
+    wishes: &Wishes,
+    anyway: bool,
+) -> io::Result<Result<Adoption, u8>>
+    ensures taken { IfOk result (λ read. IfOk read (λ adoption. IsTaken adoption.text.items)) }
+    ensures same { IfOk result (λ read. IfOk read (λ adoption. anyway ≡ false → adoption.status ≡ 0)) }
+    ensures new { IfOk result (λ read. IfOk read (λ adoption. adoption.was_adopted ≡ false)) }
+{
+    let mut adoption = match read_adoption(rt, path, wishes)? {
+        Ok(adoption) => adoption,
+        Err(status) => return Ok(Err(status)),
+    };
+    if adoption.was_adopted {
+        eprintln!(rt;
+            "stickd: {path} was adopted already: its first line has the command that runs it"
+        )?;
+        return Ok(Err(UNREADABLE));
+    }
+    if !tell_changes(rt, &adoption)? {
+        return Ok(Err(UNREADABLE));
+    }
+    if adoption.status != SAME && !anyway {
+        eprintln!(rt;
+            "stickd: {path} isn't run, as what is served would change: --anyway runs it"
+        )?;
+        return Ok(Err(adoption.status));
+    }
+    if add_usual(rt.alloc(), &mut adoption.options).is_err() {
+        eprintln!(rt; "stickd: out of memory")?;
+        return Ok(Err(UNREADABLE));
+    }
+    Ok(Ok(adoption))
 }

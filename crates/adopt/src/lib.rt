@@ -5,6 +5,8 @@
 //!
 //! A file is read into a `Plan`: its sections, the one frontend that is served and its backend, and what their rules track. Then
 //! each line has a `Fate`, and options of the command line stand for lines of limits and times.
+//!
+//! `stickd run --haproxy` calls `take_file`, and runs what was made of the file; `with_options` has its command line.
 #![tactic(auto)]
 
 mod actions;
@@ -25,6 +27,7 @@ mod headings;
 mod keywords;
 mod lexer;
 mod listeners;
+mod manual;
 mod masks;
 mod options;
 mod plan;
@@ -38,17 +41,21 @@ mod sections;
 mod servers;
 mod source_lines;
 mod standing;
+mod start_words;
 mod status;
+mod summary;
 mod tables;
 mod texts;
 mod values;
 mod variables;
+mod waits;
 mod written;
 
 pub use adoption::{Adoption, adopt, wanted_files};
-pub use file::{Asked, adopt_file};
+pub use file::{Asked, adopt_file, take_file};
+pub use options::CommandOption;
 pub use plan::Wishes;
-pub use report::report_of;
+pub use start_words::{WordsFault, with_options};
 pub use status::{LOST, SAME, status_of};
 pub use texts::text_of;
 pub use written::Adopted;

@@ -2,7 +2,8 @@
 //! it.
 
 use crate::addresses::{endpoints_of, port_of, without_family};
-use crate::keywords::{BIND_FLAGS, BIND_VALUES, is_one_of};
+use crate::keywords::options_loss;
+use crate::manual::{BIND_FLAGS, BIND_VALUES};
 use crate::plan::{Plan, begins};
 use crate::reasons::{Refusal, Why};
 use crate::rules::Converted;
@@ -74,8 +75,14 @@ pub(crate) fn further_binds(alloc: Global, plan: &Plan) -> Result<Vec<FurtherBin
     let first = first_bind(plan);
     for number in section.first..section.end {
         let words = plan.words(number);
-        if begins(words, "bind", "") && bind_loss(words).is_none() {
-            let from = usize::from(first == Some(number));
+        let is_first = first == Some(number);
+        let loss = if is_first {
+            bind_loss(words)
+        } else {
+            further_loss(words)
+        };
+        if begins(words, "bind", "") && loss.is_none() {
+            let from = usize::from(is_first);
             add_binds(alloc, words, number, from, &mut binds)?;
         }
     }
@@ -102,48 +109,36 @@ pub(crate) fn listener_port(alloc: Global, plan: &Plan) -> Option<u64> {
     }
 }
 
-/// What a listener's option loses, by its word.
-fn loss_of(word: &[u8]) -> Why {
-    if is_word(word, "accept-proxy") || is_word(word, "accept-netscaler-cip") {
-        return Why::ProxyProtocol;
+/// Whether a line limits the connections of its own listeners alone.
+fn has_own_limit(words: &[Vec<u8>]) -> bool {
+    option_value(words, "maxconn").is_some_and(|most| !is_word(most, "0"))
+}
+
+/// How many lines `bind` the frontend has.
+fn count_binds(plan: &Plan) -> usize {
+    let Some(section) = plan.frontend.and_then(|place| plan.section(place)) else {
+        return 0;
+    };
+    let mut count = 0usize;
+    for number in section.first..section.end {
+        if begins(plan.words(number), "bind", "") {
+            count = count.saturating_add(1);
+        }
     }
-    if is_one_of(
-        word,
-        &[
-            "ssl",
-            "crt",
-            "crt-list",
-            "ca-file",
-            "verify",
-            "alpn",
-            "ciphers",
-            "no-sslv3",
-            "no-tlsv10",
-        ],
-    ) {
-        return Why::Tls;
+    count
+}
+
+/// Why a line `bind` that isn't the first is left out, where options don't stand for it.
+pub(crate) fn further_loss(words: &[Vec<u8>]) -> Option<Why> {
+    if has_own_limit(words) {
+        return Some(Why::ListenerPlaces);
     }
-    Why::BindWords
+    bind_loss(words)
 }
 
 /// What the options of a listener lose that changes what is served.
 pub(crate) fn bind_loss(words: &[Vec<u8>]) -> Option<Why> {
-    let mut skips = false;
-    let mut loss = None;
-    for (place, word) in words.iter().enumerate() {
-        let word = word.as_slice();
-        if place < 2 || skips {
-            skips = false;
-            continue;
-        }
-        skips = is_one_of(word, &BIND_VALUES)
-            || is_word(word, "maxconn")
-            || is_word(word, "backlog");
-        if !skips && !is_one_of(word, &BIND_FLAGS) && loss.is_none() {
-            loss = Some(loss_of(word));
-        }
-    }
-    loss
+    options_loss(words, 2, &BIND_VALUES, &BIND_FLAGS)
 }
 
 /// The value behind an option of a line.
@@ -159,6 +154,7 @@ pub(crate) fn option_value<'a>(words: &'a [Vec<u8>], name: &str) -> Option<&'a [
 /// The first line `bind` in stickd's spelling: its first address alone. Of so many of its others options take care.
 pub(crate) fn convert_bind(
     alloc: Global,
+    plan: &Plan,
     words: &[Vec<u8>],
     others: usize,
 ) -> Result<Converted, Refusal> {
@@ -170,12 +166,14 @@ pub(crate) fn convert_bind(
     let mut written: Words = Vec::new(alloc);
     written.push(text_of(alloc, "bind")?)?;
     written.push(copy_text(alloc, first)?)?;
-    let loss = bind_loss(words);
-    let altered = if loss.is_none() && endpoints.len() > others.saturating_add(1) {
-        Some(Why::ManyListeners)
-    } else {
-        loss
-    };
+    let is_alone = endpoints.len() == 1 && count_binds(plan) == 1;
+    let mut altered = bind_loss(words);
+    if altered.is_none() && endpoints.len() > others.saturating_add(1) {
+        altered = Some(Why::ManyListeners);
+    }
+    if altered.is_none() && has_own_limit(words) && !is_alone {
+        altered = Some(Why::ListenerPlaces);
+    }
     Ok(Converted {
         words: written,
         altered,

@@ -1,5 +1,6 @@
 //! Options of the command line that stand for lines; `adoption` makes them, and `command` and `fates` go by them.
 
+use crate::keywords::is_one_of;
 use crate::listeners::{FurtherBind, first_bind, further_binds, option_value};
 use crate::plan::{Plan, begins};
 use crate::sections::Kind;
@@ -37,6 +38,16 @@ const IPV6_PREFIX: &str = "--ipv6-prefix";
 
 const STATS_SOCKET: &str = "--stats-socket";
 
+const DRAIN: &str = "--drain";
+
+const USER_TIMEOUT: &str = "--tcp-user-timeout";
+
+/// How often HAProxy tries a server again where no line says it.
+const USUAL_RETRIES: &str = "3";
+
+/// What HAProxy's tools may do on a stats socket where its line says no level.
+const USUAL_LEVEL: &[u8] = b"operator";
+
 /// How many bytes a socket's path may have (unix(7)).
 const LONGEST_PATH: usize = 107;
 
@@ -55,12 +66,12 @@ const USUAL_KEEPALIVE: &str = "2h";
 /// The most threads of the program.
 const MOST_THREADS: u64 = 64;
 
-/// An option of the command line, and the line for which it stands.
+/// An option of the command line, and the line for which it stands: none where the file doesn't say it.
 #[derive(Drop)]
 pub struct CommandOption {
     pub flag: &'static str,
     pub value: Vec<u8>,
-    pub line: usize,
+    pub line: Option<usize>,
 }
 
 /// The options that were found.
@@ -71,7 +82,11 @@ struct Found {
 
 impl Found {
     fn add(&mut self, flag: &'static str, value: Vec<u8>, line: usize) -> Result<(), NoMemory> {
-        self.options.push(CommandOption { flag, value, line })?;
+        self.options.push(CommandOption {
+            flag,
+            value,
+            line: Some(line),
+        })?;
         Ok(())
     }
 
@@ -92,10 +107,20 @@ impl Found {
         flag: &'static str,
         line: Option<usize>,
     ) -> Result<(), NoMemory> {
-        let Some(line) = line else {
-            return Ok(());
-        };
-        let time = word_at(plan.words(line), 2);
+        match line {
+            Some(line) => self.add_word(alloc, flag, word_at(plan.words(line), 2), line),
+            None => Ok(()),
+        }
+    }
+
+    /// Adds a time, unless it has no end, or there is one.
+    fn add_word(
+        &mut self,
+        alloc: Global,
+        flag: &'static str,
+        time: &[u8],
+        line: usize,
+    ) -> Result<(), NoMemory> {
         if self.has(flag) || read_time(time).is_err() {
             return Ok(());
         }
@@ -239,6 +264,9 @@ fn add_global_line(
     if begins(words, "stats", "socket") {
         return add_stats_socket(alloc, words, line, found);
     }
+    if begins(words, "hard-stop-after", "") {
+        return found.add_word(alloc, DRAIN, word_at(words, 1), line);
+    }
     if !begins(words, "nbthread", "") {
         return Ok(());
     }
@@ -261,7 +289,21 @@ fn is_socket_path(word: &[u8]) -> bool {
     word.starts_with(b"/") && word.len() <= LONGEST_PATH && !word.contains(&b',')
 }
 
-/// The first stats socket that has a path: it, and its mode where that is said.
+/// What clients of a stats socket may do, by its line. An operator may change nothing here, so nobody may do more than in HAProxy.
+fn stats_level(words: &[Vec<u8>]) -> &[u8] {
+    match option_value(words, "level") {
+        Some(level) if is_one_of(level, &["user", "operator", "admin"]) => level,
+        Some(_) => b"user",
+        None => USUAL_LEVEL,
+    }
+}
+
+/// Whether a word is a group's name that can stand in the option.
+fn is_group(word: &[u8]) -> bool {
+    !word.is_empty() && !word.contains(&b',')
+}
+
+/// The first stats socket that has a path: it, its mode and its group where they are said, and what its clients may do.
 fn add_stats_socket(
     alloc: Global,
     words: &[Vec<u8>],
@@ -279,6 +321,14 @@ fn add_stats_socket(
         append_str(&mut value, ",mode=")?;
         append(&mut value, mode)?;
     }
+    if let Some(group) = option_value(words, "group")
+        && is_group(group)
+    {
+        append_str(&mut value, ",group=")?;
+        append(&mut value, group)?;
+    }
+    append_str(&mut value, ",level=")?;
+    append(&mut value, stats_level(words))?;
     found.add(STATS_SOCKET, value, line)
 }
 
@@ -318,7 +368,7 @@ fn keepalive_time(alloc: Global, plan: &Plan, frontend: usize) -> Result<Vec<u8>
     Ok(time)
 }
 
-/// Keepalive and the backlog.
+/// Keepalive, how long a peer may acknowledge nothing, and the backlog.
 fn add_sockets(
     alloc: Global,
     plan: &Plan,
@@ -327,6 +377,13 @@ fn add_sockets(
 ) -> Result<(), NoMemory> {
     if let Some(line) = keepalive_line(plan, frontend) {
         found.add(KEEPALIVE, keepalive_time(alloc, plan, frontend)?, line)?;
+    }
+    for line in [first_bind(plan), kept_server(plan)] {
+        if let Some(line) = line
+            && let Some(time) = option_value(plan.words(line), "tcp-ut")
+        {
+            found.add_word(alloc, USER_TIMEOUT, time, line)?;
+        }
     }
     if let Some(line) = plan.effective(frontend, "backlog", "") {
         let number = read_number(word_at(plan.words(line), 1));
@@ -361,6 +418,21 @@ fn add_prefixes(
     }
 }
 
+/// How often a server is tried again. Where no line says it, the backend's first line stands for it.
+fn add_retries(alloc: Global, plan: &Plan, found: &mut Found) -> Result<(), NoMemory> {
+    let Some(backend) = plan.backend else {
+        return Ok(());
+    };
+    if let Some(line) = plan.effective(backend, "retries", "") {
+        let number = read_number(word_at(plan.words(line), 1));
+        return found.add_number(alloc, RETRIES, MOST_RETRIES, number, line);
+    }
+    match plan.section(backend) {
+        Some(section) => found.add(RETRIES, text_of(alloc, USUAL_RETRIES)?, section.first),
+        None => Ok(()),
+    }
+}
+
 /// The options that stand for lines of a file.
 pub(crate) fn command_options(alloc: Global, plan: &Plan) -> Result<Vec<CommandOption>, NoMemory> {
     let mut found = Found {
@@ -378,18 +450,9 @@ pub(crate) fn command_options(alloc: Global, plan: &Plan) -> Result<Vec<CommandO
         found.add(BIND, endpoint, line)?;
     }
     add_times(alloc, plan, &mut found, frontend)?;
-    let backend = plan.backend.unwrap_or(frontend);
-    if let Some(line) = plan.effective(backend, "retries", "") {
-        let number = read_number(word_at(plan.words(line), 1));
-        found.add_number(alloc, RETRIES, MOST_RETRIES, number, line)?;
-    }
+    add_retries(alloc, plan, &mut found)?;
     add_sockets(alloc, plan, &mut found, frontend)?;
     add_prefixes(alloc, plan, &mut found, frontend)?;
     let Found { options } = found;
     Ok(options)
-}
-
-/// Whether a line's keyword is one for which options may stand.
-pub(crate) fn is_limit(keyword: &[u8]) -> bool {
-    is_word(keyword, "maxconn")
 }

@@ -30,7 +30,7 @@ pub struct Track {
     pub table: Option<usize>,
     /// Whether the key is the client's address.
     pub is_source: bool,
-    /// Whether the rule has no condition.
+    /// Whether the rule has no condition, and no rule before it asks by a key.
     pub is_sure: bool,
 }
 
@@ -40,7 +40,7 @@ pub struct RuleAt {
     pub line: usize,
     /// The section in which it stands.
     pub origin: usize,
-    /// 1 for `connection`, 2 for `session`, 3 for `content`.
+    /// 1 for `connection`, 2 for `session`, 3 for the frontend's `content`, 4 for the backend's.
     pub phase: u8,
     /// The line behind which it has to stand: its own where it may stay.
     pub place: usize,

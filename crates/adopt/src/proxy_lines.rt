@@ -3,21 +3,22 @@
 use crate::actions::add_words;
 use crate::addresses::endpoints_of;
 use crate::criteria::{behind_two, convert_criterion};
-use crate::fates::{Fate, FateKind, left};
-use crate::keywords::{is_one_of, left_out};
+use crate::fates::{Fate, FateKind, left, of_left};
+use crate::keywords::{Told, left_of};
 use crate::lexer::SourceLine;
-use crate::listeners::{bind_loss, convert_bind, first_bind, further_binds};
-use crate::options::is_limit;
+use crate::listeners::{convert_bind, first_bind, further_binds, further_loss};
+use crate::manual::{OPTIONS, PROXY, TIMEOUTS};
 use crate::plan::{Plan, begins};
 use crate::reasons::{Refusal, Why};
 use crate::roles::{Role, has_rules_of, role_of};
 use crate::rule_lines::of_rule;
 use crate::rules::{is_waiting, phase_of};
 use crate::sections::Section;
-use crate::servers::{convert_server, kept_server, server_loss, servers_of};
+use crate::servers::{convert_server, has_queue, kept_server, server_loss, servers_of};
 use crate::standing::{of_converted, two_words, written};
 use crate::tables::convert_table;
 use crate::texts::{is_word, word_at};
+use crate::waits::is_asked;
 use base_sequence::NoMemory;
 use rule_words::read_time;
 use std::alloc::Global;
@@ -41,11 +42,11 @@ fn of_bind(alloc: Global, plan: &Plan, number: usize, line: &SourceLine) -> Resu
     if first_bind(plan) == Some(number) {
         let binds = further_binds(alloc, plan)?;
         let others = binds.iter().filter(|bind| bind.line == number).count();
-        return of_converted(alloc, line, convert_bind(alloc, words, others));
+        return of_converted(alloc, line, convert_bind(alloc, plan, words, others));
     }
     // Where options stand for the line, they are told in place of this.
     let why = match endpoints_of(alloc, word_at(words, 1)) {
-        Ok(_) => bind_loss(words).unwrap_or(Why::ManyListeners),
+        Ok(_) => further_loss(words).unwrap_or(Why::ManyListeners),
         Err(Refusal::OutOfMemory) => return Err(NoMemory),
         Err(Refusal::Lost(why)) => why,
     };
@@ -178,16 +179,6 @@ fn of_backend(
     Ok(None)
 }
 
-/// The times that stickd has options for.
-const TIMEOUTS: [&str; 6] = [
-    "connect",
-    "client",
-    "server",
-    "tunnel",
-    "client-fin",
-    "server-fin",
-];
-
 /// What becomes of a line that says which protocol is spoken.
 fn of_mode(alloc: Global, line: &SourceLine) -> Result<Fate, NoMemory> {
     if !is_word(word_at(line.words.as_slice(), 1), "tcp") {
@@ -197,40 +188,62 @@ fn of_mode(alloc: Global, line: &SourceLine) -> Result<Fate, NoMemory> {
     written(alloc, line, two.as_slice(), None)
 }
 
-/// Why a line of a time is left out.
-fn timeout_reason(words: &[Vec<u8>]) -> Why {
-    if !is_one_of(word_at(words, 1), &TIMEOUTS) {
-        Why::NoTimeout
-    } else if read_time(word_at(words, 2)).is_err() {
-        Why::NeverEnds
-    } else {
-        Why::Overruled
+/// Why a line of a time is left out for which no option stands.
+fn timeout_left(plan: &Plan, words: &[Vec<u8>]) -> Told {
+    let told = left_of(word_at(words, 1), &TIMEOUTS);
+    let why = match told.why {
+        Why::NoQueue if has_queue(plan) => {
+            return Told {
+                why: Why::ServerPlaces,
+                matters: true,
+            };
+        }
+        Why::Overruled if read_time(word_at(words, 2)).is_err() => Why::NeverEnds,
+        why => why,
+    };
+    Told {
+        why,
+        matters: told.matters,
     }
 }
 
-/// What becomes of a line that stickd's language hasn't.
-fn of_unlike(alloc: Global, section: &Section, words: &[Vec<u8>]) -> Result<Fate, NoMemory> {
+/// Why an option is left out.
+fn option_left(plan: &Plan, name: &[u8]) -> Told {
+    if is_word(name, "contstats") && is_asked(plan, b"bytes_") {
+        return Told {
+            why: Why::BytesAtEnd,
+            matters: true,
+        };
+    }
+    left_of(name, &OPTIONS)
+}
+
+/// Why a proxy's line is left out that stickd's language hasn't.
+pub(crate) fn unlike(plan: &Plan, is_http: bool, words: &[Vec<u8>]) -> Told {
     let keyword = word_at(words, 0);
-    let why = left_out(keyword, word_at(words, 1));
-    let matters = why.matters || (section.is_http && matches!(why.why, Why::NeedsHttp));
-    let reason = if matters && matches!(why.why, Why::NeedsHttp) {
-        Why::HttpMode
+    let told = if is_word(keyword, "option") {
+        option_left(plan, word_at(words, 1))
+    } else if is_word(keyword, "timeout") {
+        timeout_left(plan, words)
     } else {
-        why.why
+        left_of(keyword, &PROXY)
     };
-    left(
-        alloc,
-        if matters {
-            FateKind::Lost
-        } else {
-            FateKind::Harmless
-        },
-        reason,
-    )
+    if is_http && matches!(told.why, Why::NeedsHttp) {
+        return Told {
+            why: Why::HttpMode,
+            matters: true,
+        };
+    }
+    told
 }
 
 /// What becomes of a line that any proxy may have.
-fn of_any(alloc: Global, section: &Section, line: &SourceLine) -> Result<Fate, NoMemory> {
+fn of_any(
+    alloc: Global,
+    plan: &Plan,
+    section: &Section,
+    line: &SourceLine,
+) -> Result<Fate, NoMemory> {
     let words = line.words.as_slice();
     let keyword = word_at(words, 0);
     if is_word(keyword, "mode") {
@@ -239,19 +252,7 @@ fn of_any(alloc: Global, section: &Section, line: &SourceLine) -> Result<Fate, N
     if is_word(keyword, "stick-table") {
         return of_converted(alloc, line, convert_table(alloc, words));
     }
-    if is_word(keyword, "timeout") {
-        return left(alloc, FateKind::Harmless, timeout_reason(words));
-    }
-    if is_limit(keyword) {
-        return left(alloc, FateKind::Harmless, Why::LargerLimit);
-    }
-    if is_word(keyword, "retries") {
-        return left(alloc, FateKind::Harmless, Why::NoRetries);
-    }
-    if is_word(keyword, "backlog") {
-        return left(alloc, FateKind::Harmless, Why::Overruled);
-    }
-    of_unlike(alloc, section, words)
+    of_left(alloc, unlike(plan, section.is_http, words))
 }
 
 /// What becomes of a line of a proxy.
@@ -285,5 +286,5 @@ pub(crate) fn of_proxy_line(
     {
         return Ok(fate);
     }
-    of_any(alloc, section, line)
+    of_any(alloc, plan, section, line)
 }

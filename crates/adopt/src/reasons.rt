@@ -69,6 +69,23 @@ pub enum Why {
     NoRetries,
     OwnSocket,
     NeverEnds,
+    ServerPlaces,
+    NoQueue,
+    ListenerPlaces,
+    NobodyWaits,
+    UncountedSessions,
+    DrainTime,
+    Descriptors,
+    Resolved,
+    NoTls,
+    OtherFiles,
+    Environment,
+    Lua,
+    OtherProcesses,
+    OtherFailures,
+    OneSilence,
+    OtherUnit,
+    BytesAtEnd,
 }
 
 impl Why {
@@ -138,6 +155,26 @@ impl Why {
             Why::OnePort => "the server is reached on one port, whatever port a client came to",
             Why::NoRetries => "a server that refuses isn't tried again",
             Why::NeverEnds => "no connection ends by it",
+            Why::ServerPlaces =>
+                "connections wait unjudged: HAProxy judges them, and then they wait for a place",
+            Why::NoQueue => "no connection waits for a place at the server",
+            Why::ListenerPlaces =>
+                "connections are limited at all addresses together, and not at this one",
+            Why::NobodyWaits => "nobody is held until the delay is over",
+            Why::UncountedSessions =>
+                "HAProxy has counted the session by then, and stickd counts what isn't rejected",
+            Why::DrainTime => "the time can't be read, and connections may go on for 30s",
+            Why::Descriptors => "HAProxy takes no more connections than these descriptors allow",
+            Why::Resolved => "its value stands where it is used",
+            Why::NoTls => "it says nothing where TLS isn't spoken",
+            Why::OtherFiles => "files are looked for here, and beside the configuration",
+            Why::Environment => "variables stay as they are",
+            Why::Lua => "Lua isn't run",
+            Why::OtherProcesses => "one process serves, with one set of tables",
+            Why::OtherFailures => "which failures are tried again can't be chosen",
+            Why::OneSilence => "a connection in which one side speaks isn't silent",
+            Why::OtherUnit => "bytes are counted one by one",
+            Why::BytesAtEnd => "bytes are counted as their connection ends",
             Why::OwnSocket => "commands are answered on the socket that --socket names",
         }
     }

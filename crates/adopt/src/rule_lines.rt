@@ -9,6 +9,7 @@ use crate::reasons::{Refusal, Why};
 use crate::rules::{AcceptRole, Converted, accept_role, accepts, convert_rule, rule_place};
 use crate::standing::{added, of_converted, written};
 use crate::texts::{Words, word_at};
+use crate::waits::waits;
 use base_sequence::NoMemory;
 use std::alloc::Global;
 
@@ -36,6 +37,24 @@ pub(crate) fn written_rule(
     }
 }
 
+/// What becomes of a rule that holds a connection until a delay is over: it stands, and decides at once.
+fn of_waiting(
+    alloc: Global,
+    plan: &Plan,
+    place: usize,
+    line: &SourceLine,
+) -> Result<Fate, NoMemory> {
+    match convert_rule(alloc, plan, place) {
+        Ok(converted) => written(
+            alloc,
+            line,
+            converted.words.as_slice(),
+            Some(Why::NobodyWaits),
+        ),
+        Err(refusal) => of_converted(alloc, line, Err(refusal)),
+    }
+}
+
 /// What becomes of the rule at a place.
 fn rule_fate(
     alloc: Global,
@@ -48,6 +67,9 @@ fn rule_fate(
     };
     if is_idle(word_at(plan.words(rule.line), 2)) {
         return left(alloc, FateKind::Harmless, Why::NothingToSay);
+    }
+    if waits(plan, rule) {
+        return of_waiting(alloc, plan, place, line);
     }
     let given = convert_rule(alloc, plan, place);
     if !accepts(plan, rule) {

@@ -10,8 +10,12 @@ use crate::plan::{Plan, RuleAt, Track, begins};
 use crate::reasons::{Refusal, Why};
 use crate::sections::{Kind, Section};
 use crate::texts::{Words, is_word, text_of, word_at};
+use crate::waits::misses_count;
 use base_sequence::NoMemory;
 use std::alloc::Global;
+
+/// The phase of the backend's rules `content`.
+const LAST_PHASE: u8 = 4;
 
 /// A rule in stickd's spelling.
 #[derive(Drop)]
@@ -111,18 +115,23 @@ pub(crate) fn convert_rule(alloc: Global, plan: &Plan, place: usize) -> Result<C
     let given = behind_two(plan.words(rule.line));
     let action = convert_action(alloc, plan, rule, given)?;
     let mut words = start_rule(alloc, action.words.as_slice())?;
+    let lost = if misses_count(plan, rule) {
+        Some(Why::UncountedSessions)
+    } else {
+        action.altered
+    };
     let own = condition_of(alloc, plan, rule, given, action.used)?;
     let Some((unless, condition)) = with_guards(alloc, guards_of(alloc, plan, place)?, own)? else {
         return Ok(Converted {
             words,
-            altered: action.altered,
+            altered: lost,
         });
     };
     words.push(text_of(alloc, if unless { "unless" } else { "if" })?)?;
     add_condition(alloc, &condition, &mut words)?;
     let altered = match condition.lost {
         Some(_) => Some(Why::PartOfCondition),
-        None => action.altered,
+        None => lost,
     };
     Ok(Converted { words, altered })
 }
@@ -218,15 +227,10 @@ fn add_rules(
     let Some(section) = sections.get(source.section) else {
         return Ok(());
     };
-    let place = place_for(
-        lines,
-        frontend,
-        if section.kind == Kind::Backend {
-            4
-        } else {
-            phase
-        },
-    );
+    // Rules of the backend run once those of the frontend are over, whichever of these accepts.
+    let is_later = !source.is_own && section.kind != Kind::Defaults;
+    let turn = if is_later { LAST_PHASE } else { phase };
+    let place = place_for(lines, frontend, turn);
     for (number, line) in lines.iter().enumerate() {
         if number <= section.first
             || number >= section.end
@@ -238,7 +242,7 @@ fn add_rules(
         rules.push(RuleAt {
             line: number,
             origin: source.section,
-            phase,
+            phase: turn,
             place: if stays { number } else { place },
         })?;
     }

@@ -2,29 +2,14 @@
 //! kept.
 
 use crate::addresses::server_endpoint;
-use crate::keywords::{SERVER_FLAGS, SERVER_VALUES, is_one_of};
-use crate::listeners::{has_other_port, listener_port};
+use crate::keywords::options_loss;
+use crate::listeners::{has_other_port, listener_port, option_value};
+use crate::manual::{SERVER_FLAGS, SERVER_VALUES};
 use crate::plan::{Plan, begins};
 use crate::reasons::{Refusal, Why};
 use crate::rules::Converted;
 use crate::texts::{Words, copy_text, is_word, text_of, word_at};
 use std::alloc::Global;
-
-/// Options of TLS towards a server that are followed by a value.
-const TLS_VALUES: [&str; 12] = [
-    "verify",
-    "verifyhost",
-    "ca-file",
-    "crl-file",
-    "crt",
-    "sni",
-    "alpn",
-    "npn",
-    "ciphers",
-    "ciphersuites",
-    "ssl-min-ver",
-    "ssl-max-ver",
-];
 
 fn has_word(words: &[Vec<u8>], wanted: &str) -> bool {
     for word in words {
@@ -74,38 +59,24 @@ pub(crate) fn kept_server(plan: &Plan) -> Option<usize> {
     }
 }
 
-/// What a server's option loses, by its word.
-fn loss_of(word: &[u8]) -> Why {
-    if word.starts_with(b"send-proxy".as_slice()) || is_word(word, "set-proxy-v2-tlv-fmt") {
-        return Why::ProxyProtocol;
+/// Whether a line of the file limits a server's connections, so that HAProxy lets others wait.
+pub(crate) fn has_queue(plan: &Plan) -> bool {
+    for line in &plan.lines {
+        let words = line.words.as_slice();
+        let is_server = begins(words, "server", "") || begins(words, "default-server", "");
+        if is_server && (has_word(words, "maxconn") || has_word(words, "minconn")) {
+            return true;
+        }
     }
-    if is_word(word, "ssl") {
-        return Why::Tls;
-    }
-    if is_word(word, "source") || is_word(word, "usesrc") {
-        return Why::SourceAddress;
-    }
-    Why::ServerWords
+    false
 }
 
-/// What the options from a place on lose that changes what is served.
+/// What the options of a server from a place on lose that changes what is served. HAProxy sends nobody to one whose weight is 0.
 pub(crate) fn server_loss(words: &[Vec<u8>], from: usize) -> Option<Why> {
-    let mut skips = false;
-    let mut loss = None;
-    for (place, word) in words.iter().enumerate() {
-        let word = word.as_slice();
-        if place < from || skips {
-            skips = false;
-            continue;
-        }
-        skips = is_one_of(word, &SERVER_VALUES)
-            || is_one_of(word, &TLS_VALUES)
-            || is_word(word, "maxconn");
-        if !skips && !is_one_of(word, &SERVER_FLAGS) && loss.is_none() {
-            loss = Some(loss_of(word));
-        }
+    if option_value(words, "weight").is_some_and(|weight| is_word(weight, "0")) {
+        return Some(Why::ServerWords);
     }
-    loss
+    options_loss(words, from, &SERVER_VALUES, &SERVER_FLAGS)
 }
 
 /// A server's line in stickd's spelling.

@@ -14,12 +14,16 @@ pub const SAME: u8 = 0;
 pub const LOST: u8 = 3;
 
 /// Whether a line's loss changes what is served.
-fn matters(line: &Adopted) -> bool
+pub(crate) fn matters(line: &Adopted) -> bool
     ensures { result ≡ spec.matters line.now }
 {
     match line.fate.kind {
         FateKind::Altered | FateKind::Lost => true,
-        FateKind::Kept | FateKind::Rewritten | FateKind::Moved | FateKind::Harmless => false,
+        FateKind::Kept
+        | FateKind::Rewritten
+        | FateKind::Moved
+        | FateKind::Carried
+        | FateKind::Harmless => false,
     }
 }
 

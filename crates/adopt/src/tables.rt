@@ -1,6 +1,7 @@
 //! Lines `stick-table` in stickd's spelling; `proxy_lines` calls it.
 
-use crate::keywords::is_one_of;
+use crate::keywords::{is_one_of, left_of};
+use crate::manual::STICK_TABLE;
 use crate::reasons::{Refusal, Why};
 use crate::rules::Converted;
 use crate::texts::{
@@ -123,8 +124,9 @@ impl Reading {
             self.next = 3;
             return Ok(());
         }
-        if is_word(word, "peers") {
-            self.altered = Some(Why::Peers);
+        let told = left_of(word, &STICK_TABLE);
+        if told.matters {
+            self.altered = Some(told.why);
         }
         if is_one_of(word, &["peers", "srvkey", "write-to", "brates-factor"]) {
             self.next = 2;

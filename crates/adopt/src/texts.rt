@@ -35,7 +35,9 @@ pub(crate) fn append_str(text: &mut Vec<u8>, more: &str) -> Result<(), NoMemory>
 }
 
 /// A string as a text.
-pub fn text_of(alloc: Global, text: &str) -> Result<Vec<u8>, NoMemory> {
+pub fn text_of(alloc: Global, text: &str) -> Result<Vec<u8>, NoMemory>
+    ensures { IfOk result (λ copy. copy.items ≡ text.now) }
+{
     Ok(Vec::from_slice(alloc, text.as_bytes())?)
 }
 

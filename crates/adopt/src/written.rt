@@ -73,7 +73,7 @@ fn push_in_place(text: &mut Vec<u8>, raw: &[u8], fate: &Fate) -> Result<(), NoMe
     match fate.kind {
         FateKind::Kept => push_line(text, raw),
         FateKind::Rewritten | FateKind::Altered => push_line(text, fate.text.as_slice()),
-        FateKind::Moved | FateKind::Harmless | FateKind::Lost => {
+        FateKind::Moved | FateKind::Carried | FateKind::Harmless | FateKind::Lost => {
             push_comment(text, raw, fate.note.as_slice())
         }
     }

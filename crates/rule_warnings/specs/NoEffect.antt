@@ -29,6 +29,7 @@ use Rattle.rule_model.specs.declared.rules.Rule.{Rule}
 use Rattle.rule_model.specs.declared.rules.Term.{Term}
 use Rattle.rule_model.specs.declared.sections.NamedSpec.{NamedSpec}
 use Rattle.rule_model.specs.declared.sections.Setup.{Setup}
+use Rattle.rule_warnings.specs.Limits.{is_guarded}
 use Rattle.rule_warnings.specs.Untracked.{same_slot}
 use Rattle.rule_warnings.specs.declared.warning.Unread.{Unread}
 use Rattle.rule_warnings.specs.declared.warning.Unread.TheVariants as unread
@@ -93,22 +94,23 @@ is_ip kinds.Integer = false
 is_ip (kinds.Text n) = false
 is_ip (kinds.Binary n) = false
 
--- of what a rule of this number tracks in a table of this type: it is never a key, or it is none of clients of IPv6
-abbrev pub key_warning_by : Option Endpoint → ℕ → Slot → KeyExpression → KeyType → Option Warning
-key_warning_by bind number slot key kind =
+-- of what a rule of this number tracks in a table of this type: it is never a key; or clients of IPv6 come, it is no key of theirs, and
+-- no rule turns away what the slot doesn't track there
+abbrev pub key_warning_by : Bool → Bool → ℕ → Slot → KeyExpression → KeyType → Option Warning
+key_warning_by ipv6 guarded number slot key kind =
     if not (can_be_key kind key) then Some (NeverKey number slot kind)
-    else if binds_ipv6 bind && is_source key && is_ip kind then Some (UntrackedIpv6 number slot)
+    else if ipv6 && is_source key && is_ip kind && not guarded then Some (UntrackedIpv6 number slot)
     else None
 
-abbrev pub key_warning_in : Option Endpoint → ℕ → Slot → KeyExpression → Option NamedSpec → Option Warning
-key_warning_in bind number slot key None = None
-key_warning_in bind number slot key (Some named) = key_warning_by bind number slot key named.spec.kind
+abbrev pub key_warning_in : Bool → List Rule → ℕ → Slot → KeyExpression → Option NamedSpec → Option Warning
+key_warning_in ipv6 rules number slot key None = None
+key_warning_in ipv6 rules number slot key (Some named) = key_warning_by ipv6 (is_guarded named.name slot rules) number slot key named.spec.kind
 
-unfoldable pub key_warning : Setup → ℕ → Action → Option Warning
-key_warning setup number actions.Accept = None
-key_warning setup number actions.Reject = None
-key_warning setup number (actions.Track slot key table) = key_warning_in setup.bind number slot key (table_named setup.tables table)
-key_warning setup number (actions.Count slot act) = None
+unfoldable pub key_warning : Bool → Setup → ℕ → Action → Option Warning
+key_warning ipv6 setup number actions.Accept = None
+key_warning ipv6 setup number actions.Reject = None
+key_warning ipv6 setup number (actions.Track slot key table) = key_warning_in ipv6 setup.rules number slot key (table_named setup.tables table)
+key_warning ipv6 setup number (actions.Count slot act) = None
 
 -- ---- patterns
 
@@ -130,9 +132,8 @@ condition_has_mapped None = false
 condition_has_mapped (Some conjunctions) = list_any (list_any term_has_mapped) conjunctions
 
 -- such a pattern holds no IPv4 address; where clients of IPv4 come with mapped ones it does
-unfoldable pub pattern_warning : Setup → ℕ → Rule → Option Warning
-pattern_warning setup number rule =
-    if condition_has_mapped rule.condition && not (binds_ipv6 setup.bind) then Some (MappedPattern number) else None
+unfoldable pub pattern_warning : Bool → ℕ → Rule → Option Warning
+pattern_warning ipv6 number rule = if condition_has_mapped rule.condition && not ipv6 then Some (MappedPattern number) else None
 
 -- ---- data
 
@@ -219,17 +220,18 @@ abbrev pub listed : Option Warning → List Warning
 listed None = []
 listed (Some warning) = warning ∷ []
 
--- of a rule behind others: its key, its patterns, and the first of its criteria that reads what isn't there
-abbrev pub warnings_of_rule : Setup → List Rule → Rule → List Warning
-warnings_of_rule setup before rule =
-    listed (key_warning setup (length before + 1) rule.action)
-    ++ listed (pattern_warning setup (length before + 1) rule)
+-- of a rule behind others, where clients come with IPv6 addresses or with IPv4 ones alone: its key, its patterns, and the first of its
+-- criteria that reads what isn't there
+abbrev pub warnings_of_rule : Bool → Setup → List Rule → Rule → List Warning
+warnings_of_rule ipv6 setup before rule =
+    listed (key_warning ipv6 setup (length before + 1) rule.action)
+    ++ listed (pattern_warning ipv6 (length before + 1) rule)
     ++ listed (data_warning setup (length before + 1) before rule)
 
 -- of rules behind others, in order
-abbrev pub warnings_behind : Setup → List Rule → List Rule → List Warning
-warnings_behind setup before [] = []
-warnings_behind setup before (rule ∷ more) = warnings_of_rule setup before rule ++ warnings_behind setup (before ++ rule ∷ []) more
+abbrev pub warnings_behind : Bool → Setup → List Rule → List Rule → List Warning
+warnings_behind ipv6 setup before [] = []
+warnings_behind ipv6 setup before (rule ∷ more) = warnings_of_rule ipv6 setup before rule ++ warnings_behind ipv6 setup (before ++ rule ∷ []) more
 
-abbrev pub rule_warnings : Setup → List Warning
-rule_warnings setup = warnings_behind setup [] setup.rules
+abbrev pub rule_warnings : Bool → Setup → List Warning
+rule_warnings ipv6 setup = warnings_behind ipv6 setup [] setup.rules

@@ -5,6 +5,7 @@ ghost use Rattle.rule_warnings.specs.Warnings as spec;
 
 use libc::RLIMIT_NOFILE;
 use libc::types::rlimit;
+use rule_addresses::Endpoint;
 
 /// What a run of the proxy is asked, as far as it is warned of.
 #[derive(Clone, Copy, Debug)]
@@ -21,6 +22,10 @@ pub struct StartPlan {
     pub has_client_timeout: bool,
     /// Whether a silent server's connection is closed in time.
     pub has_server_timeout: bool,
+    /// Where metrics are scraped, if they are.
+    pub metrics: Option<Endpoint>,
+    /// Whether clients come with IPv6 addresses, those of IPv4 with mapped ones: by the sockets at which they really come in.
+    pub takes_ipv6: bool,
 }
 
 /// The descriptors that a connection takes: its client's and its server's.

@@ -1,4 +1,4 @@
-//! Which rules limit what a slot tracks, and which turn away what it doesn't track; `room` and `warnings` ask it.
+//! Which rules limit what a slot tracks, and which turn away what it doesn't track; `room`, `no_effect` and `warnings` ask it.
 
 ghost use Rattle.std.specs.Prelude.{◌≡◌};
 ghost use Rattle.std.specs.List.{list_any};
@@ -150,7 +150,7 @@ fn one_may_turn_away(slot: Slot, rules: &[Rule]) -> bool
 }
 
 /// Whether a rule turns away what a slot doesn't track in the table of a name.
-fn is_guarded(name: &[u8], slot: Slot, rules: &[Rule]) -> bool
+pub(crate) fn is_guarded(name: &[u8], slot: Slot, rules: &[Rule]) -> bool
     ensures { result ≡ spec.is_guarded name.now slot rules.now }
 {
     turns_away(slot, rules)

@@ -4,6 +4,7 @@ ghost use Rattle.std.specs.Prelude.{◌≡◌, ◌++◌, IfOk, length, option_ma
 ghost use Rattle.std.specs.List.{list_any};
 ghost use Rattle.rule_warnings.specs.NoEffect as spec;
 
+use crate::limits::is_guarded;
 use crate::untracked::same_slot;
 use crate::warning::{Unread, Warning};
 use base_sequence::{NoMemory, Sequence};
@@ -21,8 +22,8 @@ fn table_named<'a>(tables: &'a [NamedSpec], name: &[u8]) -> Option<&'a NamedSpec
     tables.iter().find(|named| named.name.as_slice() == name)
 }
 
-/// Whether clients come with IPv6 addresses, those of IPv4 with mapped ones.
-fn binds_ipv6(bind: Option<Endpoint>) -> bool
+/// Whether clients of a `bind` come with IPv6 addresses, those of IPv4 with mapped ones.
+pub(crate) fn binds_ipv6(bind: Option<Endpoint>) -> bool
     ensures { result ≡ spec.binds_ipv6 bind }
 {
     match bind {
@@ -59,13 +60,14 @@ fn is_ip(kind: KeyType) -> bool
 
 /// The warning of what a rule of this number tracks in a table of this type, if there is one.
 fn key_warning_by(
-    bind: Option<Endpoint>,
+    takes_ipv6: bool,
+    is_guarded: bool,
     number: u64,
     slot: Slot,
     key: &KeyExpression,
     kind: KeyType,
 ) -> Option<Warning>
-    ensures { result ≡ spec.key_warning_by bind number slot key.now kind }
+    ensures { result ≡ spec.key_warning_by takes_ipv6 is_guarded number slot key.now kind }
 {
     if !can_be_key(kind, key) {
         return Some(Warning::NeverKey {
@@ -74,7 +76,7 @@ fn key_warning_by(
             kind,
         });
     }
-    if binds_ipv6(bind) && is_source(key) && is_ip(kind) {
+    if takes_ipv6 && is_source(key) && is_ip(kind) && !is_guarded {
         return Some(Warning::UntrackedIpv6 { rule: number, slot });
     }
     None
@@ -82,8 +84,8 @@ fn key_warning_by(
 
 /// The warning of what a rule of this number tracks, if there is one.
 #[tactic(auto, unfolding(crate::specs::NoEffect::key_warning))]
-fn key_warning(setup: &Setup, number: u64, action: &Action) -> Option<Warning>
-    ensures { result ≡ spec.key_warning setup.now number action.now }
+fn key_warning(takes_ipv6: bool, setup: &Setup, number: u64, action: &Action) -> Option<Warning>
+    ensures { result ≡ spec.key_warning takes_ipv6 setup.now number action.now }
 {
     let Action::Track { slot, key, table } = action else {
         return None;
@@ -91,7 +93,8 @@ fn key_warning(setup: &Setup, number: u64, action: &Action) -> Option<Warning>
     let Some(named) = table_named(setup.tables.as_slice(), table.as_slice()) else {
         return None;
     };
-    key_warning_by(setup.bind, number, *slot, key, named.spec.kind)
+    let is_guarded = is_guarded(named.name.as_slice(), *slot, setup.rules.as_slice());
+    key_warning_by(takes_ipv6, is_guarded, number, *slot, key, named.spec.kind)
 }
 
 /// Whether all addresses of a network are mapped ones, of `::ffff:0:0/96`.
@@ -154,10 +157,10 @@ fn condition_has_mapped(condition: &Option<Condition>) -> bool
 
 /// The warning of a pattern that holds no client, if a rule has one.
 #[tactic(auto, unfolding(crate::specs::NoEffect::pattern_warning))]
-fn pattern_warning(setup: &Setup, number: u64, rule: &Rule) -> Option<Warning>
-    ensures { result ≡ spec.pattern_warning setup.now number rule.now }
+fn pattern_warning(takes_ipv6: bool, number: u64, rule: &Rule) -> Option<Warning>
+    ensures { result ≡ spec.pattern_warning takes_ipv6 number rule.now }
 {
-    if condition_has_mapped(&rule.condition) && !binds_ipv6(setup.bind) {
+    if condition_has_mapped(&rule.condition) && !takes_ipv6 {
         Some(Warning::MappedPattern { rule: number })
     } else {
         None
@@ -352,30 +355,35 @@ pub(crate) fn and_one(
 /// Warnings, and behind them those of a rule behind others.
 fn and_of_rule(
     warnings: Sequence<Warning>,
+    takes_ipv6: bool,
     setup: &Setup,
     before: &[Rule],
     rule: &Rule,
 ) -> Result<Sequence<Warning>, NoMemory>
-    ensures { IfOk result (λ all. all ≡ warnings ++ spec.warnings_of_rule setup.now before.now rule.now) }
+    ensures { IfOk result (λ all. all ≡ warnings ++ spec.warnings_of_rule takes_ipv6 setup.now before.now rule.now) }
 {
     let number = before.len() as u64 + 1;
-    let warnings = and_one(warnings, key_warning(setup, number, &rule.action))?;
-    let warnings = and_one(warnings, pattern_warning(setup, number, rule))?;
+    let warnings = and_one(
+        warnings,
+        key_warning(takes_ipv6, setup, number, &rule.action),
+    )?;
+    let warnings = and_one(warnings, pattern_warning(takes_ipv6, number, rule))?;
     and_one(warnings, data_warning(setup, number, before, rule))
 }
 
-/// Warnings, and behind them those of all rules.
+/// Warnings, and behind them those of all rules, where clients come with IPv6 addresses or with IPv4 ones alone.
 pub(crate) fn and_rules(
     warnings: Sequence<Warning>,
+    takes_ipv6: bool,
     setup: &Setup,
 ) -> Result<Sequence<Warning>, NoMemory>
-    ensures { IfOk result (λ all. all ≡ warnings ++ spec.rule_warnings setup.now) }
+    ensures { IfOk result (λ all. all ≡ warnings ++ spec.rule_warnings takes_ipv6 setup.now) }
 {
     let rules = setup.rules.as_slice();
     let mut all = warnings;
     for place in 0..rules.len() {
         let (before, _) = rules.split_at(place);
-        all = and_of_rule(all, setup, before, &rules[place])?;
+        all = and_of_rule(all, takes_ipv6, setup, before, &rules[place])?;
     }
     Ok(all)
 }

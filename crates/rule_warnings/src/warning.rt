@@ -1,7 +1,9 @@
 //! A warning, and how it is said; `warnings` makes it, and `tcp_proxy` and `stickd_input` print it.
 
+use rule_addresses::{Address, Endpoint};
 use rule_model::{Fetch, Name, Slot};
 use std::fmt::{self, Display, Formatter, Write};
+use std::net::{Ipv4Addr, Ipv6Addr};
 use std::str;
 use stick_key::KeyType;
 use stored_data::{Field, name};
@@ -42,6 +44,10 @@ pub enum Warning {
     NoTimeout {
         client: bool,
         server: bool,
+    },
+    /// Metrics are scraped at an address that others can reach.
+    OpenMetrics {
+        place: Endpoint,
     },
     /// A limit by a slot lets in what its table has no room for. `is_always` says whether all connections are tracked there.
     FailsOpen {
@@ -124,6 +130,31 @@ fn write_timeouts<W: Write>(client: bool, server: bool, f: &mut Formatter<W>) ->
     write!(
         f,
         "Give {options}; against peers that vanish there is --keepalive too."
+    )
+}
+
+/// That others can read the metrics.
+fn write_open<W: Write>(place: Endpoint, f: &mut Formatter<W>) -> fmt::Result {
+    let port = place.port;
+    match place.address {
+        Address::V4(bytes) => {
+            let address = Ipv4Addr::from_octets(bytes);
+            write!(
+                f,
+                "Whoever can connect to {address}:{port} reads the metrics. "
+            )?;
+        }
+        Address::V6(bytes) => {
+            let address = Ipv6Addr::from_octets(bytes);
+            write!(
+                f,
+                "Whoever can connect to [{address}]:{port} reads the metrics. "
+            )?;
+        }
+    }
+    write!(
+        f,
+        "Give --metrics 127.0.0.1:{port}, or put a firewall before it."
     )
 }
 
@@ -300,6 +331,7 @@ impl Display for Warning {
                 )
             }
             Warning::NoTimeout { client, server } => write_timeouts(*client, *server, f),
+            Warning::OpenMetrics { place } => write_open(*place, f),
             Warning::FailsOpen {
                 slot,
                 table,

@@ -6,18 +6,23 @@ ghost use Rattle.rule_warnings.specs.Warnings as spec;
 
 use crate::descriptors::{StartPlan, descriptors_wanted};
 use crate::limits::is_always_tracked;
-use crate::no_effect::{and_one, and_rules};
+use crate::no_effect::{and_one, and_rules, binds_ipv6};
 use crate::room::failing;
 use crate::warning::Warning;
 use base_sequence::{NoMemory, Sequence};
+use rule_addresses::{Address, Endpoint};
 use rule_model::{NamedSpec, Setup, Slot};
 use std::alloc::Global;
+use stick_key::unmapped;
 
 /// The greatest number of places of a shard whose lock isn't held for long: `100k`, as a configuration writes it.
 const MOST_PLACES: u32 = 102_400;
 
 /// The greatest number of shards.
 const MOST_SHARDS: u32 = 64;
+
+/// The address of the machine itself (RFC 4291, section 2.5.3).
+const LOOPBACK: [u8; 16] = [0, 0, 0, 0, 0, 0, 0, 0, 0, 0, 0, 0, 0, 0, 0, 1];
 
 /// The warning of too few descriptors, if there are.
 fn descriptor_warning(plan: &StartPlan) -> Option<Warning>
@@ -49,6 +54,29 @@ fn timeout_warning(plan: &StartPlan) -> Option<Warning>
         client: !plan.has_client_timeout,
         server: !plan.has_server_timeout,
     })
+}
+
+/// Whether nobody but programs of the same machine can connect to an address.
+fn is_loopback(address: Address) -> bool
+    ensures { result ≡ spec.is_loopback address }
+{
+    match address {
+        Address::V4(bytes) => bytes[0] == 127,
+        Address::V6(bytes) => match unmapped(bytes) {
+            Some(mapped) => mapped[0] == 127,
+            None => bytes.as_slice() == LOOPBACK.as_slice(),
+        },
+    }
+}
+
+/// The warning of metrics that others may read, if they may.
+fn metrics_warning(place: Option<Endpoint>) -> Option<Warning>
+    ensures { result ≡ spec.metrics_warning place }
+{
+    match place {
+        Some(place) if !is_loopback(place.address) => Some(Warning::OpenMetrics { place }),
+        _ => None,
+    }
 }
 
 /// The warning of a limit by a slot that fails open on a table, if it does.
@@ -143,17 +171,18 @@ fn and_shards(
     Ok(all)
 }
 
-/// Warnings, and behind them those of the rules and the tables.
+/// Warnings, and behind them those of the rules and the tables, where clients come with IPv6 addresses or with IPv4 ones alone.
 fn and_tables(
     warnings: Sequence<Warning>,
+    takes_ipv6: bool,
     setup: &Setup,
     connections: u32,
 ) -> Result<Sequence<Warning>, NoMemory>
     requires { 1 ≤ setup.now.shards }
-    ensures { IfOk result (λ all. all ≡ warnings ++ spec.table_warnings connections setup.now) }
+    ensures { IfOk result (λ all. all ≡ warnings ++ spec.table_warnings_where takes_ipv6 connections setup.now) }
 {
     let tables = setup.tables.as_slice();
-    let warnings = and_rules(warnings, setup)?;
+    let warnings = and_rules(warnings, takes_ipv6, setup)?;
     let warnings = and_limits(warnings, connections, setup, Slot::Sc0, tables)?;
     let warnings = and_limits(warnings, connections, setup, Slot::Sc1, tables)?;
     let warnings = and_limits(warnings, connections, setup, Slot::Sc2, tables)?;
@@ -162,7 +191,7 @@ fn and_tables(
 
 /// What is to be said of the rules and the tables of a setup, for so many connections at once at most: what rules say that comes
 /// to nothing, in their order; limits that let in what their table has no room for, by `sc0`, `sc1` and `sc2`; then large shards;
-/// each in order of declaration.
+/// each in order of declaration. Clients come to the setup's own bind.
 pub fn table_warnings(
     alloc: Global,
     setup: &Setup,
@@ -171,10 +200,12 @@ pub fn table_warnings(
     requires { 1 ≤ setup.now.shards }
     ensures { IfOk result (λ warnings. warnings ≡ spec.table_warnings connections setup.now) }
 {
-    and_tables(Sequence::new(alloc), setup, connections)
+    let takes_ipv6 = binds_ipv6(setup.bind);
+    and_tables(Sequence::new(alloc), takes_ipv6, setup, connections)
 }
 
-/// What is to be said as the proxy of a setup starts: of descriptors, of timeouts, and of its rules and tables.
+/// What is to be said as the proxy of a setup starts: of descriptors, of timeouts, of metrics, and of its rules and tables, by where it
+/// really listens.
 pub fn warnings_of(
     alloc: Global,
     setup: &Setup,
@@ -185,5 +216,6 @@ pub fn warnings_of(
 {
     let warnings = and_one(Sequence::new(alloc), descriptor_warning(&plan))?;
     let warnings = and_one(warnings, timeout_warning(&plan))?;
-    and_tables(warnings, setup, plan.connections)
+    let warnings = and_one(warnings, metrics_warning(plan.metrics))?;
+    and_tables(warnings, plan.takes_ipv6, setup, plan.connections)
 }

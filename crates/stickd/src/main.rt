@@ -7,15 +7,24 @@ ghost use Rattle.std.specs.Process.{exit_status};
 ghost use Rattle.rule_model.specs.Served.{AreTables};
 ghost use Rattle.admit_drive.specs.Tables.{CanOpen};
 
+mod adopted_file;
+mod asking;
+mod checking;
 mod run_plan;
+mod saved_file;
 
-use adopt::{Asked, Wishes, adopt_file, text_of};
+use adopt::{Asked, adopt_file};
+use adopted_file::{Start, read_wishes, take_start};
+use asking::{ask_named, show_greatest, stop_named};
+use base_console::{Attended, Console, Lines};
 use base_sequence::NoMemory;
 use byte_ports::{StreamSink, StreamSource};
+use checking::{check, check_haproxy};
 use clap::ArgMatches;
-use log::Log;
+use log::{Log, error};
 use rule_model::{Config, Setup};
-use run_plan::{BadWord, read_binds, read_drain, read_plan, with_frontend};
+use run_plan::{BadWord, read_binds, read_drain, read_patience, read_plan, read_stats, with_names};
+use saved_file::replay_saved;
 use std::alloc::Global;
 use std::net::{Net, TcpListener, TcpStream};
 use std::process::ExitCode;
@@ -25,21 +34,22 @@ use std::sync::Wait;
 use std::thread::Threads;
 use std::time::Clock;
 use std::{env, fs, io, str};
-use stickd_ctl::{Ctl, Stop, Top, ask_running, show_top, stop_running};
 use stickd_input::{
-    Detail, Keeping, LOAD, STATS, Telling, frontend_name, open_served, open_setup,
-    read_command_line, read_file, read_keeping, read_served,
+    HAPROXY, Keeping, LOAD, frontend_name, open_served, open_setup, read_command_line,
+    read_keeping, read_served, read_text, server_name,
 };
-use stickd_script::{BadLines, FaultKind, ReplayFault, Stopped, replay_loaded, replay_script};
+use stickd_script::{BadLines, FaultKind, ReplayFault, replay_script};
 use tcp_proxy::{Plan, ProxyRuntime, run_pooled};
-use tcp_watch::read_surroundings;
+use tcp_watch::{Surroundings, read_surroundings};
 
 /// The status of a bad command line.
 const BAD_COMMAND_LINE: u8 = 2;
 
 fn main(rt: HostRuntime) -> ExitCode {
     let words = collect_words(&rt);
-    match run(&rt, words) {
+    let console = Console::open(&rt);
+    let attended = Attended::new(&rt, &console);
+    match run(&rt, &attended, words) {
         Ok(status) => status,
         Err(reason) => {
             // Where standard error can't be written either, the status alone tells.
@@ -68,23 +78,23 @@ fn collect_words(rt: &HostRuntime) -> Result<Vec<String>, WordsFault> {
     }
 }
 
-/// Does what the command line asks, and answers the status. An error is one of writing. The bounds are a `ProxyRuntime`'s and
-/// more, one by one: no proof covers that trait at the runtime itself.
+/// Does what the command line asks, and answers the status. An error is one of writing. The bounds stand one by one, down to `serve`:
+/// what that sends to threads may not rest on a trait that has several of them.
 fn run<
-    R: Net<Listener = TcpListener, Stream = TcpStream>
+    R: Net + Clock + Files + Env + Input + Print + Eprint + AllocGlobal,
+    A: Net<Listener = TcpListener, Stream = TcpStream>
         + Threads
         + Wait
         + Clock
         + Log
+        + Lines
         + Sync
         + RandomSource
         + Files
-        + Env
-        + Input
         + Print
         + Eprint
         + AllocGlobal,
->(rt: &R, words: Result<Vec<String>, WordsFault>) -> io::Result<ExitCode> {
+>(rt: &R, attended: &A, words: Result<Vec<String>, WordsFault>) -> io::Result<ExitCode> {
     let words = match words {
         Ok(words) => words,
         Err(WordsFault::NotUtf8) => {
@@ -97,7 +107,7 @@ fn run<
         }
     };
     match read_command_line(rt.alloc(), words.as_slice()) {
-        Ok(matches) => run_command(rt, &matches),
+        Ok(matches) => run_command(rt, attended, &matches, words.as_slice()),
         Err(error) => {
             error.print(rt)?;
             Ok(ExitCode::from(error.exit_code() as u8))
@@ -106,15 +116,21 @@ fn run<
 }
 
 /// Does what a command asks. The status is 1 where that fails, which is then said on standard error.
-fn run_command<R: ProxyRuntime + Files + AllocGlobal + Eprint + RandomSource + Env + Input + Print>(
-    rt: &R,
-    matches: &ArgMatches<'_>,
-) -> io::Result<ExitCode> {
+fn run_command<
+    R: Net + Clock + Files + Env + Input + Print + Eprint + AllocGlobal,
+    A: ProxyRuntime + Files + AllocGlobal + Eprint + RandomSource + Print,
+>(rt: &R, attended: &A, matches: &ArgMatches<'_>, words: &[String]) -> io::Result<ExitCode> {
     let done = match matches.subcommand() {
         Some(("adopt", arguments)) => return adopt_named(rt, arguments),
+        Some(("check", arguments)) if arguments.get_flag(HAPROXY) => {
+            return check_haproxy(rt, arguments);
+        }
         Some(("check", arguments)) => check(rt, arguments)?,
         Some(("ctl", arguments)) => return ask_named(rt, arguments),
-        Some(("run", arguments)) => return serve(rt, arguments),
+        Some(("run", arguments)) if arguments.get_flag(HAPROXY) => {
+            return serve_haproxy(rt, attended, arguments, words);
+        }
+        Some(("run", arguments)) => return Ok(serve(rt, attended, arguments, None)),
         Some(("stop", arguments)) => return stop_named(rt, arguments),
         Some(("top", arguments)) => return show_greatest(rt, arguments),
         Some((_, arguments)) => {
@@ -139,17 +155,11 @@ fn status_of(is_done: bool) -> ExitCode
 
 /// What `stickd adopt` is asked.
 fn read_asked(alloc: Global, arguments: &ArgMatches<'_>) -> Result<Asked, NoMemory> {
-    let frontend = match arguments.get_str("frontend") {
-        Some(name) => Some(text_of(alloc, name)?),
-        None => None,
-    };
     Ok(Asked {
-        wishes: Wishes {
-            frontend,
-            first_server: arguments.get_flag("first-server"),
-        },
+        wishes: read_wishes(alloc, arguments)?,
         anyway: arguments.get_flag("anyway"),
         command: arguments.get_flag("command"),
+        verbose: arguments.get_flag("verbose"),
     })
 }
 
@@ -164,80 +174,6 @@ fn adopt_named<R: Files + Env + Print + Eprint + AllocGlobal>(
     };
     let path = arguments.get_str("FILE").unwrap_or("");
     Ok(ExitCode::from(adopt_file(rt, path, &asked)?))
-}
-
-/// Sends commands to a running stickd, and shows what it answers.
-fn ask_named<R: Net + Clock + Print + Eprint + AllocGlobal>(
-    rt: &R,
-    arguments: &ArgMatches<'_>,
-) -> io::Result<ExitCode> {
-    let asked = Ctl {
-        path: arguments.get_str("socket").unwrap_or(""),
-        words: arguments.get_strs("COMMAND").unwrap_or(&[]),
-        json: arguments.get_flag("json"),
-        watch: arguments.get_one::<u32>("watch").map(u64::from),
-    };
-    Ok(ExitCode::from(ask_running(rt, &asked)?))
-}
-
-/// Shows the entries of a running stickd's table with the greatest numbers.
-fn show_greatest<R: Net + Clock + Env + Print + Eprint + AllocGlobal>(
-    rt: &R,
-    arguments: &ArgMatches<'_>,
-) -> io::Result<ExitCode> {
-    let asked = Top {
-        path: arguments.get_str("socket").unwrap_or(""),
-        table: arguments.get_str("table"),
-        by: arguments.get_str("by"),
-        rows: arguments.get_one::<u32>("rows").unwrap_or(20) as usize,
-    };
-    Ok(ExitCode::from(show_top(rt, &asked)?))
-}
-
-/// Stops a running stickd.
-fn stop_named<R: Net + Files + Clock + Eprint + AllocGlobal>(
-    rt: &R,
-    arguments: &ArgMatches<'_>,
-) -> io::Result<ExitCode> {
-    let drain = match read_drain(arguments) {
-        Ok(drain) => drain,
-        Err(bad) => return refuse(rt, bad),
-    };
-    let path = arguments.get_str(STATS).unwrap_or("");
-    Ok(ExitCode::from(stop_running(rt, &Stop { path, drain })?))
-}
-
-/// Which faults `stickd check` tells.
-fn read_telling(arguments: &ArgMatches<'_>) -> Telling {
-    if arguments.get_flag("all") {
-        Telling::All
-    } else {
-        Telling::First
-    }
-}
-
-/// How much `stickd check` says of them.
-fn read_detail(arguments: &ArgMatches<'_>) -> Detail {
-    if arguments.get_flag("explain") {
-        Detail::Explained
-    } else {
-        Detail::Short
-    }
-}
-
-/// Says what a configuration has.
-fn check<R: Files + Print + Eprint + AllocGlobal>(
-    rt: &R,
-    arguments: &ArgMatches<'_>,
-) -> io::Result<bool> {
-    let path = arguments.get_str("FILE").unwrap_or("");
-    let Some(config) = read_file(rt, path, read_telling(arguments), read_detail(arguments))? else {
-        return Ok(false);
-    };
-    let tables = config.table_count();
-    let rules = config.rule_count();
-    println!(rt; "valid: {tables} tables, {rules} rules")?;
-    Ok(true)
 }
 
 /// Replays the script on standard input on the tables of a configuration, each kept in this way, into which a saved file is loaded
@@ -279,49 +215,8 @@ fn replay_new<R: Input + Print + Eprint + AllocGlobal>(rt: &R, setup: &Setup) ->
     }
 }
 
-/// Replays the script on standard input on tables into which the file of a path is loaded first. Where it can't be, that is said on
-/// standard error.
-fn replay_saved<R: Files + Input + Print + Eprint + AllocGlobal>(
-    rt: &R,
-    setup: &Setup,
-    path: &str,
-) -> io::Result<bool>
-    requires { CanOpen setup.now }
-{
-    let saved = match fs::read(rt, path) {
-        Ok(saved) => saved,
-        Err(reason) => {
-            eprintln!(rt; "stickd: {path} can't be read: {reason}")?;
-            return Ok(false);
-        }
-    };
-    let mut reader = StreamSource::new(rt.reader());
-    let mut writer = StreamSink::new(io::writer(rt));
-    let mut bad = BadLines::new();
-    let replayed = replay_loaded(
-        rt.alloc(),
-        setup,
-        saved.as_slice(),
-        &mut reader,
-        &mut writer,
-        &mut bad,
-    );
-    let _ = report_bad_lines(rt, &bad);
-    match replayed {
-        Ok(()) => Ok(true),
-        Err(Stopped::Unloaded(fault)) => {
-            eprintln!(rt; "stickd: {path}: {fault}")?;
-            Ok(false)
-        }
-        Err(Stopped::Replay(fault)) => {
-            report(rt, fault)?;
-            Ok(false)
-        }
-    }
-}
-
 /// Says on standard error which lines of the script were bad: the first ten, and how many where there are more.
-fn report_bad_lines<R: Eprint>(rt: &R, bad: &BadLines) -> io::Result<()> {
+pub(crate) fn report_bad_lines<R: Eprint>(rt: &R, bad: &BadLines) -> io::Result<()> {
     let first = bad.first();
     for number in first {
         eprintln!(rt; "stickd: script line {number}: bad line")?;
@@ -333,29 +228,86 @@ fn report_bad_lines<R: Eprint>(rt: &R, bad: &BadLines) -> io::Result<()> {
     Ok(())
 }
 
+/// Runs the proxy of a file of HAProxy, of a command line with these words.
+fn serve_haproxy<
+    R: Files + Env + Print + Eprint + AllocGlobal,
+    A: ProxyRuntime + Files + AllocGlobal + Eprint + RandomSource + Print,
+>(rt: &R, attended: &A, arguments: &ArgMatches<'_>, words: &[String]) -> io::Result<ExitCode> {
+    let Start { text, words } = match take_start(rt, arguments, words)? {
+        Ok(start) => start,
+        Err(status) => return Ok(status),
+    };
+    let matches = match read_command_line(rt.alloc(), words.as_slice()) {
+        Ok(matches) => matches,
+        Err(error) => {
+            error.print(rt)?;
+            return Ok(ExitCode::from(error.exit_code() as u8));
+        }
+    };
+    match matches.subcommand() {
+        Some((_, arguments)) => Ok(serve(rt, attended, arguments, Some(text))),
+        None => Ok(ExitCode::FAILURE),
+    }
+}
+
+/// Runs the proxy of a configuration, that of the file that is named unless its text is given, and waits meanwhile for nobody who reads
+/// what it says. Where its results can't be written, that is said, and the status is 1.
+fn serve<
+    R: Env + AllocGlobal,
+    A: ProxyRuntime + Files + AllocGlobal + Eprint + RandomSource + Print,
+>(rt: &R, attended: &A, arguments: &ArgMatches<'_>, given: Option<Vec<u8>>) -> ExitCode {
+    let manager = match read_surroundings(rt) {
+        Ok(manager) => manager,
+        Err(fault) => {
+            error!(attended; "{fault}");
+            return ExitCode::FAILURE;
+        }
+    };
+    match serve_file(attended, arguments, &manager, given) {
+        Ok(status) => status,
+        Err(reason) => {
+            error!(attended; "writing failed: {reason}");
+            ExitCode::FAILURE
+        }
+    }
+}
+
 /// Runs the proxy of a configuration, each of its tables kept as the command line says.
-fn serve<R: ProxyRuntime + Files + AllocGlobal + Eprint + RandomSource + Env + Print>(
+fn serve_file<R: ProxyRuntime + Files + AllocGlobal + Eprint + RandomSource + Print>(
     rt: &R,
     arguments: &ArgMatches<'_>,
+    manager: &Surroundings,
+    given: Option<Vec<u8>>,
 ) -> io::Result<ExitCode> {
     let binds = match read_binds(rt.alloc(), arguments) {
         Ok(binds) => binds,
         Err(bad) => return refuse(rt, bad),
     };
-    let plan = match read_plan(arguments, binds.as_slice(), read_surroundings(rt)) {
+    let stats = match read_stats(rt.alloc(), arguments) {
+        Ok(stats) => stats,
+        Err(bad) => return refuse(rt, bad),
+    };
+    let plan = match read_plan(arguments, binds.as_slice(), stats.as_slice(), manager) {
         Ok(plan) => plan,
         Err(bad) => return refuse(rt, bad),
     };
-    let path = arguments.get_str("FILE").unwrap_or("");
-    match read_served(rt, path)? {
-        Some(config) => serve_config(rt, &config, read_keeping(arguments), plan),
+    let read = match given {
+        Some(text) => Some(text),
+        None => read_text(rt, arguments.get_str("FILE").unwrap_or(""))?,
+    };
+    let Some(text) = read else {
+        return Ok(ExitCode::FAILURE);
+    };
+    match read_served(rt, text.as_slice())? {
+        Some(config) => serve_config(rt, text.as_slice(), &config, read_keeping(arguments), plan),
         None => Ok(ExitCode::FAILURE),
     }
 }
 
-/// Runs the proxy of a configuration that was read.
+/// Runs the proxy of a configuration that was read of a text.
 fn serve_config<'a, R: ProxyRuntime + Files + AllocGlobal + Eprint + RandomSource + Print>(
     rt: &R,
+    text: &'a [u8],
     config: &'a Config,
     keeping: Keeping,
     plan: Plan<'a>,
@@ -369,21 +321,22 @@ fn serve_config<'a, R: ProxyRuntime + Files + AllocGlobal + Eprint + RandomSourc
     let Some(setup) = open_served(rt, config, keeping)? else {
         return Ok(ExitCode::FAILURE);
     };
-    // A name is made of ASCII letters, digits and a few signs.
+    // Names are made of ASCII letters, digits and a few signs.
     let frontend = str::from_utf8(frontend_name(config)).unwrap_or("");
-    let plan = with_frontend(plan, frontend);
+    let server = str::from_utf8(server_name(config, text)).unwrap_or("");
+    let plan = with_names(plan, frontend, server);
     let is_done = run_pooled(rt.alloc(), rt, &setup, plan)?;
     Ok(status_of(is_done))
 }
 
 /// Says on standard error what is wrong with the command line.
-fn refuse<R: Eprint>(rt: &R, bad: BadWord<'_>) -> io::Result<ExitCode> {
+pub(crate) fn refuse<R: Eprint>(rt: &R, bad: BadWord<'_>) -> io::Result<ExitCode> {
     eprintln!(rt; "stickd: {bad}")?;
     Ok(ExitCode::from(BAD_COMMAND_LINE))
 }
 
 /// Says on standard error why the replay stopped.
-fn report<R: Eprint>(rt: &R, fault: ReplayFault) -> io::Result<()> {
+pub(crate) fn report<R: Eprint>(rt: &R, fault: ReplayFault) -> io::Result<()> {
     let done = fault.done;
     match fault.kind {
         FaultKind::ReadFault => eprintln!(rt; "stickd: reading failed after {done} lines"),

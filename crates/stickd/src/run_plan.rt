@@ -7,15 +7,19 @@ use clap::ArgMatches;
 use rule_addresses::{Endpoint, read_bind};
 use rule_words::read_time;
 use std::alloc::Global;
+use stickd_ctl::PATIENCE;
 use stickd_input::{
-    BIND, CLIENT, CONNECT, DRAIN, FIN, KEEPALIVE, LOAD, LOG_REJECTED, METRICS, REPORT, SAVE,
-    SERVER, SOCKET, STATS, VERSION,
+    BIND, CHECK, CLIENT, CONNECT, DRAIN, FIN, KEEPALIVE, LEVEL, LOAD, LOAD_LENIENT, LOG_REJECTED,
+    METRICS, REPORT, SAVE, SAVE_EVERY, SERVER, SOCKET, STATS, TIMEOUT, USER_TIMEOUT, VERSION,
 };
+use table_cli::Misfits;
 use table_socket::read_mode;
-use tcp_link::{Keepalive, Timeouts};
-use tcp_proxy::{About, KeepPlan, Plan, SocketPlan, StatsPlan, WatchPlan};
+use tcp_link::{Keepalive, Liveness, Timeouts, UserTimeout};
+use tcp_proxy::{
+    About, KeepPlan, MOST_STATS_SOCKETS, Plan, STATS_CLIENTS, SocketPlan, StatsPlan, WatchPlan,
+};
 use tcp_relay::Limits;
-use tcp_watch::Surroundings;
+use tcp_watch::{Level, Surroundings, level_named};
 
 /// How long a server may take to accept a connection where that isn't said, in ms.
 const CONNECT_TIME: u64 = 5_000;
@@ -38,6 +42,9 @@ const DRAIN_TIME: u64 = 30_000;
 /// How often `--bind` may be given.
 const MOST_BINDS: usize = 16;
 
+/// The options of a stats socket come once each, so that this many looks are one more than there are options.
+const MOST_STATS_OPTIONS: u32 = 4;
+
 /// A word behind an option that wants another.
 #[derive(Clone, Copy, Debug, thiserror::Error)]
 pub enum BadWord<'a> {
@@ -47,10 +54,16 @@ pub enum BadWord<'a> {
     Mode(&'a str),
     #[error("'{word}' is no place to listen for --{option}: it is ADDRESS:PORT, as 127.0.0.1:8080, [::1]:8080 or *:8080")]
     Bind { option: &'static str, word: &'a str },
-    #[error("'{0}' is no socket for --stats-socket: it is PATH or PATH,mode=M, M one to four octal digits up to 0777")]
+    #[error("'{0}' is no socket for --stats-socket: it is PATH, followed by any of ,mode=M ,group=G and ,level=L once: M one to four octal digits up to 0777, L user, operator or admin")]
     Stats(&'a str),
+    #[error("'{0}' is no level for --socket-level: it is user, operator or admin")]
+    Level(&'a str),
     #[error("--bind can be given 16 times, and no more")]
     ManyBinds,
+    #[error("--stats-socket can be given 4 times, and no more")]
+    ManyStats,
+    #[error("--save-every wants --save, which names the file")]
+    NothingToSave,
     #[error("out of memory")]
     Memory,
 }
@@ -79,6 +92,14 @@ fn read_timeouts<'a>(arguments: &ArgMatches<'a>) -> Result<Timeouts, BadWord<'a>
     })
 }
 
+/// How the system finds out that a peer is gone.
+fn read_liveness<'a>(arguments: &ArgMatches<'a>) -> Result<Liveness, BadWord<'a>> {
+    Ok(Liveness {
+        keepalive: read_timeout(arguments, KEEPALIVE)?.map(Keepalive::of),
+        user_timeout: read_timeout(arguments, USER_TIMEOUT)?.map(UserTimeout::of),
+    })
+}
+
 /// The permissions of the command socket's file.
 fn read_socket_mode<'a>(arguments: &ArgMatches<'a>) -> Result<u32, BadWord<'a>> {
     let Some(word) = arguments.get_str("socket-mode") else {
@@ -102,7 +123,12 @@ fn read_socket<'a>(arguments: &ArgMatches<'a>) -> Result<SocketPlan<'a>, BadWord
         Ok(timeout) => timeout.unwrap_or(SOCKET_TIME),
         Err(bad) => return Err(bad),
     };
+    let level = match read_level(arguments) {
+        Ok(level) => level,
+        Err(bad) => return Err(bad),
+    };
     Ok(SocketPlan {
+        level,
         path: arguments.get_str("socket").unwrap_or(""),
         mode,
         group: arguments.get_str("socket-group"),
@@ -145,24 +171,112 @@ fn read_each<'a>(alloc: Global, words: &[&'a str]) -> Result<Vec<Endpoint>, BadW
     Ok(binds)
 }
 
-/// The path of `PATH[,mode=M]`, and the permissions of the socket's file, which are its owner's alone where none are said.
-fn split_stats(word: &str) -> Option<(&str, u32)>
-    ensures mode { IfSome result (λ parts. parts.1 ≤ 511) }
-{
-    match word.split_once(',') {
-        Some((path, option)) => Some((path, read_mode(option.strip_prefix("mode=")?)?)),
-        None => Some((word, SOCKET_MODE)),
+/// What follows the path of a stats socket.
+#[derive(Clone, Copy)]
+struct StatsOptions<'a> {
+    mode: Option<u32>,
+    group: Option<&'a str>,
+    level: Option<Level>,
+}
+
+impl<'a> StatsOptions<'a> {
+    /// With one option more. None where it is none, or has come already.
+    fn with(self, option: &'a str) -> Option<StatsOptions<'a>>
+        requires { IfSome self.mode (λ mode. mode ≤ 511) }
+        ensures { IfSome result (λ options. IfSome options.mode (λ mode. mode ≤ 511)) }
+    {
+        match option.split_once('=')? {
+            ("mode", mode) if self.mode.is_none() => Some(StatsOptions {
+                mode: Some(read_mode(mode)?),
+                ..self
+            }),
+            ("group", group) if self.group.is_none() && !group.is_empty() => Some(StatsOptions {
+                group: Some(group),
+                ..self
+            }),
+            ("level", level) if self.level.is_none() => Some(StatsOptions {
+                level: Some(level_named(level.as_bytes())?),
+                ..self
+            }),
+            _ => None,
+        }
     }
 }
 
-/// The socket on which HAProxy's tools are answered.
-fn read_stats<'a>(arguments: &ArgMatches<'a>) -> Result<Option<StatsPlan<'a>>, BadWord<'a>> {
-    let Some(word) = arguments.get_str(STATS) else {
-        return Ok(None);
+/// A stats socket, of which nobody but its owner may connect, and who connects may do all, where it isn't said otherwise.
+fn split_stats(word: &str) -> Option<StatsPlan<'_>>
+    ensures mode { IfSome result (λ stats. stats.mode ≤ 511) }
+{
+    let mut options = StatsOptions {
+        mode: None,
+        group: None,
+        level: None,
     };
-    match split_stats(word) {
-        Some((path, mode)) => Ok(Some(StatsPlan { path, mode })),
-        None => Err(BadWord::Stats(word)),
+    let (path, mut rest) = match word.split_once(',') {
+        Some((path, rest)) => (path, Some(rest)),
+        None => (word, None),
+    };
+    for _ in 0..MOST_STATS_OPTIONS {
+        let Some(some) = rest else {
+            return Some(StatsPlan {
+                path,
+                mode: options.mode.unwrap_or(SOCKET_MODE),
+                group: options.group,
+                level: options.level.unwrap_or(Level::Admin),
+            });
+        };
+        match some.split_once(',') {
+            Some((option, more)) => {
+                options = options.with(option)?;
+                rest = Some(more);
+            }
+            None => {
+                options = options.with(some)?;
+                rest = None;
+            }
+        }
+    }
+    None
+}
+
+/// The sockets on which HAProxy's tools are answered.
+pub fn read_stats<'a>(
+    alloc: Global,
+    arguments: &ArgMatches<'a>,
+) -> Result<Vec<StatsPlan<'a>>, BadWord<'a>> {
+    match arguments.get_strs(STATS) {
+        Some(words) => read_each_stats(alloc, words),
+        None => Ok(Vec::new(alloc)),
+    }
+}
+
+/// The stats sockets that these words say, each of which it has to.
+fn read_each_stats<'a>(alloc: Global, words: &[&'a str]) -> Result<Vec<StatsPlan<'a>>, BadWord<'a>>
+    ensures few { IfOk result (λ stats. length stats.items ≤ 4) }
+{
+    if words.len() > MOST_STATS_SOCKETS {
+        return Err(BadWord::ManyStats);
+    }
+    let mut each = Vec::new(alloc);
+    for word in words {
+        let Some(stats) = split_stats(word) else {
+            return Err(BadWord::Stats(word));
+        };
+        if each.push(stats).is_err() {
+            return Err(BadWord::Memory);
+        }
+    }
+    Ok(each)
+}
+
+/// What the clients of the command socket may do: all, where it isn't said otherwise.
+fn read_level<'a>(arguments: &ArgMatches<'a>) -> Result<Level, BadWord<'a>> {
+    let Some(word) = arguments.get_str(LEVEL) else {
+        return Ok(Level::Admin);
+    };
+    match level_named(word.as_bytes()) {
+        Some(level) => Ok(level),
+        None => Err(BadWord::Level(word)),
     }
 }
 
@@ -180,9 +294,33 @@ fn read_metrics<'a>(arguments: &ArgMatches<'a>) -> Result<Option<Endpoint>, BadW
     }
 }
 
-/// How long open connections may go on once the program is to stop, in ms.
-pub fn read_drain<'a>(arguments: &ArgMatches<'a>) -> Result<u64, BadWord<'a>> {
-    Ok(read_timeout(arguments, DRAIN)?.unwrap_or(DRAIN_TIME))
+/// How long open connections may go on once the program is to stop, in ms. None where that isn't said.
+pub fn read_drain<'a>(arguments: &ArgMatches<'a>) -> Result<Option<u64>, BadWord<'a>> {
+    read_timeout(arguments, DRAIN)
+}
+
+/// How long a program may say nothing that is asked, in ms.
+pub fn read_patience<'a>(arguments: &ArgMatches<'a>) -> Result<u64, BadWord<'a>> {
+    Ok(read_timeout(arguments, TIMEOUT)?.unwrap_or(PATIENCE))
+}
+
+/// The files in which what the tables hold outlasts the run.
+fn read_keep<'a>(arguments: &ArgMatches<'a>) -> Result<KeepPlan<'a>, BadWord<'a>> {
+    let save = arguments.get_str(SAVE);
+    let save_every = read_timeout(arguments, SAVE_EVERY)?;
+    if save.is_none() && save_every.is_some() {
+        return Err(BadWord::NothingToSave);
+    }
+    Ok(KeepPlan {
+        load: arguments.get_str(LOAD),
+        misfits: if arguments.get_flag(LOAD_LENIENT) {
+            Misfits::Skipped
+        } else {
+            Misfits::Refused
+        },
+        save,
+        save_every,
+    })
 }
 
 /// What `stickd run` is asked. That its numbers are in their ranges was seen as the command line was read. The connections are
@@ -190,7 +328,8 @@ pub fn read_drain<'a>(arguments: &ArgMatches<'a>) -> Result<u64, BadWord<'a>> {
 pub fn read_plan<'a>(
     arguments: &'a ArgMatches<'_>,
     more_binds: &'a [Endpoint],
-    manager: Surroundings,
+    stats: &'a [StatsPlan<'a>],
+    manager: &'a Surroundings,
 ) -> Result<Plan<'a>, BadWord<'a>>
     ensures threads { IfOk result (λ plan. (1 ≤ plan.threads) × (plan.threads ≤ 64)) }
     ensures backlog { IfOk result (λ plan. (1 ≤ plan.backlog) × (plan.backlog ≤ 2147483647)) }
@@ -220,38 +359,43 @@ pub fn read_plan<'a>(
             connections,
             timeouts: read_timeouts(arguments)?,
             retries: arguments.get_one::<u32>("retries").unwrap_or(0),
-            keepalive: read_timeout(arguments, KEEPALIVE)?.map(Keepalive::of),
+            liveness: read_liveness(arguments)?,
         },
         stop_after: arguments.get_one::<u64>("stop-after"),
-        keep: KeepPlan {
-            load: arguments.get_str(LOAD),
-            save: arguments.get_str(SAVE),
-        },
+        keep: read_keep(arguments)?,
         watch: WatchPlan {
             report: read_timeout(arguments, REPORT)?,
-            stats: read_stats(arguments)?,
+            stats: stats.first().copied(),
+            more_stats: stats.get(1..).unwrap_or(&[]),
+            stats_clients: arguments
+                .get_one::<u32>("stats-clients")
+                .unwrap_or(STATS_CLIENTS),
             metrics: read_metrics(arguments)?,
             log_rejected: arguments.get_flag(LOG_REJECTED),
             about: About {
                 version: VERSION,
                 release_date: RELEASE_DATE,
                 frontend: "",
+                server: "",
             },
         },
-        drain: read_drain(arguments)?,
+        drain: read_drain(arguments)?.unwrap_or(DRAIN_TIME),
         manager,
+        is_check: arguments.get_flag(CHECK),
         roll_at: u64::from(arguments.get_one::<u32>("roll-at").unwrap_or(65_536)),
     })
 }
 
-/// The plan of a run that is told of as a frontend of this name.
-pub(crate) fn with_frontend<'a>(plan: Plan<'a>, frontend: &'a str) -> Plan<'a>
+/// The plan of a run that is told of as a frontend and a server of these names.
+pub(crate) fn with_names<'a>(plan: Plan<'a>, frontend: &'a str, server: &'a str) -> Plan<'a>
     ensures frontend { result.watch.about.frontend.now ≡ frontend.now }
+    ensures server { result.watch.about.server.now ≡ server.now }
     ensures threads { result.threads ≡ plan.entry.threads }
     ensures socket { result.socket ≡ plan.entry.socket }
 {
     let about = About {
         frontend,
+        server,
         ..plan.watch.about
     };
     let watch = WatchPlan {

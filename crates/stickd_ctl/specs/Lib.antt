@@ -7,3 +7,7 @@ pub mod Json
 pub mod Stopping
 pub mod Saving
 pub mod Names
+pub mod LastWord
+pub mod Replacing
+pub mod Windows
+pub mod Hints

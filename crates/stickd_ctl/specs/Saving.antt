@@ -8,6 +8,7 @@ use Rattle.base_lines.specs.Parts.{parts, is_line_end}
 use Rattle.stored_data.specs.Data.{is_settable}
 use Rattle.stored_data.specs.declared.field.Field.{Field}
 use Rattle.table_texts.specs.FieldNames.{field_of}
+use Rattle.table_cli.specs.SavedEnd.{first_text, last_text}
 use Rattle.stickd_ctl.specs.Lines.{HeaderText, behind, is_row, key_of, value_of}
 use Rattle.stickd_ctl.specs.Json.{name_of, numbers_of}
 use Rattle.stickd_ctl.specs.declared.saved.Entry.{Entry}
@@ -91,22 +92,23 @@ lost_text table count = codes "# not saved of table " ++ table ++ codes ": " ++ 
 abbrev pub loss_text : List ℕ → ℕ → List ℕ
 loss_text table count = if count == 0 then [] else lost_text table count
 
--- what isn't saved of any table
+-- what each line is, and what isn't saved of any table
 abbrev pub first_notes : List ℕ
 first_notes =
-    codes "# saved by stickd: the ms that an entry has left, and the command that makes it\n"
+    codes "# each line has the ms that an entry has left, and the command that makes it\n"
     ++ codes "# not saved: rates, and which connections hold an entry\n"
 
 -- what is said where some listing doesn't tell which entry goes first
 abbrev pub order_note : Bool → List ℕ
 order_note is_known = if is_known then [] else codes "# not known: which of two entries goes first that have the same time left, as all of a table without expire\n"
 
--- whether each listing told which entry goes first, how many entries aren't saved, and the lines of the others
+-- whether each listing told which entry goes first, how many entries aren't saved, the lines of the others, and how many these are
 pub record SavedText : Type 0 where
   pub order_known : Bool
   pub losses : List ℕ
   pub lines : List ℕ
+  pub entries : ℕ
 
--- the whole text: what isn't saved or known, and the lines of the entries
+-- the whole text: the line by which such a file is known, what isn't saved or known, the lines of the entries, and how many these are
 abbrev pub whole_text : SavedText → List ℕ
-whole_text saved = first_notes ++ order_note saved.order_known ++ saved.losses ++ saved.lines
+whole_text saved = first_text ++ first_notes ++ order_note saved.order_known ++ saved.losses ++ saved.lines ++ last_text saved.entries

@@ -1,18 +1,21 @@
 //! `stickd ctl`: commands to a running stickd, and its answers.
 
-use crate::client::{BAD_WORDS, DONE, FAILED, answer_of, is_on_terminal, say_no_memory, show};
+use crate::client::{
+    BAD_WORDS, DONE, FAILED, Peer, answer_in_time, is_on_terminal, say_no_memory, show,
+};
 use crate::errors::{is_command, is_error};
+use crate::hints::{asks_for_help, hint};
 use crate::json::push_json;
 use crate::marks::push_marked;
 use crate::saving::save_tables;
+use crate::terminal::{HOME, read_window};
+use crate::window::{Window, push_fitting};
 use base_sequence::NoMemory;
 use std::alloc::Global;
 use std::net::Net;
+use std::rt::{Env, Files};
 use std::time::{Clock, Duration};
 use std::{io, thread};
-
-/// What the terminal's cursor goes home by, and what all behind it is cleared by.
-pub(crate) const HOME: &[u8] = b"\x1b[H\x1b[J";
 
 /// The word that asks for what tables hold.
 const SAVE: &str = "save";
@@ -28,6 +31,20 @@ pub struct Ctl<'a> {
     pub json: bool,
     /// After how many seconds the answer is shown again, if at all.
     pub watch: Option<u64>,
+    /// The file to which what tables hold is saved, where that isn't standard output.
+    pub to: Option<&'a str>,
+    /// How long stickd may say nothing, in ms.
+    pub patience: u64,
+}
+
+impl<'a> Ctl<'a> {
+    /// Whom it asks.
+    fn peer(&self) -> Peer<'a> {
+        Peer {
+            path: self.path,
+            patience: self.patience,
+        }
+    }
 }
 
 /// Words with a blank between any two.
@@ -53,20 +70,24 @@ fn shown(alloc: Global, asked: &Ctl<'_>, answer: &[u8]) -> Result<Vec<u8>, NoMem
     Ok(text)
 }
 
-/// What is shown of an answer in place: JSON, or its lines behind marks of those that weren't there the last time.
+/// What is shown of an answer in place: JSON, or its lines behind marks of those that weren't there the last time, as far as they fit.
 fn shown_in_place(
     alloc: Global,
     asked: &Ctl<'_>,
     last: Option<&[u8]>,
     answer: &[u8],
+    window: Window,
 ) -> Result<Vec<u8>, NoMemory> {
+    let mut lines = Vec::new(alloc);
+    if asked.json {
+        push_json(&mut lines, answer)?;
+    } else {
+        let answer = answer.trim_ascii_end();
+        push_marked(&mut lines, last.unwrap_or(answer), answer)?;
+    }
     let mut text = Vec::new(alloc);
     text.extend_from_slice(HOME)?;
-    if asked.json {
-        push_json(&mut text, answer)?;
-    } else {
-        push_marked(&mut text, last.unwrap_or(answer), answer)?;
-    }
+    push_fitting(&mut text, lines.trim_ascii_end(), window)?;
     Ok(text)
 }
 
@@ -76,19 +97,24 @@ fn ask_once<R: Net + Print + Eprint + AllocGlobal>(
     asked: &Ctl<'_>,
     command: &[u8],
 ) -> io::Result<u8> {
-    let Some(answer) = answer_of(rt, asked.path, command)? else {
+    let Some(answer) = answer_in_time(rt, asked.peer(), command)? else {
         return Ok(FAILED);
     };
     let Ok(text) = shown(rt.alloc(), asked, &answer) else {
         return say_no_memory(rt);
     };
     show(rt, &text)?;
-    Ok(if is_error(&answer) { FAILED } else { DONE })
+    let is_known = !is_error(&answer);
+    if asks_for_help(command) && !asked.json {
+        show(rt, hint(is_known).as_bytes())?;
+        return Ok(DONE);
+    }
+    Ok(if is_known { DONE } else { FAILED })
 }
 
 /// Asks again and again, until nobody answers. Off a terminal, the empty line that ends an answer parts it from the next, and
 /// JSON has one of its own.
-fn ask_again<R: Net + Clock + Print + Eprint + AllocGlobal>(
+fn ask_again<R: Net + Clock + Env + Print + Eprint + AllocGlobal>(
     rt: &R,
     asked: &Ctl<'_>,
     command: &[u8],
@@ -97,11 +123,11 @@ fn ask_again<R: Net + Clock + Print + Eprint + AllocGlobal>(
     let in_place = is_on_terminal();
     let mut last: Option<Vec<u8>> = None;
     for turn in 0..u64::MAX {
-        let Some(answer) = answer_of(rt, asked.path, command)? else {
+        let Some(answer) = answer_in_time(rt, asked.peer(), command)? else {
             return Ok(FAILED);
         };
         let text = if in_place {
-            shown_in_place(rt.alloc(), asked, last.as_deref(), &answer)
+            shown_in_place(rt.alloc(), asked, last.as_deref(), &answer, read_window(rt))
         } else {
             shown(rt.alloc(), asked, &answer)
         };
@@ -118,8 +144,8 @@ fn ask_again<R: Net + Clock + Print + Eprint + AllocGlobal>(
     Ok(DONE)
 }
 
-/// Writes what tables hold to standard output, and answers the status, as `save_tables`; 2 where it is asked as JSON, or again.
-fn save<R: Net + Print + Eprint + AllocGlobal>(
+/// Writes what tables hold, and answers the status, as `save_tables`; 2 where it is asked as JSON, or again.
+fn save<R: Net + Files + Print + Eprint + AllocGlobal>(
     rt: &R,
     asked: &Ctl<'_>,
     tables: &[&str],
@@ -128,13 +154,13 @@ fn save<R: Net + Print + Eprint + AllocGlobal>(
         eprintln!(rt; "stickd: save takes no --json and no --watch")?;
         return Ok(BAD_WORDS);
     }
-    save_tables(rt, asked.path, tables)
+    save_tables(rt, asked.peer(), tables, asked.to)
 }
 
 /// Sends commands to a running stickd, shows what it answers, and answers the status: 0; 1 where a command did nothing or
 /// nobody answers, which is said on standard error; 2 where the words are no line of commands. Where the first word is `save`,
-/// nothing is sent but `show table`, and what the tables of the other words hold is written.
-pub fn ask_running<R: Net + Clock + Print + Eprint + AllocGlobal>(
+/// nothing is sent but `show table`, and what the tables of the other words hold is written, to a file where one is named.
+pub fn ask_running<R: Net + Files + Clock + Env + Print + Eprint + AllocGlobal>(
     rt: &R,
     asked: &Ctl<'_>,
 ) -> io::Result<u8> {
@@ -142,6 +168,10 @@ pub fn ask_running<R: Net + Clock + Print + Eprint + AllocGlobal>(
         if *first == SAVE {
             return save(rt, asked, tables);
         }
+    }
+    if asked.to.is_some() {
+        eprintln!(rt; "stickd: --to is for 'save' alone")?;
+        return Ok(BAD_WORDS);
     }
     let Ok(command) = joined(rt.alloc(), asked.words) else {
         return say_no_memory(rt);

@@ -1,8 +1,9 @@
 //! What tables hold, as the lines that `--load` reads: `saving` makes them of a running stickd's listings, and `tcp_proxy` of its
 //! own as it stops.
 
-ghost use Rattle.std.specs.Prelude.{◌≡◌, ◌&&◌, ◌++◌, true, List, ℕ, [], IfOk, OnOk, length};
+ghost use Rattle.std.specs.Prelude.{◌≡◌, ◌+◌, ◌&&◌, ◌++◌, true, List, ℕ, [], IfOk, OnOk, length};
 ghost use Rattle.std.specs.List.{flat_map};
+ghost use Rattle.table_cli.specs.SavedEnd.{last_text};
 ghost use Rattle.stickd_ctl.specs.Json.{numbers_of};
 ghost use Rattle.stickd_ctl.specs.Saving as spec;
 ghost use Rattle.stickd_ctl.specs.Saving.{AreOf, AreOrdered, IsSavedAs, entry_text, head_text, is_lost, loss_text, lost_lines, lost_text, order_note, pair_text, saved_lines, whole_text};
@@ -13,6 +14,7 @@ use base_sequence::NoMemory;
 use std::alloc::Global;
 use std::marker::Model;
 use stored_data::settable;
+use table_cli::{END_MARK, FIRST_LINE};
 use table_texts::read_field;
 
 /// The longest life of an entry, in ms.
@@ -20,7 +22,7 @@ const LONGEST_LIFE: u64 = 0x7fff_ffff;
 
 /// What isn't saved of any table.
 const FIRST_NOTES: &[u8] = b"\
-# saved by stickd: the ms that an entry has left, and the command that makes it
+# each line has the ms that an entry has left, and the command that makes it
 # not saved: rates, and which connections hold an entry
 ";
 
@@ -219,18 +221,30 @@ fn push_lost(text: &mut Vec<u8>, table: &[u8], count: u64) -> Result<(), NoMemor
     Ok(())
 }
 
-/// Appends the entries of a listing, in the order in which they go.
+/// Appends the entries of a listing, in the order in which they go, and answers how many there are.
 fn push_listing(
     alloc: Global,
     text: &mut Vec<u8>,
     table: &[u8],
     listing: &[u8],
-) -> Result<(), NoMemory>
-    ensures { OnOk result ((lines : List ℕ) × IsSavedAs table.now listing.now lines × (text.new.items ≡ text.old.items ++ lines)) }
+) -> Result<u64, NoMemory>
+    ensures lines { OnOk result ((lines : List ℕ) × IsSavedAs table.now listing.now lines × (text.new.items ≡ text.old.items ++ lines)) }
+    ensures count { IfOk result (λ count. count ≡ length (saved_lines listing.now)) }
 {
     let mut entries = entries_of(alloc, listing)?;
+    let count = entries.as_slice().len() as u64;
     order(alloc, &mut entries)?;
     push_entries(text, table, entries.as_slice())?;
+    Ok(count)
+}
+
+/// Appends the last line, which says how many entries there are.
+fn push_end(text: &mut Vec<u8>, entries: u64) -> Result<(), NoMemory>
+    ensures { OnOk result (text.new.items ≡ text.old.items ++ last_text entries) }
+{
+    text.extend_from_slice(END_MARK)?;
+    push_decimal(text, entries)?;
+    text.extend_from_slice(b"\n")?;
     Ok(())
 }
 
@@ -245,13 +259,15 @@ fn push_order(text: &mut Vec<u8>, is_known: bool) -> Result<(), NoMemory>
     Ok(())
 }
 
-/// What tables held, so far. Contracts see whether the order of all entries is known, what isn't saved, and the lines of the others.
+/// What tables held, so far. Contracts see whether the order of all entries is known, what isn't saved, the lines of the others, and how
+/// many these are.
 #[derive(Drop)]
 pub struct Saved {
     alloc: Global,
     order_known: bool,
     losses: Vec<u8>,
     lines: Vec<u8>,
+    entries: u64,
 }
 
 impl Model for Saved {
@@ -259,19 +275,20 @@ impl Model for Saved {
 
     ghost Value = { SavedText };
 
-    ghost view = { λ saved. record { order_known = saved.order_known; losses = saved.losses.items; lines = saved.lines.items } };
+    ghost view = { λ saved. record { order_known = saved.order_known; losses = saved.losses.items; lines = saved.lines.items; entries = saved.entries } };
 }
 
 impl Saved {
     /// No table yet.
     pub fn new(alloc: Global) -> Saved
-        ensures { result ≡ record { order_known = true; losses = []; lines = [] } }
+        ensures { result ≡ record { order_known = true; losses = []; lines = []; entries = 0 } }
     {
         Saved {
             alloc,
             order_known: true,
             losses: Vec::new(alloc),
             lines: Vec::new(alloc),
+            entries: 0,
         }
     }
 
@@ -286,14 +303,20 @@ impl Saved {
         ensures order { OnOk result (self.new.order_known ≡ (self.old.order_known && is_oldest_first)) }
         ensures losses { OnOk result (self.new.losses ≡ self.old.losses ++ loss_text table.now (length (lost_lines listing.now))) }
         ensures lines { OnOk result ((lines : List ℕ) × IsSavedAs table.now listing.now lines × (self.new.lines ≡ self.old.lines ++ lines)) }
+        ensures entries { OnOk result (self.new.entries ≡ self.old.entries + length (saved_lines listing.now)) }
     {
         push_loss(&mut self.losses, table, count_lost(listing))?;
-        push_listing(self.alloc, &mut self.lines, table, listing)?;
+        let count = push_listing(self.alloc, &mut self.lines, table, listing)?;
+        // Each entry has a line in memory, so that there are never as many.
+        let Some(entries) = self.entries.checked_add(count) else {
+            return Err(NoMemory);
+        };
+        self.entries = entries;
         self.order_known = self.order_known && is_oldest_first;
         Ok(())
     }
 
-    /// The whole text: what isn't saved or known, and then the lines of the entries.
+    /// The whole text: what isn't saved or known, the lines of the entries, and how many these are.
     pub fn into_text(self) -> Result<Vec<u8>, NoMemory>
         ensures { IfOk result (λ text. text.items ≡ whole_text self) }
     {
@@ -302,12 +325,15 @@ impl Saved {
             order_known,
             losses,
             lines,
+            entries,
         } = self;
         let mut text = Vec::new(alloc);
+        text.extend_from_slice(FIRST_LINE)?;
         text.extend_from_slice(FIRST_NOTES)?;
         push_order(&mut text, order_known)?;
         text.extend_from_slice(losses.as_slice())?;
         text.extend_from_slice(lines.as_slice())?;
+        push_end(&mut text, entries)?;
         Ok(text)
     }
 }

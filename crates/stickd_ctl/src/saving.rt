@@ -4,15 +4,17 @@ ghost use Rattle.std.specs.Prelude.{◌≡◌};
 ghost use Rattle.std.specs.List.{list_all};
 ghost use Rattle.stickd_ctl.specs.Names as spec;
 
-use crate::client::{BAD_WORDS, DONE, FAILED, answer_of, say_no_memory, show};
+use crate::client::{BAD_WORDS, DONE, FAILED, Peer, answer_in_time, say_no_memory, show};
 use crate::errors::is_error;
 use crate::lines::{read_header, split_at_first};
+use crate::replacing::{replace_file, try_to_replace};
 use crate::saved::Saved;
 use crate::show_table::{oldest_first_command, show_command};
 use base_lines::Parts;
 use base_sequence::NoMemory;
 use std::alloc::Global;
 use std::net::Net;
+use std::rt::Files;
 use std::{io, str};
 
 /// What asks for the headers of all tables.
@@ -83,10 +85,10 @@ impl From<io::Error> for Unsaved {
 /// What a command is answered, where it did something.
 fn asked<R: Net + Eprint + AllocGlobal>(
     rt: &R,
-    path: &str,
+    peer: Peer<'_>,
     command: &[u8],
 ) -> Result<Vec<u8>, Unsaved> {
-    let Some(answer) = answer_of(rt, path, command)? else {
+    let Some(answer) = answer_in_time(rt, peer, command)? else {
         return Err(Unsaved::Said(FAILED));
     };
     if is_error(&answer) {
@@ -100,6 +102,7 @@ fn asked<R: Net + Eprint + AllocGlobal>(
         return Err(Unsaved::Said(FAILED));
     }
     if !answer.ends_with(b"\n\n") {
+        let path = peer.path;
         eprintln!(rt; "stickd: {path} was closed before the answer's end")?;
         return Err(Unsaved::Said(FAILED));
     }
@@ -110,11 +113,11 @@ fn asked<R: Net + Eprint + AllocGlobal>(
 /// a stickd that is older; then `show table` tells the rest, or why it doesn't.
 fn asked_oldest_first<R: Net + Eprint + AllocGlobal>(
     rt: &R,
-    path: &str,
+    peer: Peer<'_>,
     name: &[u8],
 ) -> Result<Option<Vec<u8>>, Unsaved> {
     let command = oldest_first_command(rt.alloc(), name)?;
-    let Some(answer) = answer_of(rt, path, command.as_slice())? else {
+    let Some(answer) = answer_in_time(rt, peer, command.as_slice())? else {
         return Err(Unsaved::Said(FAILED));
     };
     if is_error(&answer) || !answer.ends_with(b"\n\n") {
@@ -126,16 +129,16 @@ fn asked_oldest_first<R: Net + Eprint + AllocGlobal>(
 /// Adds what a table holds.
 fn save_table<R: Net + Eprint + AllocGlobal>(
     rt: &R,
-    path: &str,
+    peer: Peer<'_>,
     name: &[u8],
     saved: &mut Saved,
 ) -> Result<(), Unsaved> {
-    if let Some(listing) = asked_oldest_first(rt, path, name)? {
+    if let Some(listing) = asked_oldest_first(rt, peer, name)? {
         saved.add(name, listing.as_slice(), true)?;
         return Ok(());
     }
     let command = show_command(rt.alloc(), name)?;
-    let listing = asked(rt, path, command.as_slice())?;
+    let listing = asked(rt, peer, command.as_slice())?;
     saved.add(name, listing.as_slice(), false)?;
     Ok(())
 }
@@ -143,12 +146,12 @@ fn save_table<R: Net + Eprint + AllocGlobal>(
 /// Adds what each of these tables holds.
 fn save_each<R: Net + Eprint + AllocGlobal>(
     rt: &R,
-    path: &str,
+    peer: Peer<'_>,
     names: &[&[u8]],
     saved: &mut Saved,
 ) -> Result<(), Unsaved> {
     for name in names {
-        save_table(rt, path, name, saved)?;
+        save_table(rt, peer, name, saved)?;
     }
     Ok(())
 }
@@ -156,17 +159,17 @@ fn save_each<R: Net + Eprint + AllocGlobal>(
 /// What the tables of these names hold; of all, where none are named.
 fn saved_text<R: Net + Eprint + AllocGlobal>(
     rt: &R,
-    path: &str,
+    peer: Peer<'_>,
     words: &[&str],
 ) -> Result<Vec<u8>, Unsaved> {
     let mut saved = Saved::new(rt.alloc());
     if words.is_empty() {
-        let headers = asked(rt, path, SHOW)?;
+        let headers = asked(rt, peer, SHOW)?;
         let names = names_in(rt.alloc(), headers.as_slice())?;
-        save_each(rt, path, names.as_slice(), &mut saved)?;
+        save_each(rt, peer, names.as_slice(), &mut saved)?;
     } else {
         let names = names_of(rt.alloc(), words)?;
-        save_each(rt, path, names.as_slice(), &mut saved)?;
+        save_each(rt, peer, names.as_slice(), &mut saved)?;
     }
     Ok(saved.into_text()?)
 }
@@ -181,25 +184,43 @@ fn first_bad<'a>(words: &[&'a str]) -> Option<&'a str> {
     None
 }
 
-/// Writes what the tables of these names hold, or all tables, to standard output, as lines that `--load` reads. Answers the status:
-/// 0; 1 where nobody answers, or there is no such table, which is said on standard error, and nothing is written; 2 where a word
-/// is no table's name.
-pub(crate) fn save_tables<R: Net + Print + Eprint + AllocGlobal>(
+/// Writes a text to a file, whole, or says why that can't be done. Answers the status.
+fn save_to<R: Files + Eprint + AllocGlobal>(rt: &R, path: &str, text: &[u8]) -> io::Result<u8> {
+    let written = match try_to_replace(rt.alloc(), rt, path) {
+        Ok(()) => replace_file(rt.alloc(), path, text),
+        Err(reason) => Err(reason),
+    };
+    match written {
+        Ok(()) => Ok(DONE),
+        Err(reason) => {
+            eprintln!(rt; "stickd: {path} can't be written: {reason}")?;
+            Ok(FAILED)
+        }
+    }
+}
+
+/// Writes what the tables of these names hold, or all tables, to a file or else to standard output, as lines that `--load` reads.
+/// Answers the status: 0; 1 where nobody answers, there is no such table, or the file can't be written, which is said on standard
+/// error, and nothing is written; 2 where a word is no table's name.
+pub(crate) fn save_tables<R: Net + Files + Print + Eprint + AllocGlobal>(
     rt: &R,
-    path: &str,
+    peer: Peer<'_>,
     words: &[&str],
+    to: Option<&str>,
 ) -> io::Result<u8> {
     if let Some(word) = first_bad(words) {
         eprintln!(rt; "stickd: '{word}' is no table's name")?;
         return Ok(BAD_WORDS);
     }
-    match saved_text(rt, path, words) {
-        Ok(text) => {
-            show(rt, text.as_slice())?;
-            Ok(DONE)
-        }
-        Err(Unsaved::Said(status)) => Ok(status),
-        Err(Unsaved::Memory) => say_no_memory(rt),
-        Err(Unsaved::Output(reason)) => Err(reason),
-    }
+    let text = match saved_text(rt, peer, words) {
+        Ok(text) => text,
+        Err(Unsaved::Said(status)) => return Ok(status),
+        Err(Unsaved::Memory) => return say_no_memory(rt),
+        Err(Unsaved::Output(reason)) => return Err(reason),
+    };
+    let Some(path) = to else {
+        show(rt, text.as_slice())?;
+        return Ok(DONE);
+    };
+    save_to(rt, path, text.as_slice())
 }

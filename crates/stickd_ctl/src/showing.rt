@@ -1,22 +1,26 @@
 //! `stickd top`: the entries of a table with the greatest numbers.
 
-use crate::asking::HOME;
 use crate::client::{DONE, FAILED, answer_of, is_on_terminal, say_no_memory, show};
 use crate::columns::{Texts, columns};
 use crate::errors::is_error;
 use crate::lines::{bare_name, is_row, key_of, name_of, number_of_word, read_header, value_of};
 use crate::ranking::greatest;
 use crate::show_table::show_command;
-use base_lines::{Parts, before_parenthesis, push_decimal, read_number};
+use crate::terminal::{HOME, read_window};
+use crate::window::Window;
+use base_lines::{Parts, before_parenthesis, push_decimal};
 use base_sequence::NoMemory;
 use std::alloc::Global;
 use std::net::Net;
 use std::rt::Env;
 use std::time::{Clock, Duration};
-use std::{env, io, str, thread};
+use std::{io, str, thread};
 
-/// How wide a terminal is taken to be that doesn't say.
-const WIDTH: usize = 80;
+/// What is shown where no terminal bounds it.
+const UNBOUNDED: Window = Window {
+    lines: usize::MAX,
+    columns: usize::MAX,
+};
 
 /// What `stickd top` is asked.
 #[derive(Clone, Copy, Drop)]
@@ -164,8 +168,13 @@ fn grid(
     Ok(lines)
 }
 
-/// A picture of the table that an answer shows.
-fn draw(alloc: Global, answer: &[u8], asked: &Top<'_>, width: usize) -> Result<Picture, NoMemory> {
+/// A picture of the table that an answer shows, with no more entries than a window has room for.
+fn draw(
+    alloc: Global,
+    answer: &[u8],
+    asked: &Top<'_>,
+    window: Window,
+) -> Result<Picture, NoMemory> {
     let rows = rows_of(alloc, answer)?;
     let words = match rows.first() {
         Some(row) => numbers_of(alloc, row)?,
@@ -178,8 +187,9 @@ fn draw(alloc: Global, answer: &[u8], asked: &Top<'_>, width: usize) -> Result<P
     if !rows.is_empty() && !words.iter().any(|word| bare_name(word) == name) {
         return Ok(Picture::NoSuchNumber(names_of(alloc, &words)?));
     }
-    let lines = grid(alloc, &rows, &words, name, asked.rows)?;
-    Ok(Picture::Lines(columns(alloc, &lines, width)?))
+    let most = asked.rows.min(window.entries());
+    let lines = grid(alloc, &rows, &words, name, most)?;
+    Ok(Picture::Lines(columns(alloc, &lines, window.columns)?))
 }
 
 /// The names of numbers, as a list.
@@ -243,17 +253,6 @@ fn table_command<R: Net + Eprint + AllocGlobal>(
     }
 }
 
-/// How wide a terminal says it is.
-fn terminal_width<R: Env + AllocGlobal>(rt: &R) -> usize {
-    let Ok(columns) = env::var(rt, "COLUMNS") else {
-        return WIDTH;
-    };
-    match read_number(columns.as_str().as_bytes()) {
-        Some(0) | None => WIDTH,
-        Some(width) => usize::try_from(width).unwrap_or(WIDTH),
-    }
-}
-
 /// Shows the entries once, in place or plain, and answers the status.
 fn show_once<R: Net + Env + Print + Eprint + AllocGlobal>(
     rt: &R,
@@ -267,12 +266,8 @@ fn show_once<R: Net + Env + Print + Eprint + AllocGlobal>(
     if is_error(&answer) {
         return say(rt, "", answer.trim_ascii_end());
     }
-    let width = if in_place {
-        terminal_width(rt)
-    } else {
-        usize::MAX
-    };
-    match draw(rt.alloc(), &answer, asked, width) {
+    let window = if in_place { read_window(rt) } else { UNBOUNDED };
+    match draw(rt.alloc(), &answer, asked, window) {
         Ok(Picture::Lines(lines)) => {
             if in_place {
                 show(rt, HOME)?;

@@ -1,16 +1,21 @@
 //! `stickd stop`: a running stickd is asked to stop, and waited for; `stickd` calls `stop_running`.
+//!
+//! The program is waited for by its socket alone, since its process may be in another namespace. As it ends it says its last word
+//! to who is connected, and holds that connection until it is gone.
 
 ghost use Rattle.std.specs.Prelude.{◌≡◌};
 ghost use Rattle.stickd_ctl.specs.Stopping as spec;
 
-use crate::client::{DONE, FAILED, answer_of, say_no_memory};
+use crate::client::{DONE, FAILED, Peer, answer_in_time, connect, is_late, say_late, send};
+use crate::last_word::{LastWord, read_last_word};
 use crate::lines::number_after;
 use base_lines::Parts;
+use std::alloc::{AllocError, Global};
+use std::io::{self, ErrorKind, Read};
 use std::net::Net;
 use std::os::unix::net::UnixStream;
-use std::rt::Files;
-use std::time::{Clock, Duration};
-use std::{fs, io, thread};
+use std::thread;
+use std::time::{Clock, Duration, Instant};
 
 /// What stands before the number of the process in what `show info` answers.
 const PID: &[u8] = b"Pid: ";
@@ -18,39 +23,73 @@ const PID: &[u8] = b"Pid: ";
 /// How long it waits between two looks, in ms.
 const LOOK: u64 = 50;
 
-/// How much longer than the drain the program may take to settle its tables and end, in ms.
-const GRACE: u64 = 10_000;
+/// How many bytes of what a look is answered are read at most, which is more than any last word has.
+const MOST_BYTES: usize = 64;
 
 /// What `stickd stop` is asked.
 #[derive(Clone, Copy, Drop)]
 pub struct Stop<'a> {
     /// The stats socket of the program that is to stop.
     pub path: &'a str,
-    /// How long its open connections may go on, in ms.
-    pub drain: u64,
+    /// How long its open connections may go on, in ms. None where the program's own time counts.
+    pub drain: Option<u64>,
+    /// How long it may say nothing, and how much longer than the drain it may take, in ms.
+    pub patience: u64,
 }
 
-/// What to do after a look whether a program is still there that was asked to stop.
+impl<'a> Stop<'a> {
+    /// Whom it asks.
+    fn peer(&self) -> Peer<'a> {
+        Peer {
+            path: self.path,
+            patience: self.patience,
+        }
+    }
+}
+
+/// What a look at the socket of a program shows that was asked to stop.
+#[derive(Clone, Copy, Debug, PartialEq, Eq)]
+pub enum Seen {
+    /// It still answers.
+    Runs,
+    /// It has said its last word, and is gone.
+    Said(LastWord),
+    /// The socket's file is gone.
+    Gone,
+    /// The file is there, and nobody listens.
+    Dead,
+    /// It took the client, and said nothing in time.
+    Silent,
+}
+
+/// What to do after a look at the socket of a program that was asked to stop.
 #[derive(Clone, Copy, Debug, PartialEq, Eq)]
 pub enum AfterLook {
-    /// It has ended.
+    /// It has ended in order.
     Done,
+    /// It has ended, and couldn't save its tables.
+    NotSaved,
+    /// It has ended, and not in order.
+    Died,
+    /// It stands still.
+    StandsStill,
     LookAgain,
     /// It has had its time.
     GiveUp,
 }
 
 /// What to do after a look, where it was waited for so many ms and may take `most`.
-pub fn after_look(is_there: bool, waited: u64, most: u64) -> AfterLook
-    ensures { result ≡ spec.after_look is_there waited most }
+pub fn after_look(seen: Seen, waited: u64, most: u64) -> AfterLook
+    ensures { result ≡ spec.after_look seen waited most }
 {
-    if !is_there {
-        return AfterLook::Done;
-    }
-    if waited < most {
-        AfterLook::LookAgain
-    } else {
-        AfterLook::GiveUp
+    match seen {
+        Seen::Runs if waited < most => AfterLook::LookAgain,
+        Seen::Runs => AfterLook::GiveUp,
+        Seen::Said(LastWord::Stopped) => AfterLook::Done,
+        Seen::Said(LastWord::Unsaved) => AfterLook::NotSaved,
+        Seen::Gone => AfterLook::Done,
+        Seen::Dead => AfterLook::Died,
+        Seen::Silent => AfterLook::StandsStill,
     }
 }
 
@@ -67,26 +106,6 @@ pub fn pid_of(answer: &[u8]) -> Option<u64>
     None
 }
 
-/// Whether a line of `/proc/PID/status` says that the process has ended, and is kept only until its parent asks how.
-fn tells_end(line: &[u8]) -> bool
-    ensures { result ≡ spec.tells_end line.now }
-{
-    line.starts_with(b"State:\tZ") || line.starts_with(b"State:\tX")
-}
-
-/// Whether a process runs, by its `/proc/PID/status` (proc(5)).
-pub fn is_running(status: &[u8]) -> bool
-    ensures { result ≡ spec.is_running status.now }
-{
-    let mut lines = Parts::new(status, b'\n');
-    while let Some(line) = lines.next() {
-        if tells_end(line) {
-            return false;
-        }
-    }
-    true
-}
-
 /// Whether an answer says nothing, as that to a command which was done.
 pub fn is_quiet(answer: &[u8]) -> bool
     ensures { result ≡ spec.is_quiet answer.now }
@@ -94,56 +113,38 @@ pub fn is_quiet(answer: &[u8]) -> bool
     answer.iter().all(|byte| *byte == b'\n')
 }
 
-/// What shows that a program is still there.
-#[derive(Clone, Copy)]
-enum Sign<'a> {
-    /// What the system tells of its process, at this path.
-    Process(&'a str),
-    /// That its socket, at this path, takes a client.
-    Socket(&'a str),
-}
-
-/// Whether a process is there and hasn't ended, by where the system tells of it.
-fn runs<R: Files + AllocGlobal>(rt: &R, path: &str) -> bool {
-    match fs::read(rt, path) {
-        Ok(status) => is_running(&status),
-        Err(_reason) => false,
+/// The command that stops a program, whose connections may go on for so many ms, or for its own time.
+fn stop_command(alloc: Global, drain: Option<u64>) -> Result<String, AllocError> {
+    match drain {
+        Some(drain) => format!(in alloc; "stop {drain}"),
+        None => format!(in alloc; "stop"),
     }
 }
 
-/// Whether a program is still there.
-fn is_there<R: Net + Files + AllocGlobal>(rt: &R, sign: Sign<'_>) -> bool {
-    match sign {
-        Sign::Process(path) => runs(rt, path),
-        Sign::Socket(path) => UnixStream::connect(rt, path).is_ok(),
+/// How many ms a program may take to end that was asked so: its drain, and some more. Its own drain isn't known here.
+fn most_wait(drain: Option<u64>, patience: u64) -> u64
+    ensures { result ≡ spec.most_wait drain patience }
+{
+    match drain {
+        Some(drain) => drain.saturating_add(patience),
+        None => u64::MAX,
     }
 }
 
-/// Waits until a program isn't there any more, for so many ms at most. Whether that came.
-fn wait_for<R: Net + Files + Clock + AllocGlobal>(rt: &R, sign: Sign<'_>, most: u64) -> bool {
-    let mut waited = 0u64;
-    for _look in 0..u64::MAX {
-        match after_look(is_there(rt, sign), waited, most) {
-            AfterLook::Done => return true,
-            AfterLook::GiveUp => return false,
-            AfterLook::LookAgain => {
-                thread::sleep(rt, Duration::from_millis(LOOK));
-                waited = waited.saturating_add(LOOK);
-            }
-        }
-    }
-    false
-}
-
-/// Sends the command that stops a program, whose connections may go on for so many ms. Whether it took it.
-fn ask_to_stop<R: Net + Eprint + AllocGlobal>(rt: &R, path: &str, drain: u64) -> io::Result<bool> {
-    let Ok(command) = format!(in rt.alloc(); "stop {drain}") else {
+/// Sends the command that stops a program, whose connections may go on for so many ms, or for its own time. Whether it took it.
+fn ask_to_stop<R: Net + Eprint + AllocGlobal>(
+    rt: &R,
+    peer: Peer<'_>,
+    drain: Option<u64>,
+) -> io::Result<bool> {
+    let Ok(command) = stop_command(rt.alloc(), drain) else {
         eprintln!(rt; "stickd: out of memory")?;
         return Ok(false);
     };
-    match answer_of(rt, path, command.as_bytes())? {
+    match answer_in_time(rt, peer, command.as_bytes())? {
         Some(answer) if is_quiet(&answer) => Ok(true),
         Some(_words) => {
+            let path = peer.path;
             eprintln!(rt; "stickd: {path} doesn't take 'stop'")?;
             Ok(false)
         }
@@ -151,35 +152,120 @@ fn ask_to_stop<R: Net + Eprint + AllocGlobal>(rt: &R, path: &str, drain: u64) ->
     }
 }
 
-/// Asks a running stickd to stop, waits until it has ended, and answers the status: 0; 1 where nobody answers, it doesn't take
-/// the command, or it is still there 10 s behind its drain, which is said on standard error. Where the system doesn't tell of its
-/// process here, as from within another container, its socket is looked at instead.
-pub fn stop_running<R: Net + Files + Clock + Eprint + AllocGlobal>(
+/// What comes on a connection until it ends, at most so many bytes. A connection that is reset has ended.
+fn read_word(stream: &mut UnixStream, word: &mut [u8; MOST_BYTES]) -> io::Result<usize> {
+    let mut count = 0usize;
+    while count < MOST_BYTES {
+        match stream.read(&mut word[count..]) {
+            Ok(0) => return Ok(count),
+            Ok(more) => count = count.saturating_add(more).min(MOST_BYTES),
+            Err(reason) if reason.kind() == ErrorKind::ConnectionReset => return Ok(count),
+            Err(reason) => return Err(reason),
+        }
+    }
+    Ok(count)
+}
+
+/// What a connection shows on which nothing was said yet.
+fn listen(stream: &mut UnixStream) -> io::Result<Seen> {
+    let mut word = [0u8; MOST_BYTES];
+    // A program that ends may have reset it before it read this.
+    let _ = send(stream, b"");
+    let count = read_word(stream, &mut word)?;
+    match word.get(..count).and_then(read_last_word) {
+        Some(word) => Ok(Seen::Said(word)),
+        None => Ok(Seen::Runs),
+    }
+}
+
+/// What an error of connecting, or of listening, shows.
+fn seen_by(reason: &io::Error) -> Seen {
+    if is_late(reason) {
+        return Seen::Silent;
+    }
+    match reason.kind() {
+        ErrorKind::NotFound => Seen::Gone,
+        ErrorKind::ConnectionRefused => Seen::Dead,
+        _ => Seen::Runs,
+    }
+}
+
+/// Looks at a program's socket.
+fn look_at<R: Net>(rt: &R, peer: Peer<'_>) -> Seen {
+    let mut stream = match connect(rt, peer) {
+        Ok(stream) => stream,
+        Err(reason) => return seen_by(&reason),
+    };
+    match listen(&mut stream) {
+        Ok(seen) => seen,
+        Err(reason) => seen_by(&reason),
+    }
+}
+
+/// How many ms are over since a moment.
+fn ms_since<R: Clock>(rt: &R, began: Instant) -> io::Result<u64> {
+    let waited = began.elapsed(rt)?;
+    Ok(u64::try_from(waited.as_millis()).unwrap_or(u64::MAX))
+}
+
+/// Waits until a program has ended, for so many ms at most, or stands still.
+fn wait_for<R: Net + Clock>(rt: &R, peer: Peer<'_>, most: u64) -> io::Result<AfterLook> {
+    let began = Instant::now(rt)?;
+    for _look in 0..u64::MAX {
+        let seen = look_at(rt, peer);
+        match after_look(seen, ms_since(rt, began)?, most) {
+            AfterLook::LookAgain => thread::sleep(rt, Duration::from_millis(LOOK)),
+            end => return Ok(end),
+        }
+    }
+    Ok(AfterLook::GiveUp)
+}
+
+/// Says how a program ended that was asked to stop, or that it didn't, and answers the status.
+fn report_end<R: Eprint>(rt: &R, asked: &Stop<'_>, end: AfterLook) -> io::Result<u8> {
+    let Stop { path, patience, .. } = *asked;
+    match end {
+        AfterLook::Done => return Ok(DONE),
+        AfterLook::NotSaved => {
+            eprintln!(rt;
+                "stickd: the program at {path} has stopped, and couldn't save its tables"
+            )?;
+        }
+        AfterLook::Died => {
+            eprintln!(rt; "stickd: the program at {path} ended, and not in order")?;
+        }
+        AfterLook::StandsStill => say_late(rt, asked.peer())?,
+        AfterLook::LookAgain | AfterLook::GiveUp => {
+            eprintln!(rt;
+                "stickd: the program at {path} still runs, {patience} ms after its drain"
+            )?;
+        }
+    }
+    Ok(FAILED)
+}
+
+/// Asks a running stickd to stop, waits until it has ended, and answers the status: 0; 1 where nobody answers, or not in time, it
+/// doesn't take the command, it is still there some time after the drain that was asked for, it couldn't save its tables, or it didn't
+/// end in order. All that is said on standard error.
+pub fn stop_running<R: Net + Clock + Eprint + AllocGlobal>(
     rt: &R,
     asked: &Stop<'_>,
 ) -> io::Result<u8> {
-    let Stop { path, drain } = *asked;
-    let Some(info) = answer_of(rt, path, b"show info")? else {
+    let Stop {
+        path,
+        drain,
+        patience,
+    } = *asked;
+    let Some(info) = answer_in_time(rt, asked.peer(), b"show info")? else {
         return Ok(FAILED);
     };
-    let Some(pid) = pid_of(&info) else {
+    if pid_of(&info).is_none() {
         eprintln!(rt; "stickd: {path} is no stats socket of stickd")?;
         return Ok(FAILED);
-    };
-    let Ok(process) = format!(in rt.alloc(); "/proc/{pid}/status") else {
-        return say_no_memory(rt);
-    };
-    let sign = if runs(rt, &process) {
-        Sign::Process(&process)
-    } else {
-        Sign::Socket(path)
-    };
-    if !ask_to_stop(rt, path, drain)? {
+    }
+    if !ask_to_stop(rt, asked.peer(), drain)? {
         return Ok(FAILED);
     }
-    if wait_for(rt, sign, drain.saturating_add(GRACE)) {
-        return Ok(DONE);
-    }
-    eprintln!(rt; "stickd: the program at {path} still runs, {GRACE} ms behind its drain")?;
-    Ok(FAILED)
+    let end = wait_for(rt, asked.peer(), most_wait(drain, patience))?;
+    report_end(rt, asked, end)
 }

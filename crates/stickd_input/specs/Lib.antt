@@ -1,2 +1,4 @@
 pub mod Faults
+pub mod Haproxy
 pub mod Nearest
+pub mod Servers

@@ -3,13 +3,21 @@
 use crate::arguments::{
     add_argument, count_option, file_argument, file_command, flag_option, value_option,
 };
+use crate::haproxy_options::{
+    anyway_option, first_server_option, frontend_option, haproxy_option, names_haproxy, of_haproxy,
+};
 use crate::help::{ADOPT_HELP, CHECK_HELP, CTL_HELP, REPLAY_HELP, RUN_HELP, STOP_HELP, TOP_HELP};
 use crate::options::{
-    backlog_option, bind_option, client_option, clients_option, connect_option, connections_option,
-    drain_option, fin_option, group_option, ipv4_prefix_option, ipv6_prefix_option,
-    keepalive_option, load_option, metrics_option, mode_option, purge_option, rejected_option,
-    report_option, retries_option, roll_option, save_option, server_option, shards_option,
-    socket_option, socket_time_option, stats_option, stop_option, stopped_option, threads_option,
+    backlog_option, bind_option, check_option, client_option, clients_option, connect_option,
+    connections_option, drain_option, fin_option, group_option, ipv4_prefix_option,
+    ipv6_prefix_option, keepalive_option, level_option, metrics_option, mode_option, purge_option,
+    rejected_option, report_option, retries_option, roll_option, server_option, shards_option,
+    socket_option, socket_time_option, stats_clients_option, stats_option, stop_drain_option,
+    stop_option, stopped_option, threads_option, user_timeout_option,
+};
+use crate::saved_options::{
+    fitting_option, lenient_option, load_option, patience_option, save_every_option, save_option,
+    to_option,
 };
 use clap::{Arg, ArgMatches, Command, Error};
 use std::alloc::{AllocError, Global};
@@ -45,7 +53,18 @@ fn check_command<'a>(alloc: Global) -> Result<Command<'a>, AllocError> {
         file_argument(alloc, true, "The configuration"),
     );
     let command = add_argument(command, all_option(alloc));
-    add_argument(command, explain_option(alloc))
+    let command = add_argument(command, explain_option(alloc));
+    let command = add_argument(command, fitting_option(alloc));
+    let command = add_argument(command, shards_option(alloc));
+    let command = add_argument(
+        command,
+        haproxy_option(
+            alloc,
+            "FILE is one of HAProxy: check what 'stickd adopt' makes of it",
+        ),
+    );
+    let command = add_made(command, of_haproxy(first_server_option(alloc)));
+    add_made(command, of_haproxy(frontend_option(alloc)))
 }
 
 /// `stickd adopt`.
@@ -59,11 +78,7 @@ fn adopt_command<'a>(alloc: Global) -> Result<Command<'a>, AllocError> {
     );
     let command = add_argument(
         command,
-        flag_option(
-            alloc,
-            "anyway",
-            "Write it also where what is served changes",
-        ),
+        anyway_option(alloc, "Write it also where what is served changes"),
     );
     let command = add_argument(
         command,
@@ -73,17 +88,14 @@ fn adopt_command<'a>(alloc: Global) -> Result<Command<'a>, AllocError> {
             "Write the command line that runs it, and nothing else",
         ),
     );
-    let command = add_argument(
-        command,
-        flag_option(alloc, "first-server", "Keep the first of several servers"),
-    );
+    let command = add_argument(command, first_server_option(alloc));
+    let command = add_argument(command, frontend_option(alloc));
     add_argument(
         command,
-        value_option(
+        flag_option(
             alloc,
-            "frontend",
-            "NAME",
-            "The frontend or listen section to serve [default: the first that isn't HTTP]",
+            "verbose",
+            "Say of each line that is lost without harm why",
         ),
     )
 }
@@ -99,7 +111,7 @@ fn ctl_command<'a>(alloc: Global) -> Result<Command<'a>, AllocError> {
     );
     let command = add_argument(command, socket_option(alloc));
     let command = add_argument(command, flag_option(alloc, "json", "Show answers as JSON"));
-    add_argument(
+    let command = add_argument(
         command,
         count_option(
             alloc,
@@ -108,7 +120,9 @@ fn ctl_command<'a>(alloc: Global) -> Result<Command<'a>, AllocError> {
             3600,
             "Ask again after so many seconds, 1 to 3600, until nobody answers",
         ),
-    )
+    );
+    let command = add_argument(command, to_option(alloc));
+    add_argument(command, patience_option(alloc))
 }
 
 /// The words of commands.
@@ -172,8 +186,16 @@ fn replay_command<'a>(alloc: Global) -> Result<Command<'a>, AllocError> {
     add_argument(command, load_option(alloc))
 }
 
-/// `stickd run`.
-fn run_command<'a>(alloc: Global) -> Result<Command<'a>, AllocError> {
+/// Adds an argument to a command, if there was memory to make both.
+fn add_made<'a>(
+    command: Result<Command<'a>, AllocError>,
+    argument: Result<Arg<'a>, AllocError>,
+) -> Result<Command<'a>, AllocError> {
+    add_argument(command, argument?)
+}
+
+/// `stickd run`, of which a file of HAProxy says the socket and the threads too.
+fn run_command<'a>(alloc: Global, has_haproxy: bool) -> Result<Command<'a>, AllocError> {
     let command = file_command(
         alloc,
         "run",
@@ -181,15 +203,31 @@ fn run_command<'a>(alloc: Global) -> Result<Command<'a>, AllocError> {
         RUN_HELP,
         file_argument(alloc, true, "The configuration"),
     );
-    let command = add_argument(command, socket_option(alloc));
-    let command = add_argument(command, threads_option(alloc));
+    let command = add_argument(command, socket_option(alloc).required(!has_haproxy));
+    let command = add_argument(command, threads_option(alloc).required(!has_haproxy));
+    let command = add_argument(command, check_option(alloc));
+    let command = add_argument(
+        command,
+        haproxy_option(
+            alloc,
+            "FILE is one of HAProxy: run what 'stickd adopt' makes of it, by the options that it says",
+        ),
+    );
+    let command = add_made(
+        command,
+        of_haproxy(anyway_option(alloc, "Run it also where what is served changes")),
+    );
+    let command = add_made(command, of_haproxy(first_server_option(alloc)));
+    let command = add_made(command, of_haproxy(frontend_option(alloc)));
     let command = add_argument(command, bind_option(alloc));
     let command = add_argument(command, shards_option(alloc));
     let command = add_argument(command, purge_option(alloc));
     let command = add_argument(command, ipv4_prefix_option(alloc));
     let command = add_argument(command, ipv6_prefix_option(alloc));
     let command = add_argument(command, load_option(alloc));
+    let command = add_argument(command, lenient_option(alloc));
     let command = add_argument(command, save_option(alloc));
+    let command = add_argument(command, save_every_option(alloc));
     let command = add_argument(command, connections_option(alloc));
     let command = add_argument(command, backlog_option(alloc));
     let command = add_argument(command, connect_option(alloc));
@@ -198,11 +236,14 @@ fn run_command<'a>(alloc: Global) -> Result<Command<'a>, AllocError> {
     let command = add_argument(command, server_option(alloc));
     let command = add_argument(command, fin_option(alloc));
     let command = add_argument(command, keepalive_option(alloc));
+    let command = add_argument(command, user_timeout_option(alloc));
     let command = add_argument(command, mode_option(alloc));
     let command = add_argument(command, group_option(alloc));
+    let command = add_argument(command, level_option(alloc));
     let command = add_argument(command, clients_option(alloc));
     let command = add_argument(command, socket_time_option(alloc));
     let command = add_argument(command, stats_option(alloc));
+    let command = add_argument(command, stats_clients_option(alloc));
     let command = add_argument(command, metrics_option(alloc));
     let command = add_argument(command, report_option(alloc));
     let command = add_argument(command, rejected_option(alloc));
@@ -217,7 +258,8 @@ fn stop_command<'a>(alloc: Global) -> Result<Command<'a>, AllocError> {
         .about("Stop a running stickd, and wait until it has ended")
         .after_help(STOP_HELP)
         .arg(stopped_option(alloc));
-    add_argument(command, drain_option(alloc))
+    let command = add_argument(command, stop_drain_option(alloc));
+    add_argument(command, patience_option(alloc))
 }
 
 /// Adds a subcommand to a command, if there was memory to make it.
@@ -237,18 +279,18 @@ fn bare_program<'a>(alloc: Global) -> Command<'a> {
         .arg_required_else_help(true)
 }
 
-/// `stickd` and its subcommands.
-fn program_command<'a>(alloc: Global) -> Result<Command<'a>, AllocError> {
+/// `stickd` and its subcommands, of a command line that says that its file is one of HAProxy, or doesn't.
+fn program_command<'a>(alloc: Global, has_haproxy: bool) -> Result<Command<'a>, AllocError> {
     let command = add_subcommand(bare_program(alloc), adopt_command(alloc))?;
     let command = add_subcommand(command, check_command(alloc))?;
     let command = add_subcommand(command, ctl_command(alloc))?;
     let command = add_subcommand(command, replay_command(alloc))?;
-    let command = add_subcommand(command, run_command(alloc))?;
+    let command = add_subcommand(command, run_command(alloc, has_haproxy))?;
     let command = add_subcommand(command, stop_command(alloc))?;
     add_subcommand(command, top_command(alloc))
 }
 
 /// Reads the words of a command line, the program's name first.
 pub fn read_command_line<'a>(alloc: Global, words: &'a [String]) -> Result<ArgMatches<'a>, Error> {
-    program_command(alloc)?.try_get_matches_from(words)
+    program_command(alloc, names_haproxy(words))?.try_get_matches_from(words)
 }

@@ -1,5 +1,6 @@
 //! What `stickd check --explain` says of a fault, and of each line that is read past; `read_file` prints it.
 
+use crate::habits::advice_on;
 use crate::hints::{Guess, Hint, hint_of};
 use base_lines::{Blanks, Words};
 use rule_config::ConfigFault;
@@ -78,8 +79,12 @@ fn print_hint<R: Eprint>(rt: &R, hint: Hint<'_>) -> io::Result<()> {
     }
     let shown = Shown(word);
     match hint.guess {
-        Some(guess) => eprintln!(rt; "  At '{shown}': {expected}. Did you mean '{guess}'?"),
-        None => eprintln!(rt; "  At '{shown}': {expected}."),
+        Some(guess) => eprintln!(rt; "  At '{shown}': {expected}. Did you mean '{guess}'?")?,
+        None => eprintln!(rt; "  At '{shown}': {expected}.")?,
+    }
+    match advice_on(expected, word) {
+        Some(advice) => eprintln!(rt; "  {advice}"),
+        None => Ok(()),
     }
 }
 

@@ -7,7 +7,11 @@ Prints 'valid: T tables, R rules'; or the first fault with the number of its lin
 with a warning each on standard error, are sections global and defaults, lines that
 begin with option, timeout, balance, maxconn or log, and words behind a server's address.
 With --all each fault has such a line. A line with a fault counts as empty for what is
-read behind it, so a fault may follow from another: mend the first ones first.";
+read behind it, so a fault may follow from another: mend the first ones first.
+With --haproxy it says what 'stickd adopt' loses of FILE, and checks what that makes of it;
+the status is 3 where what is served changes.
+With --load SAVED it also says which lines of that file have no table, datum or place, with
+status 1, or 'SAVED fits'.";
 
 /// What `stickd adopt --help` says last.
 pub(crate) const ADOPT_HELP: &str = "\
@@ -16,9 +20,10 @@ in order, each as it is, rewritten, or left out as a comment with the reason. Th
 line is the command line, as a comment. Standard error says what became of each line:
   kept
   rewritten: LINE
-  lost without harm: REASON
+  lost without harm: REASON (with --verbose; else one line has the numbers of all)
   rewritten, with a change of what is served: REASON
   lost with a change of what is served: REASON
+and then how many they are, what becomes of limits, and how to run what was written.
 The status is 0 where what is served is the same, and 1 where FILE can't be read, or has
 no such frontend. It is 3 where what is served changes, and nothing is written then
 without --anyway.";
@@ -29,19 +34,22 @@ The words are sent as one line of commands, with blanks between them. 'stickd re
 --help' lists the commands; ';' in a word of its own, or quoted, parts several. The
 answers are written to standard output as they come. With --json a table is an object
 with its name, type, size, used and entries, and another answer {\"answer\": \"TEXT\"}.
-With --watch, on a terminal, '* ' stands before each line that wasn't there the last time.
+With --watch, on a terminal, '* ' stands before each line that wasn't there the last time,
+but for what is left of a life. As many lines are shown as LINES and COLUMNS leave room for.
+'help' says what the socket answers, and what the other one does.
 The status is 1 where a command did nothing, or nobody answers at PATH.
   stickd ctl --socket /run/stickd.sock show table www data.conn_cur gt 10
 'save' and the names of tables, or none for all, write what they hold, as --load reads it:
-  stickd ctl --socket /run/stickd.sock save > tables.saved
-Where PATH is the stats socket, they keep which entry goes first where a table is full.";
+  stickd ctl --socket /run/stickd.sock save --to tables.saved
+FILE is written anew beside its place, and takes it once it is whole. Where PATH is the stats socket, they keep which entry goes first where a table is full.";
 
 /// What `stickd top --help` says last.
 pub(crate) const TOP_HELP: &str = "\
 Shows the entries of a table with the greatest numbers, in falling order: key, use (its
 connections), exp (the seconds until it expires) and what the table stores. On a terminal
-they are shown again each second, as wide as COLUMNS says [80 without it]; else once. The
-status is 1 where nobody answers at PATH, or there is no such table or number.";
+they are shown again each second, as many and as wide as LINES and COLUMNS say [24 and 80
+without them]; else once. The status is 1 where nobody answers at PATH, or there is no such
+table or number.";
 
 /// What `stickd replay --help` says last.
 pub(crate) const REPLAY_HELP: &str = "\
@@ -73,19 +81,26 @@ accepted or rejected by the section's rules, and relayed to its server. Commands
 'stickd replay --help' lists them, are answered on the socket, each on a line or parted
 by ';':
   echo 'show table' | socat stdio /run/stickd.sock
+With --haproxy FILE is one of HAProxy, and options stand for its lines, unless they are given.
+Nothing is started where what is served would change, and the status is 3, without --anyway.
 With --save FILE and --load FILE entries outlast a restart, with the time that they had
-left, but for their rates and connections. FILE is written once the program stops orderly.
+left, but for their rates and connections. FILE is written as the program begins to stop in
+order and once it has, with --save-every TIME also each TIME: anew beside its place, which it
+takes once it is whole. A file that is cut isn't loaded. An entry whose shard is full isn't
+either, which is said. A FILE that can't be written is told at the start, with status 1.
 A connection is closed once a peer has been silent for its TIME. Moments are the
 milliseconds since the start. With --stop-after, once N connections have ended, 'settled
 NAME: C calls, R references' is printed for each table whose record is what its callers
 were told; or 'unsettled NAME: S1' and its kin, and the status is 1. It is also stopped by
 'stickd stop', by 'shutdown frontend NAME' on the stats socket, and by SIGTERM or SIGINT
-where that was blocked as it started ('env --block-signal=TERM stickd run ..'). Then it
-accepts none more, lets open connections end, and says the same of each table's counts.";
+where that was blocked as it started ('env --block-signal=TERM,INT stickd run ..'). Then it
+accepts none more, lets open connections end, and says the same of each table's counts. A
+second 'stickd stop', or the other one of both signals, ends open connections at once.";
 
 /// What `stickd stop --help` says last.
 pub(crate) const STOP_HELP: &str = "\
 Asks the stickd whose stats socket is at PATH to stop, and waits until it has ended. It
 accepts no connection more. Those that are open go on until they end, for TIME at most,
-and are then closed. The status is 1 where nobody answers at PATH, or the program still
-runs 10 s behind TIME.";
+and are then closed. Where it drains already and no TIME is given, they are closed at once.
+The status is 1 where nobody answers at PATH, the program says nothing for --timeout's TIME
+or still runs so long after its drain, or it couldn't save its tables.";

@@ -3,6 +3,7 @@
 use crate::declared::{Declared, Kind};
 use crate::expected::{ELEMENT_FETCHES, Expected, SLOT_FETCHES, SOURCE_FETCHES};
 use crate::guesses::{Near, nearest};
+use crate::habits::meant_by;
 use crate::suspects::{Suspect, suspect_of};
 use base_lines::{Blanks, Words, before_parenthesis};
 use base_sequence::NoMemory;
@@ -62,6 +63,16 @@ fn guess_of<'a>(
     declared: &Declared<'a>,
 ) -> Result<Option<Guess<'a>>, NoMemory> {
     let word = suspect.word;
+    if let Some(meant) = meant_by(suspect.expected, word) {
+        return Ok(guess_by(
+            b"",
+            Some(Near {
+                distance: 1,
+                word: meant,
+            }),
+            b"",
+        ));
+    }
     match suspect.expected {
         Expected::Table => Ok(guess_by(b"", declared.nearest(alloc, Kind::Table, word)?, b"")),
         Expected::Backend => Ok(guess_by(b"", declared.nearest(alloc, Kind::Backend, word)?, b"")),

@@ -67,3 +67,19 @@ pub fn read_keeping(arguments: &ArgMatches<'_>) -> Keeping
         },
     }
 }
+
+/// How each table is kept where a saved file is compared with a configuration: in as many shards as the words say, which is all that
+/// matters to whether its entries fit.
+pub fn read_checked_keeping(arguments: &ArgMatches<'_>) -> Keeping
+    ensures shards { (1 ≤ result.shards) × (result.shards ≤ 64) }
+    ensures purge { (1 ≤ result.purge) × (result.purge ≤ 1024) }
+{
+    Keeping {
+        shards: read_shards(arguments),
+        purge: 1,
+        prefixes: Prefixes {
+            ipv4: 32,
+            ipv6: 128,
+        },
+    }
+}

@@ -15,10 +15,14 @@ mod declared;
 mod expected;
 mod explanation;
 mod guesses;
+mod habits;
+mod haproxy_options;
 mod help;
 mod hints;
 mod keeping;
 mod options;
+mod saved_options;
+mod server_names;
 mod suspect_tables;
 mod suspect_terms;
 mod suspects;
@@ -27,14 +31,18 @@ use all_faults::find_faults;
 use base_sequence::{NoMemory, Sequence};
 pub use command_line::{VERSION, read_command_line};
 use explanation::{explain_fault, explain_warnings};
-pub use keeping::{Keeping, read_keeping};
+use habits::is_foreign;
+pub use haproxy_options::{ANYWAY, FIRST_SERVER, FRONTEND, HAPROXY, names_haproxy};
+pub use keeping::{Keeping, read_checked_keeping, read_keeping};
 pub use options::{
-    BIND, CLIENT, CONNECT, DRAIN, FIN, KEEPALIVE, LOAD, LOG_REJECTED, METRICS, REPORT, SAVE,
-    SERVER, SOCKET, STATS,
+    BIND, CHECK, CLIENT, CONNECT, DRAIN, FIN, KEEPALIVE, LEVEL, LOG_REJECTED, METRICS, REPORT,
+    SERVER, SOCKET, STATS, USER_TIMEOUT,
 };
 use rule_config::{ConfigFault, read_config};
 use rule_model::{Config, Name, NamedSpec, ReadError, Section, Setup};
 use rule_warnings::{Warning, file_warnings, table_warnings};
+pub use saved_options::{LOAD, LOAD_LENIENT, SAVE, SAVE_EVERY, TIMEOUT, TO};
+pub use server_names::server_name;
 use std::alloc::Global;
 use std::rt::Files;
 use std::{fs, io, str};
@@ -113,9 +121,16 @@ fn report<R: Eprint + AllocGlobal>(
     detail: Detail,
 ) -> io::Result<()> {
     if telling == Telling::First || fault.kind == ReadError::OutOfMemory {
-        return report_fault(rt, text, text, fault, detail);
+        report_fault(rt, text, text, fault, detail)?;
+    } else {
+        report_all(rt, text, detail)?;
     }
-    report_all(rt, text, detail)
+    if is_foreign(fault.kind, text) {
+        return eprintln!(rt;
+            "stickd: it looks like a file of HAProxy's: 'stickd adopt' writes what stickd runs in its place"
+        );
+    }
+    Ok(())
 }
 
 /// Prints a warning for each line that is read past.
@@ -174,8 +189,21 @@ fn warn_of_tables<R: Eprint + AllocGlobal>(rt: &R, config: &Config) -> io::Resul
     }
 }
 
-/// Reads a configuration, and prints a warning for each line that it reads past. None where it can't be read, which is
-/// said on standard error.
+/// Reads the text of a configuration. None where it can't be read, which is said on standard error.
+pub fn read_text<R: Files + Eprint + AllocGlobal>(
+    rt: &R,
+    path: &str,
+) -> io::Result<Option<Vec<u8>>> {
+    match fs::read(rt, path) {
+        Ok(text) => Ok(Some(text)),
+        Err(reason) => {
+            eprintln!(rt; "stickd: {path} can't be read: {reason}")?;
+            Ok(None)
+        }
+    }
+}
+
+/// Reads the configuration in a file, as `read_lines`.
 pub fn read_file<R: Files + Eprint + AllocGlobal>(
     rt: &R,
     path: &str,
@@ -184,22 +212,31 @@ pub fn read_file<R: Files + Eprint + AllocGlobal>(
 ) -> io::Result<Option<Config>>
     ensures { IfOk result (λ read. IfSome read (λ config. AreTables config.sections)) }
 {
-    let text = match fs::read(rt, path) {
-        Ok(text) => text,
-        Err(reason) => {
-            eprintln!(rt; "stickd: {path} can't be read: {reason}")?;
-            return Ok(None);
-        }
-    };
-    let config = match read_config(rt.alloc(), text.as_slice()) {
+    match read_text(rt, path)? {
+        Some(text) => read_lines(rt, text.as_slice(), telling, detail),
+        None => Ok(None),
+    }
+}
+
+/// Reads a configuration, and prints a warning for each line that it reads past. None where it has a fault, which is said on standard
+/// error.
+pub fn read_lines<R: Eprint + AllocGlobal>(
+    rt: &R,
+    text: &[u8],
+    telling: Telling,
+    detail: Detail,
+) -> io::Result<Option<Config>>
+    ensures { IfOk result (λ read. IfSome read (λ config. AreTables config.sections)) }
+{
+    let config = match read_config(rt.alloc(), text) {
         Ok(config) => config,
         Err(fault) => {
-            report(rt, text.as_slice(), fault, telling, detail)?;
+            report(rt, text, fault, telling, detail)?;
             return Ok(None);
         }
     };
-    warn(rt, text.as_slice(), config.warnings.as_slice(), detail)?;
-    if detail != Detail::Short && !warn_of_lines(rt, text.as_slice())? {
+    warn(rt, text, config.warnings.as_slice(), detail)?;
+    if detail != Detail::Short && !warn_of_lines(rt, text)? {
         return Ok(None);
     }
     if detail == Detail::Explained && !warn_of_tables(rt, &config)? {
@@ -221,12 +258,23 @@ fn setup_of(alloc: Global, config: &Config, shards: u32) -> Result<Setup, NoMemo
     config.proxy(alloc, shards)
 }
 
-/// Says that a table has fewer places than shards.
-fn report_narrow<R: Eprint>(rt: &R, named: &NamedSpec) -> io::Result<()> {
-    match str::from_utf8(named.name.as_slice()) {
-        Ok(name) => eprintln!(rt; "stickd: table {name} has fewer places than shards"),
-        Err(_) => eprintln!(rt; "stickd: a table has fewer places than shards"),
+/// Says that a table has fewer places than there are shards, and how much of that is asked: to whoever starts a proxy also both numbers,
+/// and what to write.
+fn report_narrow<R: Eprint>(
+    rt: &R,
+    named: &NamedSpec,
+    shards: u32,
+    detail: Detail,
+) -> io::Result<()> {
+    let name = str::from_utf8(named.name.as_slice()).unwrap_or("?");
+    if detail == Detail::Short {
+        return eprintln!(rt; "stickd: table {name} has fewer places than shards");
     }
+    let size = named.spec.size;
+    eprint!(rt;
+        "stickd: table {name} has fewer places than shards: {size}, and there are {shards} shards. "
+    )?;
+    eprintln!(rt; "Give --shards {size} or fewer, or its stick-table a size of {shards} or more")
 }
 
 /// A setup, each table of which is kept in this way. None where there was no memory for it, or a table has fewer places than
@@ -235,6 +283,7 @@ fn kept_so<R: Eprint>(
     rt: &R,
     made: Result<Setup, NoMemory>,
     keeping: Keeping,
+    detail: Detail,
 ) -> io::Result<Option<Setup>>
     requires purge { (1 ≤ keeping.purge) × (keeping.purge ≤ 1024) }
     requires limits { IfOk made (λ setup. AreTableSpecs setup.tables) }
@@ -251,7 +300,7 @@ fn kept_so<R: Eprint>(
         .with_purge(keeping.purge)
         .with_prefixes(keeping.prefixes);
     if let Some(narrow) = setup.narrow_table() {
-        report_narrow(rt, narrow)?;
+        report_narrow(rt, narrow, setup.shards, detail)?;
         return Ok(None);
     }
     Ok(Some(setup))
@@ -276,7 +325,7 @@ pub fn open_setup<R: Files + Eprint + AllocGlobal>(
         },
         None => built_in_setup(rt.alloc(), keeping.shards),
     };
-    kept_so(rt, made, keeping)
+    kept_so(rt, made, keeping, Detail::Short)
 }
 
 /// The first section that listens.
@@ -302,13 +351,10 @@ pub fn frontend_name(config: &Config) -> &[u8]
 }
 
 /// Reads a configuration for the proxy: as `read_file`, and what lines of it say that comes to nothing is said too.
-pub fn read_served<R: Files + Eprint + AllocGlobal>(
-    rt: &R,
-    path: &str,
-) -> io::Result<Option<Config>>
+pub fn read_served<R: Eprint + AllocGlobal>(rt: &R, text: &[u8]) -> io::Result<Option<Config>>
     ensures { IfOk result (λ read. IfSome read (λ config. AreTables config.sections)) }
 {
-    read_file(rt, path, Telling::First, Detail::Started)
+    read_lines(rt, text, Telling::First, Detail::Started)
 }
 
 /// What the proxy serves of a configuration, each table kept in this way. None where that can't be had, which is said on standard
@@ -324,5 +370,6 @@ pub fn open_served<R: Eprint + AllocGlobal>(
     ensures opens { IfOk result (λ opened. IfSome opened CanOpen) }
     ensures prefixes { IfOk result (λ opened. IfSome opened (λ setup. setup.prefixes ≡ keeping.prefixes)) }
 {
-    kept_so(rt, setup_of(rt.alloc(), config, keeping.shards), keeping)
+    let made = setup_of(rt.alloc(), config, keeping.shards);
+    kept_so(rt, made, keeping, Detail::Started)
 }

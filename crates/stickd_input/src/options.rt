@@ -25,6 +25,9 @@ pub const FIN: &str = "timeout-fin";
 /// The option that says after how long a silent peer is asked whether it is still there.
 pub const KEEPALIVE: &str = "keepalive";
 
+/// The option that says how long bytes may stay unacknowledged.
+pub const USER_TIMEOUT: &str = "tcp-user-timeout";
+
 /// The option that says how long open connections may go on once the program is to stop.
 pub const DRAIN: &str = "drain";
 
@@ -37,14 +40,14 @@ pub const STATS: &str = "stats-socket";
 /// The option that says where Prometheus is answered.
 pub const METRICS: &str = "metrics";
 
-/// The option that names the file of entries that are made first.
-pub const LOAD: &str = "load";
-
-/// The option that names the file to which tables are saved.
-pub const SAVE: &str = "save";
-
 /// The option that has rejected connections told.
 pub const LOG_REJECTED: &str = "log-rejected";
+
+/// The option that says what the clients of the command socket may do.
+pub const LEVEL: &str = "socket-level";
+
+/// The option by which a run is only tried.
+pub const CHECK: &str = "check";
 
 /// The option that says in how many parts each table is kept.
 pub(crate) fn shards_option<'a>(alloc: Global) -> Arg<'a> {
@@ -94,23 +97,12 @@ pub(crate) fn ipv4_prefix_option<'a>(alloc: Global) -> Arg<'a> {
     .default_value("32")
 }
 
-/// The file of entries that are made first.
-pub(crate) fn load_option<'a>(alloc: Global) -> Arg<'a> {
-    value_option(
+/// The option by which a run is only tried.
+pub(crate) fn check_option<'a>(alloc: Global) -> Arg<'a> {
+    flag_option(
         alloc,
-        LOAD,
-        "FILE",
-        "First make the entries of FILE, as 'stickd ctl save' and --save write them",
-    )
-}
-
-/// The file to which tables are saved.
-pub(crate) fn save_option<'a>(alloc: Global) -> Arg<'a> {
-    value_option(
-        alloc,
-        SAVE,
-        "FILE",
-        "Write what the tables hold to FILE at an orderly end [default: nowhere]",
+        CHECK,
+        "Look at all that a start looks at, say what it would, and start nothing",
     )
 }
 
@@ -224,6 +216,16 @@ pub(crate) fn group_option<'a>(alloc: Global) -> Arg<'a> {
     )
 }
 
+/// What the clients of the socket may do.
+pub(crate) fn level_option<'a>(alloc: Global) -> Arg<'a> {
+    value_option(
+        alloc,
+        LEVEL,
+        "LEVEL",
+        "What the socket's clients may do: user (see no keys), operator (see all) or admin (do all) [default: admin]",
+    )
+}
+
 /// How many clients of the socket are answered at once.
 pub(crate) fn clients_option<'a>(alloc: Global) -> Arg<'a> {
     count_option(
@@ -268,6 +270,16 @@ pub(crate) fn keepalive_option<'a>(alloc: Global) -> Arg<'a> {
     )
 }
 
+/// How long bytes may stay unacknowledged.
+pub(crate) fn user_timeout_option<'a>(alloc: Global) -> Arg<'a> {
+    value_option(
+        alloc,
+        USER_TIMEOUT,
+        "TIME",
+        "Give a peer up that acknowledges nothing for TIME (TCP_USER_TIMEOUT) [default: as the system does]",
+    )
+}
+
 /// How long a connection may be silent once one side has ended.
 pub(crate) fn fin_option<'a>(alloc: Global) -> Arg<'a> {
     value_option(
@@ -306,9 +318,22 @@ pub(crate) fn stats_option<'a>(alloc: Global) -> Arg<'a> {
     value_option(
         alloc,
         STATS,
-        "PATH[,mode=M]",
-        "The Unix socket that speaks as HAProxy's stats socket does [default: none]",
+        "PATH[,OPTION]",
+        "A Unix socket that speaks as HAProxy's stats socket does [default: none]; ,mode=M ,group=G ,level=L; may be given 4 times",
     )
+    .action(ArgAction::Append)
+}
+
+/// How many clients of the stats socket are answered at once.
+pub(crate) fn stats_clients_option<'a>(alloc: Global) -> Arg<'a> {
+    count_option(
+        alloc,
+        "stats-clients",
+        "N",
+        32,
+        "How many clients of each stats socket are answered at once, 1 to 32, and a line of each further one",
+    )
+    .default_value("4")
 }
 
 /// The socket of the program that is to stop.
@@ -348,6 +373,16 @@ pub(crate) fn rejected_option<'a>(alloc: Global) -> Arg<'a> {
         alloc,
         LOG_REJECTED,
         "Say on standard error that connections were rejected, at most once a second",
+    )
+}
+
+/// How long open connections may go on once another program is asked to stop.
+pub(crate) fn stop_drain_option<'a>(alloc: Global) -> Arg<'a> {
+    value_option(
+        alloc,
+        DRAIN,
+        "TIME",
+        "How long open connections may go on [default: as its own --drain says]",
     )
 }
 

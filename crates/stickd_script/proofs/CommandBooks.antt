@@ -21,13 +21,13 @@ abbrev pub HasBooks : TableState → Type 0
 HasBooks table = AreBooks table.state
 
 -- one table goes on
-set_books : (old : List TableState) (place : ℕ) (table : TableState) (state : BooksState) → table ≡ slice_index_or old place table → (AreBooks table.state → AreBooks state) → AllByRecursion HasBooks old
+pub set_books : (old : List TableState) (place : ℕ) (table : TableState) (state : BooksState) → table ≡ slice_index_or old place table → (AreBooks table.state → AreBooks state) → AllByRecursion HasBooks old
     → AllByRecursion HasBooks (slice_set old place (record table { state = state }))
 set_books [] place table state at goes all = tt
 set_books (first ∷ rest) zero table state at goes all = (goes (subst HasBooks (sym at) all.0), all.1)
 set_books (first ∷ rest) (suc place) table state at goes all = (all.0, set_books rest place table state at goes all.1)
 
-turn_books : (event : Event) (shards : List ℕ) (old : BooksState) (replies : List Reply) (end : Option Message) (new : BooksState) → AsksInTurn answering refusing event shards old replies end new → AreBooks old → AreBooks new
+pub turn_books : (event : Event) (shards : List ℕ) (old : BooksState) (replies : List Reply) (end : Option Message) (new : BooksState) → AsksInTurn answering refusing event shards old replies end new → AreBooks old → AreBooks new
 turn_books event [] old [] None new asks are = subst AreBooks (sym asks) are
 turn_books event [] old [] (Some message) new asks are = subst AreBooks (sym asks.2) are
 turn_books event [] old (reply ∷ replies) end new asks are = absurd asks

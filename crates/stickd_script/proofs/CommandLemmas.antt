@@ -30,11 +30,11 @@ use Rattle.stickd_script.proofs.EventLemmas.{LeavesReferences, asks_leaves, step
 
 -- ---- what stays
 
-abbrev tickets_in : BookState → List (Ticket × Key)
+abbrev pub tickets_in : BookState → List (Ticket × Key)
 tickets_in book = book.live.tickets
 
 -- what a table in shards was made with, and what each shard has out
-abbrev kept_of : BooksState → Spec × List (List (Ticket × Key))
+abbrev pub kept_of : BooksState → Spec × List (List (Ticket × Key))
 kept_of state = (state.spec, map tickets_in state.books)
 
 abbrev pub kept_in : TableState → Spec × List (List (Ticket × Key))
@@ -59,7 +59,7 @@ extends_keeps old i event reply new leaves extends =
         ap (λ t. t ∷ map tickets_in books) (same ∙ sym (ap tickets_in here))
     set_keeps (book ∷ books) (suc i) before after at same = ap (λ ts. tickets_in book ∷ ts) (set_keeps books i before after at same)
 
-turn_keeps : (event : Event) (shards : List ℕ) (old : BooksState) (replies : List Reply) (end : Option Message) (new : BooksState) → LeavesReferences event
+pub turn_keeps : (event : Event) (shards : List ℕ) (old : BooksState) (replies : List Reply) (end : Option Message) (new : BooksState) → LeavesReferences event
     → AsksInTurn answering refusing event shards old replies end new → kept_of new ≡ kept_of old
 turn_keeps event [] old [] None new leaves asks = ap kept_of asks
 turn_keeps event [] old [] (Some message) new leaves asks = ap kept_of asks.2

@@ -21,4 +21,5 @@ pub mod KeyLemmas
 pub mod ApartLemmas
 pub mod OrderLemmas
 pub mod UnrefusedLemmas
+pub mod LookLemmas
 pub mod LoadedLemmas

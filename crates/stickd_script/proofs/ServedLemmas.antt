@@ -78,27 +78,29 @@ tables_kept setup old new same books are = record {
         books_at (first ∷ rest) (suc i) at all = books_at rest i at all.1
 
 -- the tables of a setup have their books
-tables_books : (setup : Setup) (tables : List TableState) → AreTablesOf setup tables → AllByRecursion HasBooks tables
+pub tables_books : (setup : Setup) (tables : List TableState) → AreTablesOf setup tables → AllByRecursion HasBooks tables
 tables_books setup tables are = each_has tables (λ i table at. (are.each i table at).2.books)
   where
     each_has : (tables : List TableState) → ((i : ℕ) (table : TableState) → slice_get tables i ≡ Some table → HasBooks table) → AllByRecursion HasBooks tables
     each_has [] each = tt
     each_has (first ∷ rest) each = (each 0 first refl, each_has rest (λ i table at. each (suc i) table at))
 
+-- tables with the same references out, that have their books, stand as well before a script's lines
+pub tables_served : (old : ScriptState) (tables : List TableState) → map kept_in tables ≡ map kept_in old.tables → AllByRecursion HasBooks tables → IsServed old → IsServed (record old { tables = tables })
+tables_served old tables same books are = record {
+  tables = tables_kept old.setup old.tables tables same books are.tables;
+  balance = λ reference. are.balance reference ∙ sym (out_kept reference old.tables tables same);
+  ids_differ = are.ids_differ;
+  open_all = are.open_all;
+  judged = are.judged;
+}
+
 pub commands_served : (moment : ℕ) (commands : List ℕ) (old : ScriptState) (text : List ℕ) (new : ScriptState) → LineSays (Commands moment commands) old text new → IsServed old → IsServed new
 commands_served moment commands old text new says are =
     let same : map kept_in new.tables ≡ map kept_in old.tables = commands_keep (commands_of commands) (at_moment moment old.tables) text (at_moment moment new.tables) says.0 in
     let books : AllByRecursion HasBooks new.tables =
     commands_leave_books (commands_of commands) (at_moment moment old.tables) text (at_moment moment new.tables) (tables_books old.setup old.tables are.tables) says.0 in
-    let now : ScriptState = record old { tables = new.tables } in
-    let served : IsServed now = record {
-      tables = tables_kept old.setup old.tables new.tables same books are.tables;
-      balance = λ reference. are.balance reference ∙ sym (out_kept reference old.tables new.tables same);
-      ids_differ = are.ids_differ;
-      open_all = are.open_all;
-      judged = are.judged;
-    } in
-    subst IsServed (sym says.1) served
+    subst IsServed (sym says.1) (tables_served old new.tables same books are)
 
 -- ---- a connection comes
 

@@ -9,6 +9,9 @@ use Rattle.base_lines.specs.Chain.{Chain}
 use Rattle.table_texts.specs.Text.{header_text}
 use Rattle.base_lines.proofs.ChainLemmas.{Chain-more}
 use Rattle.table_cli.specs.Answers.{AsksOf, Does, HeadAt, HeadsOf, IsHead, place_of, used_of}
+use Rattle.table_cli.specs.Room.{LooksAt, LooksWhere, key_asked}
+use Rattle.table_cli.specs.declared.room.Room.{Room}
+use Rattle.table_cli.specs.declared.room.Room.TheVariants.{Free}
 use Rattle.table_texts.specs.Form.{Request}
 use Rattle.table_texts.specs.Request.{Asks}
 use Rattle.shard_book.specs.NamedTables.{NamedState, state_of, states_of}
@@ -74,6 +77,25 @@ module _ {K S : Type 0} (answers : Answering S) (refuses : Refusing S) (spec : K
       let placed : place_of name (map f tables) ≡ Some place = position-map (λ (table : NamedState S). bytes_eq table.name name) f tables ∙ sym found in
       subst (λ o. AsksOf answers refuses moment request o (map f tables) text (map f (set tables place now))) (sym placed)
       (f was, state now.keeper, asked, seen_at spec parts state tables place was within is, asks, does, seen_after tables place was now same kept divided)
+
+  -- the table at the place of a name was asked what it has for an entry
+  pub looked_at : (moment : ℕ) (request : Request) (name : List ℕ) (tables : List (Named K)) (place : ℕ) (was now : Named K) (room : Room) (asked : Result Event Message)
+      → place < length tables → was ≡ get_or tables place was → Some place ≡ position (λ table. bytes_eq table.name name) tables
+      → now.name ≡ was.name → spec now.keeper ≡ spec was.keeper → parts now.keeper ≡ parts was.keeper
+      → Asks (spec was.keeper).kind moment request asked → LooksWhere answers refuses moment (spec was.keeper) (parts was.keeper) (state was.keeper) (key_asked asked) room (state now.keeper)
+      → LooksAt answers refuses moment request (place_of name (states_of spec parts state tables)) (states_of spec parts state tables) room (states_of spec parts state (set tables place now))
+  looked_at moment request name tables place was now room asked within is found same kept divided asks looks =
+      let f : Named K → NamedState S = state_of spec parts state in
+      let placed : place_of name (map f tables) ≡ Some place = position-map (λ (table : NamedState S). bytes_eq table.name name) f tables ∙ sym found in
+      subst (λ o. LooksAt answers refuses moment request o (map f tables) room (map f (set tables place now))) (sym placed)
+      (f was, state now.keeper, asked, seen_at spec parts state tables place was within is, asks, looks, seen_after tables place was now same kept divided)
+
+  pub not_looked_at : (moment : ℕ) (request : Request) (name : List ℕ) (tables : List (Named K)) → None ≡ position (λ table. bytes_eq table.name name) tables
+      → LooksAt answers refuses moment request (place_of name (states_of spec parts state tables)) (states_of spec parts state tables) Free (states_of spec parts state tables)
+  not_looked_at moment request name tables none =
+      let f : Named K → NamedState S = state_of spec parts state in
+      let placed : place_of name (map f tables) ≡ None = position-map (λ (table : NamedState S). bytes_eq table.name name) f tables ∙ sym none in
+      subst (λ o. LooksAt answers refuses moment request o (map f tables) Free (map f tables)) (sym placed) (refl, refl)
 
   -- there is no table of the name
   pub no_table : (moment : ℕ) (request : Request) (name : List ℕ) (tables : List (Named K)) → None ≡ position (λ table. bytes_eq table.name name) tables

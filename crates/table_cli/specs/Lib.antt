@@ -5,5 +5,8 @@ pub mod Service
 pub mod Lives
 pub mod SavedLines
 pub mod Loading
+pub mod Room
+pub mod SavedEnd
 pub mod SeenLines
 pub mod OldestFirst
+pub mod Unplaced

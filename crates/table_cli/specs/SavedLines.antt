@@ -11,13 +11,22 @@ use Rattle.table_texts.specs.Form.{Form, Request, Nothing, Unknown, Tables, Of, 
 use Rattle.table_texts.specs.Seen.{words_of}
 
 -- why a line can't be loaded: the word that is no number of ms, the word where cmd is to stand, a command that sets no entry,
--- the first line of what the command is answered; or memory was short
+-- the first line of what the command is answered, or the table whose shard has no place for the entry; why none is, as the file is
+-- cut, or has so many entries and says another number; or memory was short
 pub data Fault : Type 0 where
   NoTime : List ℕ → Fault
   NoCommand : List ℕ → Fault
   NoEntry : List ℕ → Fault
   Answered : List ℕ → List ℕ → Fault
+  NoRoom : List ℕ → Fault
+  Cut : Fault
+  Miscounted : ℕ → ℕ → Fault
   NoMemory : Fault
+
+-- a fault, and the number of its line, counted from 1
+pub record FaultAt : Type 0 where
+  pub line : ℕ
+  pub fault : Fault
 
 -- nothing that is done; an entry that has so many ms left, its table, and the command that makes it; or what is wrong
 pub data Line : Type 0 where

@@ -8,27 +8,37 @@
 //!
 //! What tables held is loaded by the same commands, from the lines that were saved of them. A line is the ms that an entry has
 //! left, and the command that makes it: `60000 cmd set table t key 10.0.0.1 data.gpc0 5`. It is answered by a clock that stands at
-//! the moment at which the entry was refreshed. All such moments lie before the one at which the tables go on.
+//! the moment at which the entry was refreshed. All such moments lie before the one at which the tables go on. Loading purges nothing:
+//! an entry that finds its shard full is skipped and told. A file whose last line doesn't say how many entries it has, as its first
+//! line promises, is cut, and nothing of it is loaded.
 #![tactic(auto)]
 
 mod fault;
 mod lives;
 mod load_fault;
 mod loading;
+mod misfits;
 mod oldest_first;
+mod room;
+mod saved_end;
 mod saved_line;
 mod serve;
 mod service;
 mod shards;
 mod stamped;
 mod tables;
+mod unplaced;
 
 pub use fault::{CliFault, CliFaultKind};
 pub use lives::{age, life_of, longest_life};
 pub use load_fault::{LineFault, LoadFault};
 pub use loading::load;
+pub use misfits::Misfits;
 pub use oldest_first::{answer_oldest_first, show_oldest_first};
+pub use room::Room;
+pub use saved_end::{END_MARK, FIRST_LINE, check_whole, promises_end};
 pub use saved_line::{Line, read_line};
 pub use serve::answer;
 pub use service::CommandService;
 pub use tables::count_entries;
+pub use unplaced::{Unplaced, say_misfits, say_unplaced, unplaced_of};

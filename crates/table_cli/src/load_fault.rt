@@ -17,10 +17,16 @@ pub enum LineFault<'a> {
     NoEntry(&'a [u8]),
     /// The command is answered so.
     Answered(&'a [u8], Vec<u8>),
+    /// The entry is new to its shard of this table, all of whose places are taken.
+    NoRoom(&'a [u8]),
+    /// The file says that its last line says how many entries it has, and it doesn't: the file is cut.
+    Cut,
+    /// The last line says another number of entries than the file has.
+    Miscounted { said: u64, found: u64 },
     NoMemory,
 }
 
-/// Why a file isn't loaded, and the number of its line, counted from 1.
+/// Why a file isn't loaded, or a line of it is skipped, and the number of the line, counted from 1.
 #[derive(Drop)]
 pub struct LoadFault<'a> {
     pub line: u64,
@@ -69,6 +75,20 @@ impl<'a> Display for LineFault<'a> {
                 "'{}' is answered '{}'",
                 Told(command.trim_ascii()),
                 Told(said)
+            ),
+            LineFault::NoRoom(table) => write!(
+                f,
+                "all places of its shard of table {} are taken",
+                Told(table)
+            ),
+            LineFault::Cut => {
+                f.write_str(
+                    "the file is cut: its last line isn't '# entries: N', as its first line says",
+                )
+            }
+            LineFault::Miscounted { said, found } => write!(
+                f,
+                "the last line says {said} entries, and the file has {found}"
             ),
             LineFault::NoMemory => f.write_str("out of memory"),
         }

@@ -27,7 +27,11 @@ fn key_shard(event: &Event, shards: u32) -> Option<u32>
 }
 
 /// Asks a shard an event.
-fn ask_shard<K: Keeper>(keeper: &mut K, shard: u32, event: Event) -> Result<Reply, Message>
+pub(crate) fn ask_shard<K: Keeper>(
+    keeper: &mut K,
+    shard: u32,
+    event: Event,
+) -> Result<Reply, Message>
     requires shard { shard < K.parts keeper.old }
     requires event { IsTableEvent event }
     requires asked { MayAsk (K.parts keeper.old) shard event }

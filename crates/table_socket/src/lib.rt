@@ -22,5 +22,5 @@ pub use fault::SocketFault;
 pub use file_id::{FileId, is_own};
 pub use group::group_number;
 pub use mode::{is_narrowed, read_mode};
-pub use patience::{AfterPatience, PATIENCE, after_patience, patiences_of};
+pub use patience::{AfterPatience, PATIENCE, Times, after_patience, patiences_of};
 pub use served::Served;

@@ -1,3 +1,4 @@
 mod AddressLemmas
+mod DeliveryLemmas
 mod LinkLemmas
 mod WayLemmas

@@ -2,9 +2,11 @@ pub mod Addresses
 pub mod Aheads
 pub mod Closing
 pub mod ConnectFaults
+pub mod Delivery
 pub mod Keepalives
 pub mod Lateness
 pub mod Links
+pub mod Losses
 pub mod Retries
 pub mod Silence
 pub mod Tokens

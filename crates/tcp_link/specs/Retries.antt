@@ -1,7 +1,8 @@
 -- When a server refuses a connection, and when it is tried again.
-use Rattle.std.specs.Prelude.{◌≡◌, ℕ, ◌-◌, Bool, true, false, ◌&&◌, not, nat_eq, nat_lt, Option, Some, None, if◌then◌else◌}
+use Rattle.std.specs.Prelude.{◌≡◌, ℕ, ◌-◌, Bool, true, false, ◌&&◌, ◌||◌, not, nat_eq, nat_lt, Option, Some, None, if◌then◌else◌}
 use Rattle.tcp_link.specs.Closing.{reader_failed}
 use Rattle.tcp_link.specs.Links.{LinkState, is_failure, must_be_accepted, waits}
+use Rattle.tcp_link.specs.Losses.{no_loss}
 use Rattle.tcp_link.specs.Silence.{is_silent}
 use Rattle.tcp_link.specs.Ways.{told_also, unbegun_way}
 use Rattle.tcp_link.specs.declared.ahead.Ahead.{Ahead}
@@ -44,14 +45,14 @@ pub record IsRefused (side : Side) (fails : Bool) (moment : ℕ) (old new : Link
   pub tells : tells_refusal old side fails ≡ true
   pub is : new ≡ refused_at moment old
 
--- what a report makes of a connection that waits: what it tells of the client is kept for the next try, and of the server it tells nothing
+-- what a report makes of a connection that waits: what it tells of the client is kept for the next try, unless it has failed; and of the server it tells nothing
 abbrev pub noted : Side → Ahead → Bool → LinkState → LinkState
-noted Client ahead fails link = record link { there = told_also link.there ahead fails }
+noted Client ahead fails link = record link { there = told_also link.there ahead; gone = link.gone || fails }
 noted Server ahead fails link = link
 
 -- its server is tried again at a moment, by another socket: that one isn't known to be accepted, is told nothing and isn't watched for room yet
 abbrev pub retried_at : ℕ → LinkState → LinkState
-retried_at moment link = record link { server = moment; accepted = false; server_told = false; server_watched = false; refused = None }
+retried_at moment link = record link { server = moment; accepted = false; server_told = false; server_watched = false; server_wrote = None; server_loss = no_loss; refused = None }
 
 -- the same, where the system refuses it at once: it waits once more, or stays as it is where no more is tried
 abbrev pub refused_again : ℕ → LinkState → LinkState

@@ -1,5 +1,5 @@
 -- What a turn does to one direction of a connection between sockets.
-use Rattle.std.specs.Prelude.{◌≡◌, ◌+◌, ◌*◌, ◌≤◌, ℕ, Bool, true, false, ◌&&◌, ◌||◌, [], length, nat_le, nat_lt, if◌then◌else◌}
+use Rattle.std.specs.Prelude.{◌≡◌, ◌+◌, ◌*◌, ◌≤◌, ℕ, Bool, true, false, ◌&&◌, ◌||◌, [], length, nat_le, nat_lt}
 use Rattle.tcp_flow.specs.Passage.{Passage}
 use Rattle.tcp_flow.specs.Turns.{HasTurned, is_last, unbegun}
 use Rattle.tcp_flow.specs.declared.steps.Cause.TheVariants.{Memory, Read, Write}
@@ -41,9 +41,9 @@ is_end Yields = false
 is_end Ended = true
 is_end (Failed cause) = false
 
--- what is told of its sender: what is ahead is known, and where all had come, that the sender's socket has failed since
-abbrev pub told_also : Way → Ahead → Bool → Way
-told_also way told fails = record way { step = if fails && is_end way.step then Failed Read else way.step; ahead = ahead_with way.ahead told }
+-- what is ahead of its sender is told: it is known from then on
+abbrev pub told_also : Way → Ahead → Way
+told_also way told = record way { ahead = ahead_with way.ahead told }
 
 -- one that is over stays as it is; the others make that many reads of 65,536 bytes at most, and all of them where they have more to do. Of what sockets hold no contract tells
 pub record Advances (old new : Way) : Type 0 where

@@ -1,7 +1,7 @@
 //! Which sockets of a connection are closed by a reset; `Link` decides by it as it closes.
 
 ghost use Rattle.std.specs.Prelude.{◌≡◌};
-ghost use Rattle.tcp_link.specs.Closing.{closing, lost_bytes, reader_failed, writer_failed};
+ghost use Rattle.tcp_link.specs.Closing.{closing, is_cut, lost_bytes, reader_failed, writer_failed};
 
 use tcp_flow::{Cause, Step};
 
@@ -19,28 +19,35 @@ impl Closing {
     {
         let is_torn = lost_bytes(there) || lost_bytes(back);
         Closing {
-            resets_client: is_accepted && (writer_failed(there) || reader_failed(back) || is_torn),
-            resets_server: reader_failed(there) || writer_failed(back) || is_torn,
+            resets_client: is_accepted && (is_cut(back, there) || is_torn),
+            resets_server: is_cut(there, back) || is_torn,
         }
     }
 }
 
-/// Whether the socket that is read of has failed.
-fn reader_failed(step: Step) -> bool
+/// Whether what a side was sent isn't whole, by the direction to it and the one from it.
+fn is_cut(to: Step, from: Step) -> bool
+    ensures { result ≡ is_cut to from }
+{
+    reader_failed(to) || writer_failed(from) && to != Step::Ended
+}
+
+/// Whether the socket that is read of has failed, before it told its end.
+pub(crate) fn reader_failed(step: Step) -> bool
     ensures { result ≡ reader_failed step }
 {
     matches!(step, Step::Failed(Cause::Read))
 }
 
 /// Whether the socket that is written to has failed.
-fn writer_failed(step: Step) -> bool
+pub(crate) fn writer_failed(step: Step) -> bool
     ensures { result ≡ writer_failed step }
 {
     matches!(step, Step::Failed(Cause::Write))
 }
 
 /// Whether bytes were lost, as there was no memory to keep them in.
-fn lost_bytes(step: Step) -> bool
+pub(crate) fn lost_bytes(step: Step) -> bool
     ensures { result ≡ lost_bytes step }
 {
     matches!(step, Step::Failed(Cause::Memory))

@@ -1,16 +1,31 @@
 //! One end of a connection: its socket, and what is known of it; `Link` has two, and `Way` reads and writes them.
 
 ghost use Rattle.std.specs.Prelude.{◌≡◌, false, max, true};
-ghost use Rattle.tcp_link.specs.Silence.{heard_last, is_silent};
+ghost use Rattle.std.specs.Prelude.{None};
+ghost use Rattle.tcp_link.specs.Losses.{no_loss};
+ghost use Rattle.tcp_link.specs.Silence.{heard_last, is_quiet, is_silent, wrote_last};
 ghost use Rattle.tcp_link.specs.Tokens.{Tells, number_of, side_of, token};
 
 use crate::calls::number_of;
-use crate::reset;
+use crate::incoming::Incoming;
+use crate::loss::{Loss, Rest};
+use crate::resetting::has_taken_all;
+use crate::{Ahead, Buffer, reset};
 use mio::net::TcpStream;
 use mio::{Interest, Registry, Token};
 use std::cell::Cell;
 use std::io::{self, ErrorKind};
 use std::net::{Net, Shutdown};
+use tcp_flow::{ReadySource, ReadyStream};
+
+/// How many ms must have passed since bytes were written last, before a reset that is owed may come.
+const QUIET: u64 = 1_000;
+
+/// How many reads are dropped in one turn at most, before other connections have theirs.
+const DROPS: u32 = 2;
+
+/// The error of a socket that is reset once its peer has told its end (tcp(7)).
+const EPIPE: u32 = 32;
 
 /// That bytes are reported, and urgent ones among them: a read stops short of those, and what lies behind them would wait.
 fn bytes() -> Interest {
@@ -62,6 +77,10 @@ pub(crate) struct End {
     pub(crate) is_told: bool,
     /// When something passed last, in ms.
     pub(crate) heard: u64,
+    /// When something was written to it last, in ms.
+    pub(crate) wrote: Option<u64>,
+    /// What was dropped of the bytes that it still sent once the other end had failed.
+    pub(crate) loss: Loss,
     /// The number of the first error that a read, a write or a connect gave, if one has failed.
     error: Cell<Option<u32>>,
 }
@@ -73,6 +92,8 @@ impl End {
         ensures socket { result.socket ≡ socket }
         ensures room { result.watches_room ≡ false }
         ensures told { result.is_told ≡ false }
+        ensures wrote { result.wrote ≡ None }
+        ensures loss { result.loss ≡ no_loss }
     {
         End {
             socket,
@@ -80,6 +101,8 @@ impl End {
             watches_room: false,
             is_told: false,
             heard: moment,
+            wrote: None,
+            loss: Loss::none(),
             error: Cell::new(None),
         }
     }
@@ -154,6 +177,60 @@ impl End {
         if passes {
             self.heard = moment;
         }
+    }
+
+    /// It takes something at a moment in ms, or it doesn't.
+    pub(crate) fn take(&mut self, takes: bool, moment: u64)
+        ensures { self.new ≡ record self.old { heard = heard_last takes moment self.old.heard; wrote = wrote_last takes moment self.old.wrote } }
+    {
+        if takes {
+            self.heard = moment;
+            self.wrote = Some(moment);
+        }
+    }
+
+    /// Whether nothing was written to it for a second, at a moment in ms.
+    pub(crate) fn is_quiet(&self, moment: u64) -> bool
+        ensures { result ≡ is_quiet self.now.wrote moment }
+    {
+        match self.wrote {
+            Some(wrote) => moment.saturating_sub(wrote) >= QUIET,
+            None => true,
+        }
+    }
+
+    /// Whether it has told its end, where a read finds that nothing more comes: a write that fails takes the system's error, and a
+    /// reset looks like an end from then on.
+    pub(crate) fn has_told_end(&self) -> bool {
+        match self.error.get() {
+            Some(number) => number == EPIPE,
+            None => true,
+        }
+    }
+
+    /// Whether its peer has taken what was written, as far as the system tells it.
+    pub(crate) fn has_taken_all(&self) -> bool {
+        has_taken_all(&self.socket)
+    }
+
+    /// Reads what it still sends, and drops it.
+    pub(crate) fn drop_bytes(&mut self, buffer: &mut Buffer)
+        ensures { self.new ≡ record self.old { loss = self.new.loss } }
+    {
+        self.loss = self.dropped(buffer);
+    }
+
+    /// What is dropped once what it still sends is read.
+    fn dropped(&self, buffer: &mut Buffer) -> Loss {
+        let mut loss = self.loss;
+        let mut reader = ReadyStream::new(Incoming::new(self, Ahead::UntilEmpty));
+        for _read in 0..DROPS {
+            loss = loss.after(reader.read_now(buffer.bytes.as_mut_slice()));
+            if loss.rest != Rest::More {
+                return loss;
+            }
+        }
+        loss
     }
 
     /// Tells it that the other end sends no more. It may still send.

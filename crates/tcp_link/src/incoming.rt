@@ -6,8 +6,7 @@ ghost use Rattle.tcp_link.specs.Aheads.{is_last};
 
 use crate::Ahead;
 use crate::end::End;
-use std::io;
-use std::io::Read;
+use std::io::{self, ErrorKind, Read};
 
 /// What a peer sends. Where all of it is there already, the read behind the last needs no call of the system to find the end.
 #[derive(Drop)]
@@ -44,6 +43,10 @@ impl<'a> Incoming<'a> {
         }
         let mut socket = &self.end.socket;
         match socket.read(buffer) {
+            // It was reset, and a write has taken the error.
+            Ok(0) if !self.end.has_told_end() => {
+                Err(io::Error::from(ErrorKind::ConnectionReset))
+            }
             Ok(count) => {
                 self.is_empty = self.ahead.is_last() && count < buffer.len();
                 Ok(count)

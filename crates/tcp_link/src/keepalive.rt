@@ -1,18 +1,12 @@
-//! When the system asks a silent peer whether it is still there; `tcp_proxy` sets it on the listener, `ServerSocket` on its
-//! socket.
+//! When the system asks a silent peer whether it is still there; `Liveness` has it, beside how long bytes may stay unacknowledged.
 
-ghost use Rattle.std.specs.Prelude.{◌≡◌, pos};
-ghost use Rattle.libc.specs.Net.{SockOption};
+ghost use Rattle.std.specs.Prelude.{◌≡◌};
 ghost use Rattle.tcp_link.specs.Keepalives.{keepalive};
 
-use crate::calls::checked;
-use libc::net::{
-    IPPROTO_TCP, SO_KEEPALIVE, SOL_SOCKET, TCP_KEEPCNT, TCP_KEEPIDLE, TCP_KEEPINTVL,
-    TCP_USER_TIMEOUT, setsockopt,
-};
+use crate::calls::set_option;
+use libc::net::{IPPROTO_TCP, SO_KEEPALIVE, SOL_SOCKET, TCP_KEEPCNT, TCP_KEEPIDLE, TCP_KEEPINTVL};
 use std::io;
-use std::net::Net;
-use std::os::fd::{AsRawFd, RawFd};
+use std::os::fd::RawFd;
 
 /// How often a silent peer is asked before its connection has failed.
 const PROBES: u32 = 3;
@@ -20,7 +14,8 @@ const PROBES: u32 = 3;
 /// How long a peer may be silent at most before it is asked, in seconds (tcp(7), `TCP_KEEPIDLE`).
 const LONGEST: u64 = 32_767;
 
-/// When the system asks a silent peer whether it is still there, and when it gives a connection up (tcp(7)).
+/// When the system asks a silent peer whether it is still there (tcp(7)). How long bytes may stay unacknowledged it doesn't say: that
+/// is `UserTimeout`'s.
 #[derive(Clone, Copy, Debug, PartialEq, Eq)]
 pub struct Keepalive {
     /// After how many seconds of silence it is asked (`TCP_KEEPIDLE`).
@@ -29,8 +24,6 @@ pub struct Keepalive {
     pub interval: u32,
     /// How often it is asked (`TCP_KEEPCNT`).
     pub probes: u32,
-    /// How long bytes may stay unacknowledged, in ms (`TCP_USER_TIMEOUT`).
-    pub unacknowledged: u32,
 }
 
 impl Keepalive {
@@ -45,27 +38,15 @@ impl Keepalive {
             idle,
             interval,
             probes: PROBES,
-            unacknowledged: (idle + PROBES * interval) * 1000,
         }
     }
 
     /// Has the system ask the peer of a socket so, and those of the sockets that a listener accepts. What the system does then
     /// no contract says.
-    pub fn apply(self, _rt: &impl Net, socket: &impl AsRawFd) -> io::Result<()> {
-        let socket = socket.as_raw_fd();
-        set(socket, SOL_SOCKET, SO_KEEPALIVE, 1)?;
-        set(socket, IPPROTO_TCP, TCP_KEEPIDLE, self.idle)?;
-        set(socket, IPPROTO_TCP, TCP_KEEPINTVL, self.interval)?;
-        set(socket, IPPROTO_TCP, TCP_KEEPCNT, self.probes)?;
-        set(socket, IPPROTO_TCP, TCP_USER_TIMEOUT, self.unacknowledged)
+    pub(crate) fn apply(self, socket: RawFd) -> io::Result<()> {
+        set_option(socket, SOL_SOCKET, SO_KEEPALIVE, 1)?;
+        set_option(socket, IPPROTO_TCP, TCP_KEEPIDLE, self.idle)?;
+        set_option(socket, IPPROTO_TCP, TCP_KEEPINTVL, self.interval)?;
+        set_option(socket, IPPROTO_TCP, TCP_KEEPCNT, self.probes)
     }
-}
-
-/// Sets an option of a socket to a number.
-fn set(socket: RawFd, level: i32, name: i32, number: u32) -> io::Result<()>
-    requires { SockOption level name }
-{
-    let mut value = [0u8; 16];
-    value[..4].copy_from_slice(&number.to_ne_bytes());
-    checked(unsafe { setsockopt(socket, level, name, &value, 4) })
 }

@@ -2,16 +2,18 @@
 
 ghost use Rattle.std.specs.Prelude.{◌≡◌, ◌≢◌, ◌<◌, ◌||◌, not, true, false, IfErr, IfOk, IsTrue, OnOk};
 ghost use Rattle.tcp_link.specs.Closing.{closing};
-ghost use Rattle.tcp_link.specs.Links.{AdvancesIfItWaited, HandsOn, IsHeard, IsWatched, KeepsWhatIsKnown, bytes, has_ended, has_passed, is_held_up, is_late, is_over, must_be_accepted, opened, owes_client, owes_server, waits, way_from, way_to};
+ghost use Rattle.tcp_link.specs.Links.{AdvancesIfItWaited, DropsOnly, HandsOn, IsGone, IsHeard, IsWatched, KeepsButAccepted, KeepsWhatIsKnown, bytes, has_ended, has_passed, is_held_up, is_late, is_over, must_be_accepted, opened, owes_client, owes_server, waits, way_from, way_to};
 ghost use Rattle.tcp_link.specs.Retries.{IfTried, IsRefused, fails_unread, may_retry, noted, refused_at, tells_refusal};
 ghost use Rattle.tcp_link.specs.Silence.{heard_last};
 ghost use Rattle.tcp_link.specs.Ways.{Advances, IsWay, told_also};
 
 mod ending;
+mod finishing;
 mod retrying;
 
 use crate::closing::Closing;
 use crate::end::{End, Side};
+use crate::loss::Rest;
 use crate::way::Way;
 use crate::{Buffer, Ready, ServerSocket, Timeouts, Unreached};
 use mio::Registry;
@@ -20,7 +22,7 @@ use std::alloc::Global;
 use std::io;
 use std::marker::Model;
 use std::net::Net;
-use tcp_flow::Step;
+use tcp_flow::{Cause, Step};
 
 /// Both sockets of a connection, and both directions between them. `close` closes both; dropping it closes both in order.
 #[derive(Drop)]
@@ -35,6 +37,8 @@ pub struct Link {
     tries: u32,
     /// When it refused, in ms, where the next try is waited for.
     refused: Option<u64>,
+    /// Whether its client has failed, and no server has accepted.
+    is_gone: bool,
     /// From where a direction that begins anew takes memory.
     alloc: Global,
 }
@@ -45,7 +49,7 @@ impl Model for Link {
 
     ghost Value = { LinkState };
 
-    ghost view = { λ link. record { there = link.there; back = link.back; client = link.client.heard; server = link.server.heard; accepted = link.is_accepted; client_told = link.client.is_told; server_told = link.server.is_told; client_watched = link.client.watches_room; server_watched = link.server.watches_room; tries = link.tries; refused = link.refused } };
+    ghost view = { λ link. record { there = link.there; back = link.back; client = link.client.heard; server = link.server.heard; accepted = link.is_accepted; client_told = link.client.is_told; server_told = link.server.is_told; client_watched = link.client.watches_room; server_watched = link.server.watches_room; client_wrote = link.client.wrote; server_wrote = link.server.wrote; client_loss = link.client.loss; server_loss = link.server.loss; tries = link.tries; refused = link.refused; gone = link.is_gone } };
 
     ghost invariant = { λ link. IsWay link.there × IsWay link.back };
 }
@@ -89,6 +93,7 @@ impl Link {
             is_accepted: false,
             tries: retries,
             refused: None,
+            is_gone: false,
             alloc,
         }
     }
@@ -106,7 +111,7 @@ impl Link {
         ensures there { waits self.old ≡ false → Advances self.old.there self.new.there }
         ensures back { self.new.back ≡ self.old.back }
         ensures heard { waits self.old ≡ false → IsHeard moment self.old self.new }
-        ensures ends { waits self.old ≡ false → HandsOn self.old self.new }
+        ensures ends { waits self.old ≡ false → HandsOn false self.old self.new }
         ensures going { IsTrue result → is_over self.new ≡ false }
         ensures watched { waits self.old ≡ false → IsTrue result → IsWatched self.new }
         ensures tries { (self.new.tries ≡ self.old.tries) × (self.new.refused ≡ self.old.refused) }
@@ -118,7 +123,7 @@ impl Link {
         }
         self.carry_there(moment, buffer);
         self.hand_on();
-        if self.is_over() {
+        if self.is_over() || self.is_settled(moment) {
             return false;
         }
         self.watch(registry, number).is_ok() && self.watch_on(registry, number).is_ok()
@@ -137,15 +142,17 @@ impl Link {
         moment: u64,
         buffer: &mut Buffer,
     ) -> bool
-        ensures from { IfTried self.old self.new (Advances (told_also (way_from ready.side self.old) ready.ahead ready.has_failed) (way_from ready.side self.new)) }
+        ensures from { IfTried self.old self.new (Advances (told_also (way_from ready.side self.old) ready.ahead) (way_from ready.side self.new)) }
         ensures to { IfTried self.old self.new (AdvancesIfItWaited (way_to ready.side self.old) (way_to ready.side self.new)) }
         ensures heard { IfTried self.old self.new (IsHeard moment self.old self.new) }
-        ensures ends { IfTried self.old self.new (HandsOn self.old self.new) }
+        ensures ends { IfTried self.old self.new (HandsOn ready.has_failed self.old self.new) }
+        ensures drops { IfTried self.old self.new (DropsOnly self.old self.new) }
+        ensures gone { IfTried self.old self.new (IsGone ready.side ready.has_failed self.old self.new) }
         ensures going { IsTrue result → is_over self.new ≡ false }
         ensures watched { IfTried self.old self.new (IsTrue result → IsWatched self.new) }
         ensures tries { IfTried self.old self.new (self.new.tries ≡ self.old.tries) }
-        ensures unrefused { IfTried self.old self.new (tells_refusal self.old ready.side ready.has_failed ≡ true → fails_unread self.new.back ≡ false) }
-        ensures refused { waits self.old ≡ false → waits self.new ≡ true → IsRefused ready.side ready.has_failed moment self.old self.new × IsTrue result }
+        ensures unrefused { IfTried self.old self.new (tells_refusal self.old ready.side ready.has_failed ≡ true → fails_unread self.new.back ≡ true → self.new.accepted ≡ true) }
+        ensures refused { waits self.old ≡ false → waits self.new ≡ true → IsRefused ready.side ready.has_failed moment self.old self.new × (result ≡ not (is_over self.new)) }
         ensures waiting { waits self.old ≡ true → (self.new ≡ noted ready.side ready.ahead ready.has_failed self.old) × (result ≡ not (is_over self.new)) }
     {
         if self.waits() {
@@ -153,19 +160,19 @@ impl Link {
             return !self.is_over();
         }
         if self.turn_side(ready, moment, buffer) {
-            return true;
+            return !self.is_over();
         }
-        self.hand_on();
-        !self.is_over() && self.watch_on(registry, ready.number).is_ok()
+        self.finish_turn(ready, buffer);
+        !self.is_over() && !self.is_settled(moment) && self.watch_on(registry, ready.number).is_ok()
     }
 
     /// Moves what can be moved now that a socket is ready. Whether the server refused it, so that it waits from now on.
     fn turn_side(&mut self, ready: Ready, moment: u64, buffer: &mut Buffer) -> bool
-        ensures from { result ≡ false → Advances (told_also (way_from ready.side self.old) ready.ahead ready.has_failed) (way_from ready.side self.new) }
+        ensures from { result ≡ false → Advances (told_also (way_from ready.side self.old) ready.ahead) (way_from ready.side self.new) }
         ensures to { result ≡ false → AdvancesIfItWaited (way_to ready.side self.old) (way_to ready.side self.new) }
         ensures heard { result ≡ false → IsHeard moment self.old self.new }
-        ensures same { result ≡ false → KeepsWhatIsKnown self.old self.new }
-        ensures unrefused { result ≡ false → tells_refusal self.old ready.side ready.has_failed ≡ true → fails_unread self.new.back ≡ false }
+        ensures same { result ≡ false → KeepsButAccepted ready.has_failed self.old self.new }
+        ensures unrefused { result ≡ false → tells_refusal self.old ready.side ready.has_failed ≡ true → fails_unread self.new.back ≡ true → self.new.accepted ≡ true }
         ensures refused { result ≡ true → IsRefused ready.side ready.has_failed moment self.old self.new }
     {
         match ready.side {
@@ -179,12 +186,12 @@ impl Link {
 
     /// The client is ready: it may have sent something, or have room for what is kept.
     fn turn_client(&mut self, ready: Ready, moment: u64, buffer: &mut Buffer)
-        ensures there { Advances (told_also self.old.there ready.ahead ready.has_failed) self.new.there }
+        ensures there { Advances (told_also self.old.there ready.ahead) self.new.there }
         ensures back { AdvancesIfItWaited self.old.back self.new.back }
         ensures heard { IsHeard moment self.old self.new }
         ensures same { KeepsWhatIsKnown self.old self.new }
     {
-        self.there.hear_of(ready.ahead, ready.has_failed);
+        self.there.hear_of(ready.ahead);
         self.carry_there(moment, buffer);
         if self.back.step == Step::WaitsToWrite {
             self.carry_back(moment, buffer);
@@ -194,19 +201,22 @@ impl Link {
     /// The server is ready: it may have sent something, or have room for what is kept. Or it refuses the connection; whether it
     /// does, and it is to be tried again.
     fn turn_server(&mut self, ready: Ready, moment: u64, buffer: &mut Buffer) -> bool
-        ensures back { result ≡ false → Advances (told_also self.old.back ready.ahead ready.has_failed) self.new.back }
+        ensures back { result ≡ false → Advances (told_also self.old.back ready.ahead) self.new.back }
         ensures there { result ≡ false → AdvancesIfItWaited self.old.there self.new.there }
         ensures heard { result ≡ false → IsHeard moment self.old self.new }
-        ensures same { result ≡ false → KeepsWhatIsKnown self.old self.new }
-        ensures unrefused { result ≡ false → tells_refusal self.old Side.Server ready.has_failed ≡ true → fails_unread self.new.back ≡ false }
+        ensures same { result ≡ false → KeepsButAccepted ready.has_failed self.old self.new }
+        ensures unrefused { result ≡ false → tells_refusal self.old Side.Server ready.has_failed ≡ true → fails_unread self.new.back ≡ true → self.new.accepted ≡ true }
         ensures refused { result ≡ true → IsRefused Side.Server ready.has_failed moment self.old self.new }
     {
         let may_refuse = ready.has_failed && self.may_retry();
-        self.back.hear_of(ready.ahead, ready.has_failed);
+        self.back.hear_of(ready.ahead);
         self.carry_back(moment, buffer);
         if may_refuse && self.back.fails_unread() {
-            self.refuse(moment);
-            return true;
+            if self.was_refused() {
+                self.refuse(moment);
+                return true;
+            }
+            self.is_accepted = true;
         }
         if self.there.step == Step::WaitsToWrite {
             self.carry_there(moment, buffer);
@@ -237,7 +247,7 @@ impl Link {
     /// Tells each side that the other has ended, where it is to be told so now: the server not before it has accepted, as the
     /// system undoes what isn't connected yet where its writing side is shut.
     fn hand_on(&mut self)
-        ensures ends { HandsOn self.old self.new }
+        ensures ends { HandsOn false self.old self.new }
         ensures same { self.new ≡ record self.old { accepted = self.new.accepted; client_told = self.new.client_told; server_told = self.new.server_told } }
     {
         if self.owes_client() {
@@ -262,17 +272,6 @@ impl Link {
         self.there.step == Step::Ended && !self.is_over() && !self.server.is_told
     }
 
-    /// Whether both directions have ended, or one has failed.
-    fn is_over(&self) -> bool
-        ensures { result ≡ is_over self.now }
-    {
-        match (self.there.step, self.back.step) {
-            (Step::Failed(_), _) | (_, Step::Failed(_)) => true,
-            (Step::Ended, Step::Ended) => true,
-            _ => false,
-        }
-    }
-
     fn watch(&mut self, registry: &Registry, number: usize) -> io::Result<()>
         ensures same { self.new ≡ self.old }
     {
@@ -291,11 +290,17 @@ impl Link {
             Step::Yields => self.client.watch_again(registry, client)?,
             // It has room as soon as it has accepted.
             Step::Ended if self.owes_server() => self.server.watch_room(registry, server)?,
+            Step::Failed(Cause::Write) if self.client.loss.rest == Rest::More => {
+                self.client.watch_again(registry, client)?;
+            }
             _ => {}
         }
         match self.back.step {
             Step::WaitsToWrite => self.client.watch_room(registry, client),
             Step::Yields => self.server.watch_again(registry, server),
+            Step::Failed(Cause::Write) if self.server.loss.rest == Rest::More => {
+                self.server.watch_again(registry, server)
+            }
             _ => Ok(()),
         }
     }
@@ -321,11 +326,11 @@ impl Link {
             || self.client.is_told
     }
 
-    /// Whether one side has ended.
+    /// Whether one side has ended or failed.
     fn has_ended(&self) -> bool
         ensures { result ≡ has_ended self.now }
     {
-        self.there.step == Step::Ended || self.back.step == Step::Ended
+        self.there.step.is_last() || self.back.step.is_last()
     }
 
     /// Whether, at a moment in ms, a peer has been silent for as long as it may, or longer: the server until it has accepted the

@@ -5,7 +5,7 @@ ghost use Rattle.tcp_link.specs.ConnectFaults.{refused_for};
 
 use crate::address::{encode, family};
 use crate::calls::{checked, number_of};
-use crate::{ConnectFault, Keepalive, Unreached, connect_fault_of};
+use crate::{ConnectFault, Liveness, Unreached, connect_fault_of};
 use libc::EINPROGRESS;
 use libc::net::{SOCK_CLOEXEC, SOCK_NONBLOCK, SOCK_STREAM, connect, socket};
 use mio::net::TcpStream;
@@ -23,19 +23,13 @@ pub struct ServerSocket {
 }
 
 impl ServerSocket {
-    /// A socket that will be connected to this server, and asks it so whether it is still there. It fails where the system has
-    /// none, or refuses to ask so.
-    pub fn open(
-        rt: &impl Net,
-        server: SocketAddr,
-        keepalive: Option<Keepalive>,
-    ) -> io::Result<ServerSocket>
+    /// A socket that will be connected to this server, and finds out so that it is gone. It fails where the system has none, or
+    /// refuses to do so.
+    pub fn open(rt: &impl Net, server: SocketAddr, liveness: Liveness) -> io::Result<ServerSocket>
         ensures server { IfOk result (λ opened. opened.server ≡ server) }
     {
         let socket = new_socket(server)?;
-        if let Some(keepalive) = keepalive {
-            keepalive.apply(rt, &socket)?;
-        }
+        liveness.apply(rt, &socket)?;
         Ok(ServerSocket { socket, server })
     }
 

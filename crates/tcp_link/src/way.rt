@@ -23,7 +23,7 @@ pub(crate) struct Way {
 impl Way {
     ghost use Rattle.std.specs.Prelude.{◌≡◌, true};
     ghost use Rattle.tcp_link.specs.Retries.{fails_unread};
-    ghost use Rattle.tcp_link.specs.Silence.{heard_last};
+    ghost use Rattle.tcp_link.specs.Silence.{heard_last, wrote_last};
     ghost use Rattle.tcp_link.specs.Ways.{Advances, IsWay, has_read, has_written, has_written_more, has_written_more_than, told_also, unbegun_way};
 
     pub(crate) fn new(alloc: Global) -> Way
@@ -50,7 +50,7 @@ impl Way {
         ensures way { IsWay self.new }
         ensures advances { Advances self.old self.new }
         ensures from { from.new ≡ record from.old { heard = heard_last (has_read self.old self.new) moment from.old.heard } }
-        ensures to { to.new ≡ record to.old { sends_at_once = to.new.sends_at_once; heard = heard_last (has_written self.old self.new) moment to.old.heard } }
+        ensures to { to.new ≡ record to.old { sends_at_once = to.new.sends_at_once; heard = heard_last (has_written self.old self.new) moment to.old.heard; wrote = wrote_last (has_written self.old self.new) moment to.old.wrote } }
         ensures at_once { has_written_more self.old self.new ≡ true → to.new.sends_at_once ≡ true }
     {
         let (read, written) = (self.direction.read(), self.direction.written());
@@ -59,7 +59,7 @@ impl Way {
             to.send_at_once();
         }
         from.hear(self.direction.read() > read, moment);
-        to.hear(self.direction.written() > written, moment);
+        to.take(self.direction.written() > written, moment);
     }
 
     /// Whether it has written since it had read and written so much, and perhaps not for the first time: it had read bytes
@@ -96,16 +96,12 @@ impl Way {
         matches!(self.step, Step::Failed(Cause::Read)) && self.direction.read() == 0
     }
 
-    /// Takes in what is told of its sender: what is ahead, and whether its socket has failed. What had ended in order has then
-    /// failed. What hasn't finds the failure by its next read.
-    pub(crate) fn hear_of(&mut self, ahead: Ahead, has_failed: bool)
+    /// Takes in what is told of its sender. That its socket has failed the next read finds; behind an end that says nothing more.
+    pub(crate) fn hear_of(&mut self, ahead: Ahead)
         requires way { IsWay self.old }
         ensures way { IsWay self.new }
-        ensures told { self.new ≡ told_also self.old ahead has_failed }
+        ensures told { self.new ≡ told_also self.old ahead }
     {
         self.ahead = self.ahead.with(ahead);
-        if has_failed && self.step == Step::Ended {
-            self.step = Step::Failed(Cause::Read);
-        }
     }
 }

@@ -1,6 +1,9 @@
+pub mod Asking
 pub mod Backlog
 pub mod Draining
 pub mod Ending
+pub mod Napping
 pub mod Opened
 pub mod Saying
 pub mod Watching
+pub mod Places

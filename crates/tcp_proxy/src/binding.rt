@@ -1,5 +1,6 @@
 //! Why a socket can't be had, which is said as it happens; `listeners` and `sockets` answer it.
 
+use log::{Log, error};
 use std::fmt::Display;
 use std::io;
 
@@ -19,21 +20,17 @@ impl From<io::Error> for BindFault {
 }
 
 /// Says on standard error that a place can't be bound.
-pub(crate) fn say_unbound<R: Eprint, P: Display + Drop, D: Display + Drop>(
+pub(crate) fn say_unbound<R: Log, P: Display + Drop, D: Display + Drop>(
     rt: &R,
     place: P,
     reason: D,
 ) -> BindFault {
-    match eprintln!(rt; "stickd: {place} can't be bound: {reason}") {
-        Ok(()) => BindFault::Said,
-        Err(reason) => BindFault::Unsaid(reason),
-    }
+    error!(rt; "{place} can't be bound: {reason}");
+    BindFault::Said
 }
 
 /// Says on standard error that there is no memory.
-pub(crate) fn say_no_memory<R: Eprint>(rt: &R) -> BindFault {
-    match eprintln!(rt; "stickd: out of memory") {
-        Ok(()) => BindFault::Said,
-        Err(reason) => BindFault::Unsaid(reason),
-    }
+pub(crate) fn say_no_memory<R: Log>(rt: &R) -> BindFault {
+    error!(rt; "out of memory");
+    BindFault::Said
 }

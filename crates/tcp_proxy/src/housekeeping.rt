@@ -1,6 +1,9 @@
 //! The housekeeping of the tables, each second and for long records more often, until the proxy stops; `service_threads` has one
 //! thread do it.
 
+ghost use Rattle.std.specs.Prelude.{◌≡◌};
+ghost use Rattle.tcp_proxy.specs.Napping.{nap_of};
+
 use crate::running_program::ServiceCounts;
 use crate::shared::{ProxyRuntime, Shared};
 use base_clock::RunningClock;
@@ -9,15 +12,19 @@ use shard_housekeeping::{Counts, Kept, Pace, housekeep, roll_long};
 use shard_locks::{Shards, SharedSeat};
 use shard_record::Naming;
 use std::sync::atomic::{AtomicBool, Ordering};
-use std::thread;
-use std::time::Duration;
 use stick_table::Table;
 use tcp_stats::Count;
 
-/// How many naps are taken between two rounds, each of so many ms: after each it looks for the stop, and for long records.
-const NAPS: u32 = 20;
+/// How many ms lie between two rounds.
+const SECOND: u64 = 1_000;
 
-const NAP: u64 = 50;
+/// How many ms lie between two looks for long records, where the first found some, and where it found none.
+const SOON: u64 = 50;
+
+const LATER: u64 = 250;
+
+/// How many looks there are in a second at most.
+const LOOKS: u32 = 20;
 
 /// What housekeeping came to, told at the end, and to others as it goes on.
 #[derive(Drop)]
@@ -54,20 +61,42 @@ impl<'a> Tally<'a> {
     }
 }
 
+/// How long to wait for the next look, in ms, where the last one came to this, and so much is left until the next round.
+fn nap_of(last: Counts, left: u64) -> u64
+    ensures { result ≡ nap_of last left }
+{
+    let nap = if last.rolled > 0 || last.refused > 0 {
+        SOON
+    } else {
+        LATER
+    };
+    nap.min(left)
+}
+
 /// Waits for a second, in which long records begin again as they are found. False where the proxy stops.
 fn wait_second<T: Table, J: Naming, R: ProxyRuntime>(
     shared: &Shared<'_, T, J, R>,
     tally: &mut Tally<'_>,
 ) -> bool {
-    for _ in 0..NAPS {
-        if shared.stop.load(Ordering::SeqCst) {
+    let mut last = Counts {
+        rolled: 0,
+        refused: 0,
+    };
+    let mut left = SECOND;
+    for _look in 0..LOOKS {
+        let nap = nap_of(last, left);
+        shared.stop.wait(shared.rt, Some(nap));
+        if shared.stop.is_set() {
             return false;
         }
-        thread::sleep(shared.rt, Duration::from_millis(NAP));
-        let Counts { rolled, refused } = roll_long(shared.rt, shared.tables, shared.roll_at);
-        tally.add(rolled, refused);
+        last = roll_long(shared.rt, shared.tables, shared.roll_at);
+        tally.add(last.rolled, last.refused);
+        left = left.saturating_sub(nap);
+        if left == 0 {
+            break;
+        }
     }
-    !shared.stop.load(Ordering::SeqCst)
+    true
 }
 
 /// One round, at once.

@@ -1,5 +1,5 @@
 //! The tables of a run, asked by one seat each before its threads start and behind them: loaded from a file, and saved to one;
-//! `running` calls it.
+//! `running` calls it, and `saver` while the threads run.
 
 ghost use Rattle.std.specs.Prelude.{◌≡◌, ◌<◌, ◌^◌, map};
 ghost use Rattle.rule_model.specs.declared.sections.NamedSpec.{NamedSpec as ItsSpec};
@@ -11,25 +11,21 @@ use crate::service_threads::{Asked, SeatedTable, ServiceThread, seats_of};
 use crate::shared::ProxyRuntime;
 use base_clock::{Clock, RunningClock, Start};
 use base_sequence::NoMemory;
-use log::{Log, info};
+use log::{Log, error, info, warn};
 use rule_model::Setup;
 use shard_book::Named;
 use shard_locks::{Seated, Shards, SharedSeat};
 use shard_record::Naming;
 use std::alloc::Global;
-use std::fs::{self, OpenFile, OpenOptions};
-use std::io::{self, Write};
-use std::mem;
-use std::os::unix::fs::OpenOptionsExt;
 use std::rt::Files;
+use std::{fs, io, mem};
 use stick_table::Table;
-use stickd_ctl::Saved;
-use table_cli::{life_of, load, show_oldest_first};
+use stickd_ctl::{Saved, replace_file, try_to_replace};
+use table_cli::{
+    LoadFault, Misfits, life_of, load, promises_end, say_misfits, say_unplaced, show_oldest_first,
+};
 use table_texts::Answer;
 use tcp_relay::FaultKind;
-
-/// The permissions of a saved file: its owner's alone, since it names clients.
-const SAVED_MODE: u32 = 0o600;
 
 /// The longest life that a setup's tables give, in ms: the moment at which they go on once they are loaded.
 pub(crate) fn longest_life(setup: &Setup) -> u32
@@ -67,6 +63,23 @@ fn seat_all<'a, T: Table, J: Naming, R>(
     })
 }
 
+/// Says what of a file wasn't loaded, and where nobody can tell whether it is whole.
+fn say_loaded<T: Table, J: Naming, R: ProxyRuntime + Files + AllocGlobal + Eprint>(
+    rt: &R,
+    tables: &[SeatedTable<'_, T, J, R>],
+    path: &str,
+    text: &[u8],
+    skipped: &[LoadFault<'_>],
+) -> io::Result<()> {
+    if !text.is_empty() && !promises_end(text) {
+        warn!(rt; "{path} doesn't say how many entries it has, so nobody can tell whether it is whole");
+    }
+    for named in tables {
+        say_unplaced(rt, path, named.name.as_slice(), skipped)?;
+    }
+    say_misfits(rt, path, skipped)
+}
+
 /// Makes the entries that a file keeps, by one seat of each table, which come back. None where the file can't be read or isn't what
 /// was saved, which is said on standard error.
 fn load_tables<T: Table, J: Naming, R: ProxyRuntime + Files + AllocGlobal + Eprint>(
@@ -76,11 +89,12 @@ fn load_tables<T: Table, J: Naming, R: ProxyRuntime + Files + AllocGlobal + Epri
     tables: &[Shards<T, J>],
     seats: Vec<SharedSeat<J>>,
     path: &str,
+    misfits: Misfits,
 ) -> io::Result<Option<Vec<SharedSeat<J>>>> {
     let text = match fs::read(rt, path) {
         Ok(text) => text,
         Err(reason) => {
-            eprintln!(rt; "stickd: {path} can't be read: {reason}")?;
+            error!(rt; "{path} can't be read: {reason}");
             return Ok(None);
         }
     };
@@ -88,15 +102,45 @@ fn load_tables<T: Table, J: Naming, R: ProxyRuntime + Files + AllocGlobal + Epri
         report(rt, FaultKind::NoMemory)?;
         return Ok(None);
     };
-    if let Err(fault) = load(alloc, asked.tables.as_mut_slice(), text.as_slice()) {
-        eprintln!(rt; "stickd: {path}: {fault}")?;
-        return Ok(None);
+    match load(alloc, asked.tables.as_mut_slice(), text.as_slice(), misfits) {
+        Ok(skipped) => say_loaded(
+            rt,
+            asked.tables.as_slice(),
+            path,
+            text.as_slice(),
+            skipped.as_slice(),
+        )?,
+        Err(fault) => {
+            error!(rt; "{path}: {fault}");
+            return Ok(None);
+        }
     }
     Ok(Some(seats_of(asked.tables, asked.back)))
 }
 
+/// Why tables aren't saved.
+#[derive(Debug, Drop, thiserror::Error)]
+pub(crate) enum SaveFault {
+    #[error("out of memory")]
+    NoMemory,
+    #[error("{0}")]
+    File(io::Error),
+}
+
+impl From<NoMemory> for SaveFault {
+    fn from(_refused: NoMemory) -> SaveFault {
+        SaveFault::NoMemory
+    }
+}
+
+impl From<io::Error> for SaveFault {
+    fn from(reason: io::Error) -> SaveFault {
+        SaveFault::File(reason)
+    }
+}
+
 /// Adds what the table of a place holds, at a moment.
-fn save_one<T: Table, J: Naming, R: ProxyRuntime + Files + AllocGlobal + Eprint>(
+fn save_one<T: Table, J: Naming, R: ProxyRuntime>(
     alloc: Global,
     tables: &[SeatedTable<'_, T, J, R>],
     place: usize,
@@ -116,7 +160,7 @@ fn save_one<T: Table, J: Naming, R: ProxyRuntime + Files + AllocGlobal + Eprint>
 }
 
 /// What tables hold at a moment.
-fn text_of<T: Table, J: Naming, R: ProxyRuntime + Files + AllocGlobal + Eprint>(
+fn text_of<T: Table, J: Naming, R: ProxyRuntime>(
     alloc: Global,
     tables: &[SeatedTable<'_, T, J, R>],
     moment: u64,
@@ -130,38 +174,18 @@ fn text_of<T: Table, J: Naming, R: ProxyRuntime + Files + AllocGlobal + Eprint>(
     saved.into_text()
 }
 
-/// Writes a file anew, whole, as it is to lie on the disk.
-fn write_whole<R: ProxyRuntime + Files + AllocGlobal + Eprint>(
-    rt: &R,
-    path: &str,
-    text: &[u8],
-) -> io::Result<()> {
-    let mut options = OpenOptions::new();
-    options
-        .write(true)
-        .create(true)
-        .truncate(true)
-        .mode(SAVED_MODE);
-    let mut file = options.open(rt, path)?;
-    file.write_all(text)?;
-    file.sync_all()
-}
-
-/// Writes a text to a new file beside one of this path, whose place it then takes. Where that fails, the old one stays.
-fn replace_file<R: ProxyRuntime + Files + AllocGlobal + Eprint>(
+/// Writes what tables hold at a moment to a file, which takes the place of the one before. Where that fails, that one stays.
+pub(crate) fn save_tables<T: Table, J: Naming, R: ProxyRuntime>(
     alloc: Global,
-    rt: &R,
+    tables: &[SeatedTable<'_, T, J, R>],
+    moment: u64,
     path: &str,
-    text: &[u8],
-) -> io::Result<()> {
-    let beside = format!(in alloc; "{path}.new")?;
-    match write_whole(rt, &beside, text) {
-        Ok(()) => fs::rename(rt, &beside, path),
-        Err(reason) => {
-            let _ = fs::remove_file(rt, &beside);
-            Err(reason)
-        }
-    }
+) -> Result<(), SaveFault>
+    requires { moment < 2 ^ 62 }
+{
+    let text = text_of(alloc, tables, moment)?;
+    replace_file(alloc, path, text.as_slice())?;
+    Ok(())
 }
 
 /// Writes what the tables hold to a file, by one seat of each table. The seats that come back, and whether the file is written;
@@ -180,19 +204,13 @@ fn save_all<T: Table, J: Naming, R: ProxyRuntime + Files + AllocGlobal + Eprint>
         report(rt, FaultKind::NoMemory)?;
         return Ok((Vec::new(alloc), false));
     };
-    let is_saved = match text_of(alloc, asked.tables.as_slice(), moment) {
-        Ok(text) => match replace_file(alloc, rt, path, text.as_slice()) {
-            Ok(()) => {
-                info!(rt; "saved to {path}");
-                true
-            }
-            Err(reason) => {
-                eprintln!(rt; "stickd: {path} can't be written: {reason}")?;
-                false
-            }
-        },
-        Err(_) => {
-            report(rt, FaultKind::NoMemory)?;
+    let is_saved = match save_tables(alloc, asked.tables.as_slice(), moment, path) {
+        Ok(()) => {
+            info!(rt; "saved to {path}");
+            true
+        }
+        Err(fault) => {
+            error!(rt; "{path} can't be written: {fault}");
             false
         }
     };
@@ -210,8 +228,26 @@ pub(crate) fn load_where<T: Table, J: Naming, R: ProxyRuntime + Files + AllocGlo
     seats: Vec<SharedSeat<J>>,
 ) -> io::Result<Option<Vec<SharedSeat<J>>>> {
     match plan.keep.load {
-        Some(path) => load_tables(alloc, rt, setup, tables, seats, path),
+        Some(path) => load_tables(alloc, rt, setup, tables, seats, path, plan.keep.misfits),
         None => Ok(Some(seats)),
+    }
+}
+
+/// Tries whether the plan's file can be written, if it names one, before anything is opened. False where it can't be, which is said.
+pub(crate) fn can_save<R: ProxyRuntime + Files + AllocGlobal + Eprint>(
+    alloc: Global,
+    rt: &R,
+    plan: Plan<'_>,
+) -> io::Result<bool> {
+    let Some(path) = plan.keep.save else {
+        return Ok(true);
+    };
+    match try_to_replace(alloc, rt, path) {
+        Ok(()) => Ok(true),
+        Err(reason) => {
+            error!(rt; "{path} can't be written: {reason}");
+            Ok(false)
+        }
     }
 }
 

@@ -81,7 +81,7 @@ impl<T: Table, J: Naming> OpenTables<T, J> {
 /// is no memory for it, or where its books or seats are more than 2^32 - 1.
 fn open_unnamed(alloc: Global, setup: &Setup, workers: u32, clients: u32) -> Option<Opened>
     requires workers { (1 ≤ workers) × (workers ≤ 64) }
-    requires clients { (1 ≤ clients) × (clients ≤ 128) }
+    requires clients { (1 ≤ clients) × (clients ≤ 256) }
     ensures books { IfSome result (λ opened. opened.books ≡ setup.now.shards * length setup.now.tables) }
     ensures seats { IfSome result (λ opened. opened.seats ≡ (workers + clients + 1) * length setup.now.tables) }
 {
@@ -126,9 +126,9 @@ pub(crate) fn open_record(
     clients: u32,
 ) -> Result<CallRecord, OpenFault>
     requires workers { (1 ≤ workers) × (workers ≤ 64) }
-    requires clients { (1 ≤ clients) × (clients ≤ 128) }
+    requires clients { (1 ≤ clients) × (clients ≤ 256) }
     ensures callers { IfOk result (λ calls. (calls.workers ≡ workers) × (calls.clients ≡ clients)) }
-    ensures clients { IfOk result (λ calls. (1 ≤ calls.clients) × (calls.clients ≤ 128)) }
+    ensures clients { IfOk result (λ calls. (1 ≤ calls.clients) × (calls.clients ≤ 256)) }
     ensures places { IfOk result (λ calls. HasPlaces setup.now calls) }
 {
     let Some(opened) = open_unnamed(alloc, setup, workers, clients) else {
@@ -166,7 +166,7 @@ fn open_table<T: Table, J: Naming>(
     requires shards { (1 ≤ shards) × (shards ≤ 64) }
     requires places { shards ≤ named.now.spec.size }
     requires workers { (1 ≤ workers) × (workers ≤ 64) }
-    requires clients { (1 ≤ clients) × (clients ≤ 128) }
+    requires clients { (1 ≤ clients) × (clients ≤ 256) }
     requires left { HasLeft dealer.old shards (workers + clients + 1) }
     requires parts { AreParts J.specs dealer.old.kept (seeded seed named.now) shards }
     ensures dealt { OnOk result (dealer.new ≡ record dealer.old { kept = dealer.old.kept + shards; seated = dealer.old.seated + (workers + clients + 1) }) }
@@ -190,7 +190,7 @@ fn open_table<T: Table, J: Naming>(
 
 /// Opens the tables of a setup, in order of declaration, each in the setup's number of shards and by its seed. With `keep` their
 /// seats keep receipts. One record has the calls of all, and says that they are made so. There are so many workers, 1 to 64, and so
-/// many threads that answer clients, 1 to 128.
+/// many threads that answer clients, 1 to 256.
 fn open_tables<T: Table, J: Naming>(
     alloc: Global,
     dealer: &mut Dealer<J>,
@@ -202,7 +202,7 @@ fn open_tables<T: Table, J: Naming>(
 ) -> Result<OpenTables<T, J>, OpenFault>
     requires can_open { CanOpen setup.now }
     requires workers { (1 ≤ workers) × (workers ≤ 64) }
-    requires clients { (1 ≤ clients) × (clients ≤ 128) }
+    requires clients { (1 ≤ clients) × (clients ≤ 256) }
     requires left { HasLeft dealer.old (setup.now.shards * length setup.now.tables) ((workers + clients + 1) * length setup.now.tables) }
     requires first { dealer.old.kept ≡ 0 }
     requires seeds { length seeds.now ≡ length setup.now.tables }
@@ -245,7 +245,7 @@ pub(crate) fn open_recorded<T: Table, J: Naming>(
 ) -> Result<OpenTables<T, J>, OpenFault>
     requires can_open { CanOpen setup.now }
     requires workers { (1 ≤ calls.workers) × (calls.workers ≤ 64) }
-    requires clients { (1 ≤ calls.clients) × (calls.clients ≤ 128) }
+    requires clients { (1 ≤ calls.clients) × (calls.clients ≤ 256) }
     requires name { (calls.opened.first.table_id ≡ J.record_id) × (calls.opened.books ≡ J.books) }
     requires specs { J.specs ≡ book_spec setup.now calls.seeds.items }
     requires places { HasPlaces setup.now calls }

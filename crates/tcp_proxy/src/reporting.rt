@@ -5,26 +5,35 @@ ghost use Rattle.std.specs.Prelude.{◌≡◌, ◌-◌, ◌++◌, OnOk};
 ghost use Rattle.tcp_stats.specs.CountValues.{count_of};
 ghost use Rattle.tcp_proxy.specs.Saying.{line_of};
 
+use crate::asks::{Ask, ask_of};
+use crate::plan::KeepPlan;
 use crate::running_program::Running;
 use crate::shared::ProxyRuntime;
 use crate::timetable::Timetable;
 use base_clock::Clock;
+use base_console::{Lines, mark_of};
 use base_sequence::NoMemory;
-use log::{Log, info};
+use log::{Level, Log, info};
 use shard_book::Keeper;
 use std::alloc::Global;
+use std::net::SocketAddr;
 use std::sync::atomic::{AtomicBool, Ordering};
 use std::time::Duration;
 use std::{io, str, thread};
 use tcp_stats::{Count, Counts, Occasion, Trouble, push_trouble, troubles};
 use tcp_watch::{Notice, Teller, Told, push_status};
 
-/// How many ms lie between two looks at signals and at the time.
-const LOOK: u64 = 100;
+/// How many ms lie between two looks at signals and at the time. A program that has nothing to do wakes that often for it.
+const LOOK: u64 = 250;
 
-/// What is said and looked for while the proxy runs.
+/// How many ms lie between two looks at the other threads, as they begin and as they end, and how many looks there are then.
+const BRIEF_LOOK: u64 = 10;
+
+const MOST_LOOKS: u32 = 200;
+
+/// What is said, looked for and saved while the proxy runs.
 #[derive(Clone, Copy, Debug)]
-pub(crate) struct Reports {
+pub(crate) struct Reports<'a> {
     /// How many ms lie between two reports.
     pub report: Option<u64>,
     /// Whether what goes wrong is said, and rejected clients too.
@@ -32,28 +41,36 @@ pub(crate) struct Reports {
     pub says_rejected: bool,
     /// How many ms lie between two messages that the program is alive.
     pub alive: Option<u64>,
+    /// Where and how often the tables are saved.
+    pub keep: KeepPlan<'a>,
 }
 
-/// What stands in front of a line on standard error, by which journald knows a warning, where no human reads it (sd-daemon(3)).
-fn level() -> &'static [u8] {
-    if libc::isatty(libc::STDERR_FILENO) == 1 {
-        b""
-    } else {
-        b"<4>"
+/// Where a client came from: one that was rejected as a key of a table is written, so that it can be pasted into a command; any other with
+/// its port, which tells its connection.
+fn client_text(alloc: Global, count: Count, source: SocketAddr) -> Result<String, NoMemory> {
+    if count == Count::Rejected {
+        let key = source.ip().to_canonical();
+        return Ok(format!(in alloc; "{key}")?);
     }
+    Ok(format!(in alloc; "{source}")?)
 }
 
-/// What is known of the last time: where the client came from, and the system's words for its error.
-fn last_text(alloc: Global, occasion: Option<Occasion>) -> Result<String, NoMemory> {
-    let Some(Occasion { source, error }) = occasion else {
+/// What is known of the last time of a count: where the client came from, and the system's words for its error.
+fn last_text(alloc: Global, count: Count, last: Option<Occasion>) -> Result<String, NoMemory> {
+    let Some(Occasion { source, error }) = last else {
         return Ok(String::new(alloc));
     };
-    let reason = error.map(|number| io::Error::from_raw_os_error(number.cast_signed()));
-    match (source, reason) {
-        (Some(source), Some(reason)) => Ok(format!(in alloc; "{source}: {reason}")?),
-        (Some(source), None) => Ok(format!(in alloc; "{source}")?),
-        (None, Some(reason)) => Ok(format!(in alloc; "{reason}")?),
-        (None, None) => Ok(String::new(alloc)),
+    let client = match source {
+        Some(source) => client_text(alloc, count, source)?,
+        None => String::new(alloc),
+    };
+    let Some(number) = error else {
+        return Ok(client);
+    };
+    let reason = io::Error::from_raw_os_error(number.cast_signed());
+    match source {
+        Some(_) => Ok(format!(in alloc; "{client}: {reason}")?),
+        None => Ok(format!(in alloc; "{reason}")?),
     }
 }
 
@@ -73,14 +90,15 @@ fn push_line(
     Ok(())
 }
 
-/// Says one thing that went wrong, by one write, so that no thread's words come between. Whether that can be said changes nothing.
-fn say_trouble(alloc: Global, trouble: Trouble, occasion: Option<Occasion>) {
+/// Says one thing that went wrong, as a warning. Whether that can be said changes nothing.
+fn say_trouble<R: Lines>(alloc: Global, rt: &R, trouble: Trouble, occasion: Option<Occasion>) {
     let mut line = Vec::new(alloc);
-    let Ok(last) = last_text(alloc, occasion) else {
+    let Ok(last) = last_text(alloc, trouble.count, occasion) else {
         return;
     };
-    if push_line(&mut line, level(), trouble, last.as_bytes()).is_ok() {
-        let _ = libc::write(libc::STDERR_FILENO, line.as_slice());
+    let mark = mark_of(Level::Warn, libc::isatty(libc::STDERR_FILENO) == 1);
+    if push_line(&mut line, mark.as_bytes(), trouble, last.as_bytes()).is_ok() {
+        rt.say_line(line.as_slice());
     }
 }
 
@@ -96,7 +114,7 @@ fn say_troubles<R: ProxyRuntime>(
     };
     for trouble in list.as_slice() {
         let occasion = running.control.last(trouble.count);
-        say_trouble(alloc, *trouble, occasion);
+        say_trouble(alloc, running.rt, *trouble, occasion);
     }
 }
 
@@ -141,14 +159,38 @@ fn end_second<R: ProxyRuntime>(alloc: Global, running: &Running<'_, R>, before: 
     now
 }
 
-/// Begins to drain where a signal waits that asks for it.
-fn look_for_signals<R: ProxyRuntime>(running: &Running<'_, R>) {
+/// Does what signals ask that wait, of which so many had been seen before. How many are seen now.
+fn look_for_signals<R: ProxyRuntime>(running: &Running<'_, R>, seen: u32) -> u32 {
     let Some(status) = running.status else {
-        return;
+        return seen;
     };
-    if !running.control.drain.has_begun() && status.awaits_stop() {
-        running.begin_drain(running.drain);
+    let pending = status.count_pending();
+    match ask_of(seen, pending, running.control.drain.has_begun()) {
+        Ask::Nothing => {}
+        Ask::Drain => running.begin_drain(running.drain),
+        Ask::Hasten => running.begin_drain(0),
     }
+    seen.max(pending)
+}
+
+/// Waits until this thread is the last of those beside the listener, so that a report tells all that they have counted; for two seconds at
+/// most.
+fn await_others<R: ProxyRuntime>(running: &Running<'_, R>) {
+    for _look in 0..MOST_LOOKS {
+        if running.board.at_work() <= 1 {
+            return;
+        }
+        thread::sleep(running.rt, Duration::from_millis(BRIEF_LOOK));
+    }
+}
+
+/// Tells the service manager that all threads run, once they do. Whether that is told.
+fn tell_ready<R: ProxyRuntime>(running: &Running<'_, R>, was_told: bool) -> bool {
+    if !was_told && running.control.start.is_over() {
+        running.notify(Notice::Ready.bytes());
+        return true;
+    }
+    was_told
 }
 
 /// Reports, looks for signals and says that the program is alive until the proxy stops. The last report tells the end.
@@ -160,23 +202,29 @@ pub(crate) fn report_on<K: Keeper, C: Clock, R: ProxyRuntime>(
     let reports = running.reports;
     let mut timetable = Timetable::new(teller.clock.now(), reports.report, reports.alive);
     let mut before = Counts::new();
+    let mut signals = 0;
+    let mut is_ready = false;
     for _look in running.rt.forever() {
         if stop.load(Ordering::SeqCst) {
             break;
         }
-        thread::sleep(running.rt, Duration::from_millis(LOOK));
-        look_for_signals(running);
+        let look = if is_ready { LOOK } else { BRIEF_LOOK };
+        thread::sleep(running.rt, Duration::from_millis(look));
+        is_ready = tell_ready(running, is_ready);
+        signals = look_for_signals(running, signals);
         let due = timetable.due(teller.clock.now());
         if due.alive {
             running.notify(Notice::Watchdog.bytes());
         }
         if due.second {
             before = end_second(teller.alloc, running, &before);
+            running.rt.say_lost();
         }
         if due.report {
             say_report(running, teller);
         }
     }
+    await_others(running);
     let _ = end_second(teller.alloc, running, &before);
     if reports.report.is_some() {
         say_report(running, teller);

@@ -7,18 +7,20 @@ ghost use Rattle.tcp_proxy.specs.Opened.{HasPlaces, book_spec};
 
 use crate::ending::{Left, give_up_all, settle_all};
 use crate::instruments::Instruments;
-use crate::keeping::{load_where, longest_life, save_where};
+use crate::keeping::{can_save, load_where, longest_life, save_where};
+use crate::last_words::say_last_word;
 use crate::opening::{CallRecord, OpenTables, open_record, open_recorded};
 use crate::plan::Plan;
 use crate::service_threads::{NOBODY, ServiceThread, make_service_threads};
 use crate::serving::serve_all;
 use crate::shared::{ProxyRuntime, Shared};
 use crate::sockets::{Sockets, bind_sockets};
+use crate::start_warnings::{check_start, warn_of_start};
+use base_console::{Lines, PATIENCE};
 use base_sequence::NoMemory;
-use log::{Log, info};
+use log::{Log, error, info};
 use rule_addresses::Endpoint;
 use rule_model::Setup;
-use rule_warnings::{StartPlan, Warning, allowed_descriptors, warnings_of};
 use shard_locks::{Shards, SharedSeat};
 use shard_record::Naming;
 use std::alloc::Global;
@@ -26,11 +28,9 @@ use std::io;
 use std::marker::Brand;
 use std::random::RandomSource;
 use std::rt::Files;
-use std::sync::atomic::AtomicBool;
 use stick_pooled::StickTable;
 use stick_table::Table;
 use tcp_relay::{FaultKind, ServeFault, Served};
-use tcp_watch::Notice;
 
 /// The seats of each table, and one more of each.
 fn with_more<J: Naming>(
@@ -56,13 +56,14 @@ fn all_seats<J: Naming>(
     Ok(seats)
 }
 
-/// Says why serving ended with a fault.
-pub(crate) fn report<R: Eprint>(rt: &R, kind: FaultKind) -> io::Result<()> {
+/// Says why serving ended with a fault. Whether that can be said changes nothing.
+pub(crate) fn report<R: Log>(rt: &R, kind: FaultKind) -> io::Result<()> {
     match kind {
-        FaultKind::Waiting => eprintln!(rt; "stickd: a thread can't wait for connections"),
-        FaultKind::Thread => eprintln!(rt; "stickd: a thread can't be started"),
-        FaultKind::NoMemory => eprintln!(rt; "stickd: out of memory"),
+        FaultKind::Waiting => error!(rt; "a thread can't wait for connections"),
+        FaultKind::Thread => error!(rt; "a thread can't be started"),
+        FaultKind::NoMemory => error!(rt; "out of memory"),
     }
+    Ok(())
 }
 
 /// Runs the proxy of a setup that has a `bind` and a server: opens its tables, binds its sockets, and serves. It stops once
@@ -78,22 +79,28 @@ pub fn run_proxy<
     requires clients { (1 ≤ plan.socket.clients) × (plan.socket.clients ≤ 64) }
 {
     let Some(bind) = setup.bind else {
-        eprintln!(rt; "stickd: the configuration has no bind")?;
+        error!(rt; "the configuration has no bind");
         return Ok(false);
     };
     if setup.server.is_none() {
-        eprintln!(rt; "stickd: the configuration has no server")?;
+        error!(rt; "the configuration has no server");
         return Ok(false);
     }
-    let Ok(instruments) = Instruments::new(alloc, rt, setup, plan) else {
-        report(rt, FaultKind::NoMemory)?;
+    if !can_save(alloc, rt, plan)? {
         return Ok(false);
+    }
+    let instruments = match Instruments::new(alloc, rt, setup, plan) {
+        Ok(instruments) => instruments,
+        Err(fault) => {
+            error!(rt; "{fault}");
+            return Ok(false);
+        }
     };
     let clients = plan.duties(instruments.awaits_signals()).sum();
     let calls = match open_record(alloc, rt, setup, plan.threads, clients) {
         Ok(calls) => calls,
         Err(fault) => {
-            eprintln!(rt; "stickd: {fault}")?;
+            error!(rt; "{fault}");
             return Ok(false);
         }
     };
@@ -118,7 +125,7 @@ fn run_recorded<
     requires server { is_some setup.now.server ≡ true }
     requires threads { (1 ≤ plan.threads) × (plan.threads ≤ 64) }
     requires workers { calls.workers ≡ plan.threads }
-    requires clients { (1 ≤ calls.clients) × (calls.clients ≤ 128) }
+    requires clients { (1 ≤ calls.clients) × (calls.clients ≤ 256) }
     requires name { (calls.opened.first.table_id ≡ J.record_id) × (calls.opened.books ≡ J.books) }
     requires specs { J.specs ≡ book_spec setup.now calls.seeds.items }
     requires places { HasPlaces setup.now calls }
@@ -127,7 +134,7 @@ fn run_recorded<
     match open_recorded::<T, J>(alloc, setup, calls, keep) {
         Ok(tables) => start(alloc, rt, setup, bind, plan, instruments, tables),
         Err(fault) => {
-            eprintln!(rt; "stickd: {fault}")?;
+            error!(rt; "{fault}");
             Ok(false)
         }
     }
@@ -167,15 +174,18 @@ fn start<
         report(rt, FaultKind::NoMemory)?;
         return Ok(false);
     };
-    let Ok(warnings) = warnings_of(alloc, setup, start_plan(plan, allowed_descriptors())) else {
-        report(rt, FaultKind::NoMemory)?;
-        return Ok(false);
-    };
+    if plan.is_check {
+        return check_start(alloc, rt, setup, bind, plan);
+    }
     let Some(mut sockets) = bind_sockets(alloc, rt, bind, plan)? else {
         return Ok(false);
     };
     sockets.start.moment = begins_at(setup, plan);
-    say_warnings(rt, warnings.as_slice());
+    if !warn_of_start(alloc, rt, setup, plan, sockets.takes_ipv6())? {
+        sockets.remove_files(rt, plan);
+        return Ok(false);
+    }
+    instruments.warn_of_signals(rt);
     serve_and_settle(
         alloc,
         rt,
@@ -195,30 +205,6 @@ fn begins_at(setup: &Setup, plan: Plan<'_>) -> u32 {
     match plan.keep.load {
         Some(_path) => longest_life(setup),
         None => 0,
-    }
-}
-
-/// Says on standard error what may surprise whoever starts it so, a warning a line. Whether that can be said changes nothing.
-fn say_warnings<R: Eprint>(rt: &R, warnings: &[Warning]) {
-    for warning in warnings {
-        let _ = eprintln!(rt; "stickd: warning: {warning}");
-    }
-}
-
-/// What a run is warned of by, where the process may have so many descriptors.
-fn start_plan(plan: Plan<'_>, descriptors: Option<u64>) -> StartPlan
-    ensures numbers { (result.connections ≡ plan.entry.limits.connections) × (result.threads ≡ plan.entry.threads) × (result.socket_clients ≡ plan.entry.socket.clients) }
-    ensures descriptors { result.descriptors ≡ descriptors }
-    ensures client { result.has_client_timeout ≡ is_some plan.entry.limits.timeouts.client }
-    ensures server { result.has_server_timeout ≡ is_some plan.entry.limits.timeouts.server }
-{
-    StartPlan {
-        connections: plan.limits.connections,
-        threads: plan.threads,
-        socket_clients: plan.socket.clients,
-        descriptors,
-        has_client_timeout: plan.limits.timeouts.client.is_some(),
-        has_server_timeout: plan.limits.timeouts.server.is_some(),
     }
 }
 
@@ -268,7 +254,7 @@ pub fn run_pooled<R: ProxyRuntime + Files + AllocGlobal + Eprint + RandomSource 
     run_proxy::<StickTable, R>(alloc, rt, setup, plan)
 }
 
-/// Serves, removes the sockets' files, and then settles the tables.
+/// Serves, saves the tables, removes the sockets' files, and then settles the tables.
 fn serve_and_settle<
     T: Table + Send,
     J: Naming + Send + Sync,
@@ -289,28 +275,28 @@ fn serve_and_settle<
     requires seats { AreSeats (length tables.items) plan.threads workers }
     requires threads { (1 ≤ plan.threads) × (plan.threads ≤ 64) }
 {
-    let stop = AtomicBool::new(false);
     let running = instruments.running(rt, plan, sockets);
-    running.notify(Notice::Ready.bytes());
+    // From here on no thread waits for who reads standard error: it looks for signals, drains or saves.
+    rt.wait_at_most(0);
     let shared = Shared {
         alloc,
         rt,
         setup,
         tables: tables.as_slice(),
-        listeners: sockets.listeners.as_slice(),
+        listeners: sockets.listeners.each.as_slice(),
         socket: &sockets.socket.listener,
         silence: plan.socket.timeout,
+        level: plan.socket.level,
         threads: plan.threads,
         limits: plan.limits,
         stop_after: plan.stop_after,
         roll_at: plan.roll_at,
         start: sockets.start,
         running: &running,
-        stop: &stop,
+        stop: instruments.stop(),
     };
     let ended = end_of(serve_all(&shared, workers, service_threads.as_mut_slice()));
     running.say_stopping();
-    sockets.remove_files(rt, plan);
     let saved = if ended.fault.is_some() {
         Ok(false)
     } else {
@@ -324,11 +310,18 @@ fn serve_and_settle<
             sockets.start,
         )
     };
+    say_last_word(
+        sockets,
+        instruments.is_stop_asked(),
+        matches!(saved, Ok(true)),
+    );
+    sockets.remove_files(rt, plan);
+    rt.wait_at_most(PATIENCE);
     let is_settled = settle_where(alloc, rt, setup, tables, ended, service_threads)?;
     Ok(saved? && is_settled)
 }
 
-/// Says what the clients of the command socket came to, on all threads together.
+/// Says what the clients of the command socket and of the stats socket came to, on all threads together.
 fn log_clients<J: Naming, R: Log>(rt: &R, service_threads: &[ServiceThread<J>]) {
     let mut all = NOBODY;
     for service_thread in service_threads {

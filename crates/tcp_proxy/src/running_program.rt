@@ -3,16 +3,20 @@
 ghost use Rattle.std.specs.Prelude.{◌≡◌};
 ghost use Rattle.tcp_proxy.specs.Draining.{shutdown_of};
 
-use crate::plan::About;
+use crate::asks::drain_time;
+use crate::places::Places;
+use crate::plan::{About, MOST_STATS_SOCKETS, WatchPlan};
 use crate::reporting::Reports;
+use crate::sockets::Socket;
 use base_clock::{Clock, RunningClock, Start};
+use rule_warnings::allowed_descriptors;
 use std::net::{Net, TcpListener};
 use std::os::unix::net::UnixListener;
-use std::sync::atomic::{AtomicU64, Ordering};
-use std::time;
+use std::sync::atomic::{AtomicBool, AtomicU64, Ordering};
+use std::{array, time};
 use tcp_relay::{Control, Listener};
-use tcp_stats::{Count, Counts, Rate, Snapshot, TableFacts};
-use tcp_watch::{Notice, Notifier, ProcessStatus, Program, Shutdown};
+use tcp_stats::{Count, Counts, ProcessFacts, Rate, Snapshot, TableFacts};
+use tcp_watch::{Level, Notice, Notifier, ProcessStatus, Program, Shutdown, ask_process};
 
 /// What the threads beside the listener count. Each adds to it, and readers see it at any time.
 #[derive(Drop)]
@@ -100,20 +104,49 @@ impl RateCell {
 #[derive(Drop)]
 pub(crate) struct Board {
     pub service: ServiceCounts,
+    /// How many threads beside the listener are at work.
+    at_work: AtomicU64,
+    /// Those of each stats socket, by its number.
+    places: [Places; MOST_STATS_SOCKETS],
     /// Clients accepted in a second.
     pub connections: RateCell,
     /// Clients admitted in a second.
     pub sessions: RateCell,
+    /// Whether somebody asked for the end, and waits for it.
+    pub stop_asked: AtomicBool,
 }
 
 impl Board {
-    /// Nothing has happened yet.
-    pub fn new() -> Board {
+    /// Nothing has happened yet, where each stats socket has so many places.
+    pub fn new(places: u32) -> Board {
         Board {
             service: ServiceCounts::new(),
+            at_work: AtomicU64::new(0),
+            places: array::from_fn(|_| Places::new(places)),
             connections: RateCell::new(),
             sessions: RateCell::new(),
+            stop_asked: AtomicBool::new(false),
         }
+    }
+
+    /// The places of the stats socket of this number.
+    pub fn places(&self, number: usize) -> Option<&Places> {
+        self.places.get(number)
+    }
+
+    /// One thread more is at work.
+    pub fn begin_work(&self) {
+        self.at_work.fetch_add(1, Ordering::SeqCst);
+    }
+
+    /// One thread less is.
+    pub fn end_work(&self) {
+        self.at_work.fetch_sub(1, Ordering::SeqCst);
+    }
+
+    /// How many threads are.
+    pub fn at_work(&self) -> u64 {
+        self.at_work.load(Ordering::SeqCst)
     }
 }
 
@@ -131,25 +164,38 @@ pub(crate) struct Running<'a, R> {
     pub control: Control<'a>,
     pub board: &'a Board,
     pub listeners: &'a [Listener],
-    /// Whether the first listener is the service manager's, who goes on listening there.
-    pub is_handed: bool,
+    /// How many listeners, the first ones, are the service manager's, who goes on listening there.
+    pub handed: usize,
     /// How long open connections go on once the proxy drains, in ms.
     pub drain: u64,
     pub notifier: Option<&'a Notifier>,
-    /// Who looks at it: on the stats socket, by HTTP, and by what is said.
-    pub stats: Option<&'a UnixListener>,
+    /// Who looks at it: on the stats sockets, by HTTP, and by what is said.
+    pub stats: &'a [Socket],
+    pub watch: WatchPlan<'a>,
     pub metrics: Option<&'a TcpListener>,
-    pub reports: Reports,
+    pub reports: Reports<'a>,
     /// Where a signal that stops the run may wait, if one may.
     pub status: Option<&'a ProcessStatus>,
     /// Where its clocks begin.
     pub start: Start,
+    /// When the program began, in ms since 1970, where that can be told.
+    pub started: Option<u64>,
 }
 
 impl<'a, R: Net + time::Clock> Running<'a, R> {
     /// The moment, in ms.
     fn now(&self) -> u64 {
         RunningClock::new(self.rt, self.start).now()
+    }
+
+    /// The stats socket of this number, and what its clients may do: all, unless it is said otherwise.
+    pub fn stats_at(&self, number: usize) -> Option<(&'a UnixListener, Level)> {
+        let socket = self.stats.get(number)?;
+        let level = match self.watch.stats_at(number) {
+            Some(planned) => planned.level,
+            None => Level::Admin,
+        };
+        Some((&socket.listener, level))
     }
 
     /// Tells the service manager, if there is one.
@@ -176,12 +222,11 @@ impl<'a, R: Net + time::Clock> Running<'a, R> {
     }
 
     /// Begins to drain for so many ms: no client is accepted any more, and the listeners refuse those that come. At the service
-    /// manager's they wait for the next program.
+    /// manager's listeners they wait for the next program.
     pub fn begin_drain(&self, drain: u64) {
         let until = self.now().saturating_add(drain);
         self.control.drain.begin(until);
-        let own = usize::from(self.is_handed);
-        for listener in self.listeners.iter().skip(own) {
+        for listener in self.listeners.iter().skip(self.handed) {
             listener.refuse(self.rt);
         }
         self.notify(Notice::Stopping.bytes());
@@ -207,8 +252,13 @@ impl<'r, R: Net + time::Clock> Program for Running<'r, R> {
             counts,
             frontend: self.about.frontend,
             server: self.server,
+            server_name: self.about.server,
             tables,
         }
+    }
+
+    fn process(&self) -> ProcessFacts {
+        ask_process(allowed_descriptors(), self.started)
     }
 
     fn shut_down(&self, frontend: &[u8]) -> Shutdown {
@@ -223,8 +273,10 @@ impl<'r, R: Net + time::Clock> Program for Running<'r, R> {
         shutdown
     }
 
-    fn stop(&self, drain: u64) {
-        self.begin_drain(drain);
+    fn stop(&self, drain: Option<u64>) {
+        self.board.stop_asked.store(true, Ordering::SeqCst);
+        let is_draining = self.control.drain.has_begun();
+        self.begin_drain(drain_time(drain, self.drain, is_draining));
     }
 }
 

@@ -8,7 +8,6 @@ use crate::shared::{ProxyRuntime, Shared};
 use shard_locks::SharedSeat;
 use shard_record::Naming;
 use std::alloc::Global;
-use std::sync::atomic::Ordering;
 use std::thread;
 use std::thread::Scope;
 use stick_table::Table;
@@ -66,8 +65,8 @@ pub(crate) fn serve_all<T: Table + Send, J: Naming + Send + Sync, R: ProxyRuntim
         {
             let all_started = start_all(scope, shared, service_threads);
             let served = serve_where(shared, seats, all_started);
-            // Each of the threads looks at it within 100 ms, whatever its client does.
-            shared.stop.store(true, Ordering::SeqCst);
+            // It wakes each of the threads, and one with a client looks at it within 100 ms, whatever that does.
+            shared.stop.set();
             served
         },
     )

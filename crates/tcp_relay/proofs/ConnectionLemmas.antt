@@ -23,6 +23,8 @@ use Rattle.admit_port.specs.DriveCode.{CanGoOn, IsConnection}
 use Rattle.admit_port.specs.Ports.{HoldsOf, parts_of}
 use Rattle.tcp_relay.specs.Connections.{IsVisitor}
 use Rattle.tcp_relay.specs.Passed.{HasPassedLimits, HavePassedStill}
+use Rattle.tcp_relay.specs.Untracked.{IsUntrackedSince}
+use Rattle.tcp_relay.specs.Moments.{HaveCalledAt}
 use Rattle.tcp_relay.specs.Seating.{AreIn, StoreAs}
 
 abbrev shards_of : SeatedState → ℕ
@@ -133,6 +135,17 @@ module _ (tables shards : ℕ) (seated : Vec SeatedState Global) (lent : List Se
     -- what has passed by the ports has passed by the seats
     pub passed_still : (setup : Setup) (samples : Samples) (conn : Conn RefState) → HasPassedLimits setup samples (ports_of new) conn → HasPassedLimits setup samples (take (vec_len seated) (new ++ drop (length new) seated.items)) conn
     passed_still setup samples conn passed = subst (λ seats. HasPassedLimits setup samples seats conn) (same_ports new ∙ sym same_items) passed
+
+    -- what a port was asked since its seat was
+    pub untracked_still : (setup : Setup) (samples : Samples) (conn : Conn RefState) → IsUntrackedSince (ports_of lent) (ports_of new) setup samples conn → IsUntrackedSince seated.items (take (vec_len seated) (new ++ drop (length new) seated.items)) setup samples conn
+    untracked_still setup samples conn since =
+        subst (λ seats. IsUntrackedSince seats (take (vec_len seated) (new ++ drop (length new) seated.items)) setup samples conn) (same_ports lent ∙ value)
+        (subst (λ seats. IsUntrackedSince (ports_of lent) seats setup samples conn) (same_ports new ∙ sym same_items) since)
+
+    pub called_still : (moment : ℕ) → HaveCalledAt moment (ports_of lent) (ports_of new) → HaveCalledAt moment seated.items (take (vec_len seated) (new ++ drop (length new) seated.items))
+    called_still moment called =
+        subst (λ seats. HaveCalledAt moment seats (take (vec_len seated) (new ++ drop (length new) seated.items))) (same_ports lent ∙ value)
+        (subst (HaveCalledAt moment (ports_of lent)) (same_ports new ∙ sym same_items) called)
 
     pub still_passed : HavePassedStill (ports_of lent) (ports_of new) → HavePassedStill seated.items (take (vec_len seated) (new ++ drop (length new) seated.items))
     still_passed still =

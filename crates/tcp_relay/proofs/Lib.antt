@@ -5,6 +5,7 @@ pub mod ServingLemmas
 mod LookLemmas
 mod ShareLemmas
 mod DrainLemmas
+mod BalanceLemmas
 mod PassedCalls
 mod PassedTold
 mod PassedLooks
@@ -15,3 +16,5 @@ mod PassedGoes
 mod PassedStays
 mod PassedPlaces
 mod PassedOf
+mod UntrackedGoes
+mod MomentGoes

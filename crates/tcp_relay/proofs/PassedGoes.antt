@@ -36,7 +36,8 @@ use Rattle.admit_port.specs.Moves.{Moves}
 use Rattle.admit_port.specs.Visit.{GoesJudged, HasGoneJudged, Visit}
 use Rattle.admit_port.specs.declared.moved.Moved.{Moved}
 use Rattle.admit_port.specs.declared.moved.Moved.TheVariants as moved_so
-use Rattle.tcp_relay.specs.Passed.{HasPassed, HasPassedBy, HasPassedLimits, known_of}
+use Rattle.tcp_relay.specs.Passed.{HasPassed, HasPassedBy, HasPassedLimits}
+use Rattle.tcp_relay.specs.Untracked.{known_of}
 use Rattle.tcp_relay.specs.Seating.{StoreAs}
 use Rattle.tcp_relay.proofs.PassedHeard.{hears}
 use Rattle.tcp_relay.proofs.PassedHeld.{HoldsSame, IsJudged, refused_judged, turned_judged}
@@ -133,7 +134,7 @@ rests_in Ended want progress judged rests = cc
 rests_in New want progress judged rests = cc
 rests_in Judging want progress judged rests = cc
 
-rests_admitted : (connection : Connection RefState) → connection.progress.given ≡ None → is_judged connection.progress.phase ≡ false → need connection ≡ needs.Rest → connection.progress.phase ≡ Admitted
+pub rests_admitted : (connection : Connection RefState) → connection.progress.given ≡ None → is_judged connection.progress.phase ≡ false → need connection ≡ needs.Rest → connection.progress.phase ≡ Admitted
 unfolding need_of
 rests_admitted connection none judged rests = rests_in connection.progress.phase (asks connection) connection.progress judged (sym (ap (λ g. need_given g (asks connection) connection.progress) none) ∙ rests)
 

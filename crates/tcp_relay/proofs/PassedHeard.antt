@@ -36,7 +36,7 @@ use Rattle.tcp_relay.proofs.PassedSeats.{HasTracked, IsLimited, IsSeen, Looked, 
 
 -- ---- what a reply tells
 
-heard_took : (connection : Connection RefState) (at : ℕ) (reply : Reply) → connection.progress.given ≡ None → is_judged connection.progress.phase ≡ true → heard seated_meaning connection at reply ≡ took connection (answer_of reply) (came_with seated_meaning at reply)
+pub heard_took : (connection : Connection RefState) (at : ℕ) (reply : Reply) → connection.progress.given ≡ None → is_judged connection.progress.phase ≡ true → heard seated_meaning connection at reply ≡ took connection (answer_of reply) (came_with seated_meaning at reply)
 heard_took connection at replies.Released none judged = ap (λ (c : Connection RefState). took c answers.Released None) (gave_same connection none judged)
 heard_took connection at replies.Absent none judged = refl
 heard_took connection at (replies.Row row) none judged = refl

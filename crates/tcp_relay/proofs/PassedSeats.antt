@@ -34,7 +34,8 @@ use Rattle.admit_core.specs.Connection.{Connection}
 use Rattle.admit_port.specs.Calls.{AnswersAt, Call}
 use Rattle.shard_locks.specs.Shared.{WasOut}
 use Rattle.shard_locks.proofs.KeyLemmas.{was_later}
-use Rattle.tcp_relay.specs.Passed.{known_of, shows_few}
+use Rattle.tcp_relay.specs.Passed.{shows_few}
+use Rattle.tcp_relay.specs.Untracked.{known_of}
 use Rattle.shard_locks.proofs.LastCalls.{key_out}
 use Rattle.tcp_relay.proofs.PassedCalls.{any_later, look_few}
 use Rattle.tcp_relay.proofs.PassedHeld.{IsJudged}
@@ -87,7 +88,7 @@ looked_more limit looked (first ∷ rest) answer last was row more is few =
 
 -- ---- a seat is told
 
-same_seat : (a b : SeatedState) → Some a ≡ Some b → a ≡ b
+pub same_seat : (a b : SeatedState) → Some a ≡ Some b → a ≡ b
 same_seat a b e = cc
 
 -- the seats after a call, as those of a reference
@@ -181,7 +182,7 @@ module _ (old new : List SeatedState) (asked : Call) (reply : Reply) (answers_it
       any_later (shows_few key limit entry.1.ticket) (known_of seen.seat entry.1.shard) (known_of grown.later entry.1.shard) grown.more looked
 
 -- what the seat that was told knows now of the shard's book
-knows_after : (old new : List SeatedState) (asked : Call) (reply : Reply) (by : AnswersAt seated_meaning old asked reply new) (part : ℕ) → known_of by.after part ≡ log_of (book_of by.before.table part) by.after.known
+pub knows_after : (old new : List SeatedState) (asked : Call) (reply : Reply) (by : AnswersAt seated_meaning old asked reply new) (part : ℕ) → known_of by.after part ≡ log_of (book_of by.before.table part) by.after.known
 knows_after old new asked reply by part = ap (λ (t : ShardsState). log_of (book_of t part) by.after.known) by.answers.table
 
 -- ---- what a reply tells of a reference

@@ -27,11 +27,13 @@ use Rattle.admit_port.specs.declared.moved.Moved.{Moved}
 use Rattle.admit_port.specs.declared.moved.Moved.TheVariants.{Answered, Turned, Refused, Kept}
 use Rattle.admit_port.specs.declared.moved.Rested.{Rested}
 use Rattle.admit_port.specs.declared.moved.Rested.TheVariants.{Still, Kept as RestsKept}
-use Rattle.tcp_relay.specs.Passed.{HasPassed, HasPassedBy, HasPassedLimits, HavePassedStill, PassedStaysLaw, known_of, shows_few}
+use Rattle.tcp_relay.specs.Passed.{HasPassed, HasPassedBy, HasPassedLimits, HavePassedStill, PassedStaysLaw, shows_few}
 use Rattle.tcp_relay.specs.Seating.{StoreAs}
+use Rattle.tcp_relay.specs.Untracked.{IsUntrackedFor, known_of}
 use Rattle.shard_locks.proofs.KeyLemmas.{was_later}
 use Rattle.tcp_relay.proofs.PassedCalls.{any_later}
 use Rattle.tcp_relay.proofs.PassedSeats.{seats_grow, tables_stay}
+use Rattle.tcp_relay.proofs.UntrackedGoes.{untracked_told}
 
 -- by more calls of the same table
 has_later : (shards limit : ℕ) (key : Key) (log later : List Noted) (reference : RefState) → IsPrefix log later → IsHistory later → HasPassed shards limit key log reference → HasPassed shards limit key later reference
@@ -72,6 +74,13 @@ limits_told setup samples conn old new asked reply by had name table limit entry
     let was = had name table limit entry first held in
     (was.0, told_passed setup samples limit old new asked reply entry by was.1)
 
+-- what it holds by sc0 has passed, and where it holds nothing its key was given none
+abbrev IsAccountedFor : Setup → Samples → List SeatedState → Conn RefState → Type 0
+IsAccountedFor setup samples seats conn = HasPassedLimits setup samples seats conn × IsUntrackedFor setup samples seats conn
+
+accounted_told : (setup : Setup) (samples : Samples) (conn : Conn RefState) (old new : List SeatedState) (asked : Call) (reply : Reply) → AnswersAt seated_meaning old asked reply new → IsAccountedFor setup samples old conn → IsAccountedFor setup samples new conn
+accounted_told setup samples conn old new asked reply by had = (limits_told setup samples conn old new asked reply by had.0, untracked_told setup samples conn old new asked reply by had.1)
+
 -- what stays as seats are told of a call stays as a connection goes on by them
 module _ (P : List SeatedState → Type 0) (told : (old new : List SeatedState) (asked : Call) (reply : Reply) → AnswersAt seated_meaning old asked reply new → P old → P new) where
   moves_keep : (now : ℕ) (old new : List SeatedState) (connection after : Connection RefState) (moved : Moved) → Moves seated_meaning now old connection new after moved → P old → P new
@@ -109,8 +118,8 @@ stores_told : (current : ℕ → Bool) (i : ℕ) (old new : List SeatedState) (a
 stores_told current i old new asked reply by had = tables_stay old new asked reply by i (λ (t : ShardsState). is_column t.spec.columns ConnCur ≡ current i) had
 
 -- where the limits that it has passed stay so by some connection, it has passed still
-kept_by : (old new : List SeatedState) → ∥ ((setup : Setup) (samples : Samples) (conn : Conn RefState) → HasPassedLimits setup samples old conn → HasPassedLimits setup samples new conn) ∥₁ → HavePassedStill old new
-kept_by old new stay setup conn had = ∥∥₁_map₂ stay had (λ stays it. (it.0, it.1, stays setup it.0 conn it.2))
+kept_by : (old new : List SeatedState) → ∥ ((setup : Setup) (samples : Samples) (conn : Conn RefState) → IsAccountedFor setup samples old conn → IsAccountedFor setup samples new conn) ∥₁ → HavePassedStill old new
+kept_by old new stay setup conn had = ∥∥₁_map₂ stay had (λ stays it. let still = stays setup it.0 conn (it.1.1, it.1.2) in (it.0, (it.1.0, still.0, still.1)))
 
 module _ {C : Type 0} (shows : C → ℕ → C → Type 0) where
   -- one that was judged, and one that came to rest, whatever connection each was
@@ -118,13 +127,13 @@ module _ {C : Type 0} (shows : C → ℕ → C → Type 0) where
   judged_keep old new conn later clock shown living gone =
       kept_by old new (∥∥₁_map living (λ found setup samples held had.
       let visit = gone found.0 found.1 in
-      judged_keeps (λ seats. HasPassedLimits setup samples seats held) (limits_told setup samples held) shows visit.2.0 (record { ports = old; connection = found.0; clock = clock }) (record { ports = new; connection = visit.0; clock = shown }) visit.2.1 had))
+      judged_keeps (λ seats. IsAccountedFor setup samples seats held) (accounted_told setup samples held) shows visit.2.0 (record { ports = old; connection = found.0; clock = clock }) (record { ports = new; connection = visit.0; clock = shown }) visit.2.1 had))
 
   pub rests_keep : (old new : List SeatedState) (conn later : Conn RefState) (clock shown : C) (rested : Rested) → IsConnection conn → HasRested seated_meaning shows old conn clock new later shown rested → HavePassedStill old new
   rests_keep old new conn later clock shown rested living gone =
       kept_by old new (∥∥₁_map living (λ found setup samples held had.
       let visit = gone found.0 found.1 in
-      rests_keeps (λ seats. HasPassedLimits setup samples seats held) (limits_told setup samples held) shows (record { ports = old; connection = found.0; clock = clock }) (record { ports = new; connection = visit.0; clock = shown }) rested visit.2 had))
+      rests_keeps (λ seats. IsAccountedFor setup samples seats held) (accounted_told setup samples held) shows (record { ports = old; connection = found.0; clock = clock }) (record { ports = new; connection = visit.0; clock = shown }) rested visit.2 had))
 
   pub judged_stores : (old new : List SeatedState) (conn later : Conn RefState) (clock shown : C) (current : ℕ → Bool) → IsConnection conn → HasGoneJudged seated_meaning shows old conn clock new later shown → StoreAs spec_in current old → StoreAs spec_in current new
   judged_stores old new conn later clock shown current living gone had i seat at =

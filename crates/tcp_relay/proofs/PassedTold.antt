@@ -8,10 +8,11 @@ use Rattle.stick_model.specs.declared.replies.Reply.{Reply}
 use Rattle.stick_model.proofs.TestLemmas.{eq-from}
 use Rattle.shard_record.specs.declared.view.Part.{Part}
 use Rattle.shard_record.specs.Calls.{IsHistory, call}
-use Rattle.shard_record.specs.Telling.{IsTold, log_of, mine_of, number_of, spoken}
+use Rattle.shard_record.specs.Telling.{IsTold, log_of, mine_in, mine_of, number_of, spoken}
+use Rattle.shard_record.specs.Parts.{caller_number}
 use Rattle.shard_record.specs.Views.{View, at}
 use Rattle.shard_record.proofs.Beginnings.{begins_itself}
-use Rattle.shard_record.proofs.Views.{at_put_else}
+use Rattle.shard_record.proofs.Views.{at_put, at_put_else}
 
 same : (a : ℕ) → nat_eq a a ≡ true
 same a = grind (arith, nat_tests)
@@ -33,6 +34,21 @@ module _ (of : ℕ) (event : Event) (reply : Reply) (old new : View) (told : IsT
       by : (b : Bool) → nat_eq book of ≡ b → IsPrefix (log_of book old) (log_of book new)
       by true is = subst (λ n. IsPrefix (log_of n old) (log_of n new)) (sym (eq-from book of is)) own
       by false is = subst (IsPrefix (log_of book old)) (sym (other_same book is)) (begins_itself (log_of book old))
+
+  -- of any other book a seat has made no call more
+  pub mine_other : (book : ℕ) → nat_eq book of ≡ false → mine_of book new ≡ mine_of book old
+  mine_other book apart = ap (λ (p : Part). mine_in p.callers) (ap (at book) told.others ∙ at_put_else of book (spoken (number_of of old) (log_of of new) (mine_of of new)) old (differs book of apart))
+
+  -- a seat calls under the same number
+  pub number_same : (book : ℕ) → number_of book new ≡ number_of book old
+  number_same book = by (nat_eq book of) refl
+    where
+      own : number_of of new ≡ number_of of old
+      own = ap (λ (p : Part). caller_number p.callers) (ap (at of) told.others ∙ at_put of (spoken (number_of of old) (log_of of new) (mine_of of new)) old)
+
+      by : (b : Bool) → nat_eq book of ≡ b → number_of book new ≡ number_of book old
+      by true is = subst (λ n. number_of n new ≡ number_of n old) (sym (eq-from book of is)) own
+      by false is = ap (λ (p : Part). caller_number p.callers) (ap (at book) told.others ∙ at_put_else of book (spoken (number_of of old) (log_of of new) (mine_of of new)) old (differs book of is))
 
   pub told_history : (book : ℕ) → IsHistory (log_of book old) → IsHistory (log_of book new)
   told_history book was = by (nat_eq book of) refl

@@ -15,6 +15,12 @@ can_accept has_number has_place is_short = has_number && has_place && not is_sho
 abbrev pub pause_of : Bool → Bool → Bool → Bool → Bool → Pause
 pause_of can may_have is_due holds is_short = if can && may_have then NotAtAll else (if holds || is_short then (if is_due then NotAtAll else Tick) else UntilReady)
 
+-- for how many ms a worker sleeps at most. One that holds no connection isn't woken by the clock
+abbrev pub sleep_of : Pause → Option ℕ
+sleep_of NotAtAll = Some 0
+sleep_of Tick = Some 100
+sleep_of UntilReady = None
+
 -- ---- errors of accept
 
 abbrev among : ℕ → List ℕ → Bool

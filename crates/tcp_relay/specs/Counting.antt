@@ -1,5 +1,5 @@
 -- What a worker counts of its connections.
-use Rattle.std.specs.Prelude.{ℕ, Bool, true, false, Option, Some, None}
+use Rattle.std.specs.Prelude.{Bool, true, false, Option, Some, None}
 use Rattle.tcp_stats.specs.CountValues.{with_more}
 use Rattle.tcp_stats.specs.declared.count.Count.{Count}
 use Rattle.tcp_stats.specs.declared.count.Count.TheVariants.{Accepted, Admitted, BytesIn, BytesOut, Ended, NoDescriptors, NoMemory, Rejected, Unaccepted}
@@ -10,6 +10,7 @@ use Rattle.tcp_relay.specs.declared.accept_errors.AcceptFault.TheVariants.{Gone,
 use Rattle.tcp_relay.specs.declared.accept_errors.Shortage.{Shortage}
 use Rattle.tcp_relay.specs.declared.accept_errors.Shortage.TheVariants.{Descriptors, Memory, Other}
 use Rattle.tcp_relay.specs.declared.fates.Ending.{Ending}
+use Rattle.tcp_relay.specs.declared.traffic.Traffic.{Traffic}
 
 -- one more of a count
 abbrev pub with_one : Count → Counts → Counts
@@ -38,6 +39,10 @@ with_fault Gone counts = counts
 with_fault Unreadable counts = with_one Rejected (with_one Accepted counts)
 with_fault (Short shortage) counts = with_one (missing shortage) counts
 
--- an admitted connection ends, after so many bytes came in and went out
-abbrev pub with_end : Ending → ℕ → ℕ → Counts → Counts
-with_end ending bytes_in bytes_out counts = with_more (with_more (with_one Ended (with_one_if (fate_of ending) counts)) BytesIn bytes_in) BytesOut bytes_out
+-- these bytes more have passed
+abbrev pub with_traffic : Traffic → Counts → Counts
+with_traffic more counts = with_more (with_more counts BytesIn more.bytes_in) BytesOut more.bytes_out
+
+-- an admitted connection ends, of which these bytes aren't counted yet
+abbrev pub with_end : Ending → Traffic → Counts → Counts
+with_end ending left counts = with_traffic left (with_one Ended (with_one_if (fate_of ending) counts))

@@ -1,5 +1,6 @@
 pub mod Accepting
 pub mod Addresses
+pub mod Balance
 pub mod Connections
 pub mod Counting
 pub mod Counts
@@ -12,4 +13,8 @@ pub mod Passed
 pub mod Seating
 pub mod Serving
 pub mod Sweeps
+pub mod Traffics
+pub mod Untracked
 pub mod Meeting
+pub mod Moments
+pub mod Starting

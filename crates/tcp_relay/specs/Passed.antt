@@ -12,11 +12,10 @@ use Rattle.stick_model.specs.declared.replies.Reply.{Reply}
 use Rattle.stick_model.specs.declared.replies.Reply.TheVariants.{Row as ARow}
 use Rattle.shard_record.specs.declared.view.Call.{Call}
 use Rattle.shard_record.specs.Calls.{IsHistory, passed_in}
-use Rattle.shard_record.specs.Telling.{log_of}
 use Rattle.shard_book.specs.SeatState.{RefState}
 use Rattle.shard_locks.specs.Ported.{seated_meaning}
 use Rattle.shard_locks.specs.Shared.{WasOut}
-use Rattle.shard_locks.specs.ShardsState.{SeatedState, book_of}
+use Rattle.shard_locks.specs.ShardsState.{SeatedState}
 use Rattle.rule_model.specs.declared.actions.KeyExpression.TheVariants as keys
 use Rattle.rule_model.specs.declared.actions.Slot.TheVariants.{Sc0}
 use Rattle.rule_model.specs.declared.sections.Setup.{Setup}
@@ -30,6 +29,7 @@ use Rattle.admit_core.specs.Held.{held_at}
 use Rattle.admit_core.specs.declared.conn.Conn.{Conn}
 use Rattle.admit_port.specs.Moves.{Moves}
 use Rattle.admit_port.specs.declared.moved.Moved.{Moved}
+use Rattle.tcp_relay.specs.Untracked.{IsUntrackedFor, known_of}
 
 -- ---- of the calls of a book
 
@@ -53,10 +53,6 @@ pub record HasPassed (shards limit : ℕ) (key : Key) (log : List Call) (referen
 
 -- ---- as seats know them
 
--- the calls of a shard's book, as far as a seat knows its record
-abbrev pub known_of : SeatedState → ℕ → List Call
-known_of seat part = log_of (book_of seat.table part) seat.known
-
 -- the reference is of the key of the connection's source, and has passed by what the seat of its table knows
 pub record HasPassedBy (setup : Setup) (samples : Samples) (limit : ℕ) (seats : List SeatedState) (entry : ℕ × RefState) : Type 0 where
   pub key : Key
@@ -77,9 +73,13 @@ HasPassedLimits setup samples seats conn =
 abbrev pub IsOf : Setup → Samples → Conn RefState → Type 0
 IsOf setup samples conn = ∥ ((connection : Connection RefState) × Stands conn connection × (connection.setup ≡ setup) × (connection.samples ≡ samples)) ∥₁
 
--- it has passed, by samples with which it may have come
+-- it came with these samples, and by them it has passed, or it is untracked for a cause
+abbrev pub HasPassedAs : Setup → Samples → List SeatedState → Conn RefState → Type 0
+HasPassedAs setup samples seats conn = IsOf setup samples conn × HasPassedLimits setup samples seats conn × IsUntrackedFor setup samples seats conn
+
+-- the same, by samples with which it may have come
 abbrev pub HasPassedIn : Setup → List SeatedState → Conn RefState → Type 0
-HasPassedIn setup seats conn = ∥ ((samples : Samples) × IsOf setup samples conn × HasPassedLimits setup samples seats conn) ∥₁
+HasPassedIn setup seats conn = ∥ ((samples : Samples) × HasPassedAs setup samples seats conn) ∥₁
 
 -- each connection that has passed by what the seats knew has passed by what they know then
 abbrev pub HavePassedStill : List SeatedState → List SeatedState → Type 0

@@ -1,14 +1,15 @@
 //! When a worker accepts clients, and how long it may wait; `turning` asks it in each turn.
 
 ghost use Rattle.std.specs.Prelude.{◌≡◌, ◌≢◌, ◌&&◌, true, false, is_some, IsOk};
-ghost use Rattle.tcp_relay.specs.Accepting.{can_accept, is_shortage, pause_of};
+ghost use Rattle.tcp_relay.specs.Accepting.{can_accept, is_shortage, pause_of, sleep_of};
 
 use crate::accept_errors::AcceptFault;
 use crate::connection_counter::ConnectionCounter;
+use crate::sweep::TICK;
 use std::io;
 use std::net::{Net, SocketAddr};
 use std::sync::Wait;
-use tcp_link::{Keepalive, ServerSocket};
+use tcp_link::{Liveness, ServerSocket};
 
 /// How long a worker waits until something is ready.
 #[derive(Clone, Copy, Debug, PartialEq, Eq)]
@@ -20,6 +21,19 @@ pub(crate) enum Pause {
     UntilReady,
 }
 
+impl Pause {
+    /// For how many ms a worker sleeps at most. None where it sleeps until it is woken.
+    pub(crate) fn most(self) -> Option<u64>
+        ensures { result ≡ sleep_of self }
+    {
+        match self {
+            Pause::NotAtAll => Some(0),
+            Pause::Tick => Some(TICK),
+            Pause::UntilReady => None,
+        }
+    }
+}
+
 /// What a worker accepts clients by. A client is accepted only with a socket for its server at hand, so that no client is accepted
 /// that can't be carried for want of descriptors.
 #[derive(Drop)]
@@ -28,7 +42,7 @@ pub(crate) struct Acceptor {
     number: Option<u64>,
     /// Whether no number more is drawn.
     is_closed: bool,
-    /// Whether clients may wait: that was told, and not since that there is none.
+    /// Whether clients may wait: that was told, and since neither that there is none, nor that they are another's.
     may_have: bool,
     /// Whether the system was short of what a client takes; until a tick has passed, or a connection has ended.
     is_short: bool,
@@ -98,6 +112,14 @@ impl Acceptor {
         self.may_have = true;
     }
 
+    /// The clients that wait are another worker's.
+    pub(crate) fn leave(&mut self)
+        ensures told { self.new.may_have ≡ false }
+        ensures same { (self.new.number ≡ self.old.number) × (self.new.is_short ≡ self.old.is_short) }
+    {
+        self.may_have = false;
+    }
+
     /// Connections have ended, or a tick has passed: the system may have what a client takes again.
     pub(crate) fn try_again(&mut self)
         ensures short { self.new.is_short ≡ false }
@@ -137,7 +159,7 @@ impl Acceptor {
         }
     }
 
-    /// Whether a client may wait that wasn't accepted.
+    /// Whether a client may wait that wasn't accepted, nor is another's.
     pub(crate) fn may_have(&self) -> bool
         ensures { result ≡ self.now.may_have }
     {
@@ -159,7 +181,7 @@ impl Acceptor {
     }
 
     /// How long a worker waits now: one that has a place or not, is to look for silent peers or not, and holds connections or
-    /// not. It never waits while a client may wait that it can accept.
+    /// not. It never waits while a client may wait that it can accept, unless that is another's.
     pub(crate) fn pause(&self, has_place: bool, is_due: bool, holds: bool) -> Pause
         ensures pause { result ≡ pause_of (can_accept (is_some self.now.number) has_place self.now.is_short) self.now.may_have is_due holds self.now.is_short }
         ensures tried { result ≢ Pause.NotAtAll → can_accept (is_some self.now.number) has_place self.now.is_short ≡ true → self.now.may_have ≡ false }
@@ -178,7 +200,7 @@ impl Acceptor {
         &mut self,
         rt: &impl Net,
         server: SocketAddr,
-        keepalive: Option<Keepalive>,
+        liveness: Liveness,
     ) -> io::Result<()>
         ensures ready { IsOk result → is_some self.new.server ≡ true }
         ensures same { (self.new.number ≡ self.old.number) × (self.new.may_have ≡ self.old.may_have) }
@@ -187,7 +209,7 @@ impl Acceptor {
         if self.server.is_some() {
             return Ok(());
         }
-        match ServerSocket::open(rt, server, keepalive) {
+        match ServerSocket::open(rt, server, liveness) {
             Ok(socket) => {
                 self.server = Some(socket);
                 Ok(())

@@ -1,12 +1,14 @@
 //! Connections that end, or are tried again, outside of a turn of their own; `turning` has it done behind its polls.
 
 ghost use Rattle.std.specs.Prelude.{◌≡◌, true, IfSome, None};
-ghost use Rattle.tcp_link.specs.Links.{bytes, must_be_accepted};
+ghost use Rattle.tcp_link.specs.Links.{must_be_accepted};
+ghost use Rattle.tcp_relay.specs.Traffics.{passed};
 ghost use Rattle.tcp_relay.specs.declared.fates.Ending.TheVariants.{Over};
 
 use crate::ServeRuntime;
 use crate::fates::{Ended, Ending};
 use crate::shared::Shared;
+use crate::traffic::Traffic;
 use crate::turning::EventLoop;
 use crate::visiting::end_admitted;
 use crate::width::Width;
@@ -16,17 +18,21 @@ use shard_record::Naming;
 use stick_table::Table;
 use tcp_link::{Buffer, Link, ServerSocket};
 
-/// How a connection ends: for this cause, or else as its link says that is over.
-pub(crate) fn ended_of(link: &Link, cause: Option<Ending>) -> Ended
+/// How a connection ends of which so much was counted already: for this cause, or else as its link says that is over.
+pub(crate) fn ended_of(link: &Link, counted: Traffic, cause: Option<Ending>) -> Ended
     ensures cause { IfSome cause (λ cause. result.ending ≡ cause) }
     ensures over { cause ≡ None → must_be_accepted link.now ≡ true → result.ending ≡ Over }
-    ensures bytes { (result.bytes_in, result.bytes_out) ≡ bytes link.now }
+    ensures traffic { result.traffic ≡ passed link.now }
+    ensures counted { result.counted ≡ counted }
 {
     let (bytes_in, bytes_out) = link.bytes();
     Ended {
         ending: ending_of(link, cause),
-        bytes_in,
-        bytes_out,
+        traffic: Traffic {
+            bytes_in,
+            bytes_out,
+        },
+        counted,
     }
 }
 
@@ -49,18 +55,18 @@ pub(crate) fn close<'a, T: Table, J: Naming, R: ServeRuntime, G, W: Width>(
     place: usize,
     cause: Option<Ending>,
 ) {
-    let Some((conn, link)) = worker.places.take(place) else {
+    let Some((conn, link, counted)) = worker.places.take(place) else {
         return;
     };
-    let ended = ended_of(&link, cause);
+    let ended = ended_of(&link, counted, cause);
     shared.control.note_end(ended.ending, &link);
     // First its references: a client that hears of the end may come again at once.
     end_admitted(shared, worker, clock, place, conn, ended);
     link.close(shared.rt);
 }
 
-/// Closes the connections of which a peer had been silent for too long at a moment in ms, by the clock of silence. What the system was short of is tried
-/// again too.
+/// Closes the connections of which a peer had been silent for too long at a moment in ms, by the clock of silence, and those whose
+/// resets may come now. What the system was short of is tried again too.
 pub(crate) fn close_silent<'a, T: Table, J: Naming, R: ServeRuntime, G, W: Width>(
     shared: &Shared<'a, R, G, W>,
     worker: &mut Worker<'a, T, J, R, W>,
@@ -68,12 +74,23 @@ pub(crate) fn close_silent<'a, T: Table, J: Naming, R: ServeRuntime, G, W: Width
     as_of: u64,
 ) {
     for place in 0..worker.places.count() {
+        if worker.places.is_settled(place, as_of) {
+            close(shared, worker, &mut event_loop.clock, place, None);
+        }
         if let Some(late) = worker.places.lateness(place, as_of, &shared.timeouts) {
             let cause = Some(Ending::Late(late));
             close(shared, worker, &mut event_loop.clock, place, cause);
         }
     }
     event_loop.acceptor.try_again();
+}
+
+/// Counts what has passed of each open connection since it was counted last.
+pub(crate) fn count_open<T: Table, J: Naming, R, W: Width>(worker: &mut Worker<'_, T, J, R, W>) {
+    for place in 0..worker.places.count() {
+        let more = worker.places.count_traffic(place);
+        worker.counted.count_traffic(more);
+    }
 }
 
 /// Closes all connections, as a drain has come to its end.
@@ -112,7 +129,7 @@ fn retry<'a, T: Table, J: Naming, R: ServeRuntime, G, W: Width>(
     place: usize,
     moment: u64,
 ) {
-    let Ok(server) = ServerSocket::open(shared.rt, shared.server, shared.keepalive) else {
+    let Ok(server) = ServerSocket::open(shared.rt, shared.server, shared.liveness) else {
         return;
     };
     let registry = event_loop.watch.registry();

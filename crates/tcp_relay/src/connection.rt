@@ -4,7 +4,9 @@ ghost use Rattle.std.specs.Prelude.{◌≡◌, true, false, is_some, IfErr, IfOk
 ghost use Rattle.admit_core.specs.Conn.{needed};
 ghost use Rattle.admit_core.specs.declared.need.Need.TheVariants.{Rest};
 ghost use Rattle.tcp_relay.specs.Connections.{IsVisitor};
+ghost use Rattle.tcp_relay.specs.Traffics.{counted_then, none, uncounted};
 
+use crate::traffic::Traffic;
 use crate::width::Width;
 use admit_core::Conn;
 use mio::Registry;
@@ -13,11 +15,16 @@ use shard_record::Naming;
 use std::marker::PhantomData;
 use tcp_link::{Buffer, Lateness, Link, Ready, ServerSocket, Timeouts};
 
+/// A connection that is open, its sockets, and what of its bytes is counted.
+pub(crate) type OpenParts<'a, J> = (Conn<'a, SharedRef<J>>, Link, Traffic);
+
 /// A connection that a worker holds: its sockets as long as it is open; without them, it holds references of which a release
 /// was refused.
 pub(crate) struct Connection<'a, J: Naming, W: Width> {
     pub(crate) conn: Conn<'a, SharedRef<J>>,
     pub(crate) link: Option<Link>,
+    /// What of its bytes is counted.
+    pub(crate) counted: Traffic,
     pub(crate) of: PhantomData<W>,
     ghost is: { IsVisitor W.tables W.shards conn },
     ghost rests: { is_some link ≡ true → needed conn ≡ Rest },
@@ -29,10 +36,12 @@ impl<'a, J: Naming, W: Width> Connection<'a, J, W> {
         requires connection { IsVisitor W.tables W.shards conn }
         requires rests { needed conn ≡ Rest }
         ensures conn { result.conn ≡ conn.entry }
+        ensures counted { result.counted ≡ none }
     {
         Connection {
             conn,
             link: Some(link),
+            counted: Traffic::none(),
             of: PhantomData,
         }
     }
@@ -45,19 +54,26 @@ impl<'a, J: Naming, W: Width> Connection<'a, J, W> {
         Connection {
             conn,
             link: None,
+            counted: Traffic::none(),
             of: PhantomData,
         }
     }
 
-    /// The connection and its sockets, where it is open; else itself.
-    pub(crate) fn parts(self) -> Result<(Conn<'a, SharedRef<J>>, Link), Connection<'a, J, W>>
+    /// The connection, its sockets and what of its bytes is counted, where it is open; else itself.
+    pub(crate) fn parts(self) -> Result<OpenParts<'a, J>, Connection<'a, J, W>>
         ensures connection { IfOk result (λ parts. IsVisitor W.tables W.shards parts.0) }
         ensures rests { IfOk result (λ parts. needed parts.0 ≡ Rest) }
+        ensures counted { IfOk result (λ parts. parts.2 ≡ self.entry.counted) }
         ensures closed { IfErr result (λ kept. is_some kept.link ≡ false) }
     {
-        let Connection { conn, link, of: _ } = self;
+        let Connection {
+            conn,
+            link,
+            counted,
+            of: _,
+        } = self;
         match link {
-            Some(link) => Ok((conn, link)),
+            Some(link) => Ok((conn, link, counted)),
             None => Err(Connection::kept(conn)),
         }
     }
@@ -79,10 +95,39 @@ impl<'a, J: Naming, W: Width> Connection<'a, J, W> {
         }
     }
 
+    /// What of its bytes isn't counted yet, and is from now on: nothing where it is closed.
+    pub(crate) fn count_traffic(&mut self) -> Traffic
+        ensures more { result ≡ uncounted self.old.link self.old.counted }
+        ensures counted { self.new.counted ≡ counted_then self.old.link self.old.counted }
+        ensures conn { self.new.conn ≡ self.old.conn }
+        ensures open { is_some self.new.link ≡ is_some self.old.link }
+        ensures link { self.new.link ≡ self.old.link }
+    {
+        let Some(link) = &self.link else {
+            return Traffic::none();
+        };
+        let (bytes_in, bytes_out) = link.bytes();
+        let passed = Traffic {
+            bytes_in,
+            bytes_out,
+        };
+        let more = passed.beyond(self.counted);
+        self.counted = passed;
+        more
+    }
+
     /// Whether its server refused it, and is to be tried again at a moment in ms.
     pub(crate) fn is_due(&self, moment: u64) -> bool {
         match &self.link {
             Some(link) => link.is_due(moment),
+            None => false,
+        }
+    }
+
+    /// Whether it is open, and a side of it that is owed a reset has taken all, at a moment in ms.
+    pub(crate) fn is_settled(&self, moment: u64) -> bool {
+        match &self.link {
+            Some(link) => link.is_settled(moment),
             None => false,
         }
     }

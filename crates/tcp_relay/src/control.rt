@@ -3,6 +3,7 @@
 use crate::accept_errors::{AcceptFault, Shortage};
 use crate::drain::Drain;
 use crate::fates::Ending;
+use crate::start_gate::StartGate;
 use std::net::SocketAddr;
 use tcp_link::{Link, Unreached};
 use tcp_stats::{Cells, Count, Gauge, LastTimes, Occasion};
@@ -21,6 +22,8 @@ pub struct Control<'a> {
     pub gauge: &'a Gauge,
     /// What ends serving.
     pub drain: &'a Drain,
+    /// How far the start of the threads is.
+    pub start: &'a StartGate,
 }
 
 impl<'a> Control<'a> {

@@ -1,13 +1,15 @@
 //! What a worker counts of its connections, for those who look on; `Worker` has one, and `turning` publishes it.
 
 ghost use Rattle.std.specs.Prelude.{◌≡◌, ◌≢◌, false, true};
-ghost use Rattle.tcp_relay.specs.Counting.{missing, verdict_of, with_end, with_fault, with_one, with_one_if};
+ghost use Rattle.tcp_relay.specs.Counting.{missing, verdict_of, with_end, with_fault, with_one, with_one_if, with_traffic};
 ghost use Rattle.tcp_relay.specs.Meeting.{raised};
+ghost use Rattle.tcp_relay.specs.Traffics.{beyond, none};
 ghost use Rattle.tcp_stats.specs.CountValues.{count_of};
 ghost use Rattle.tcp_stats.specs.declared.count.Count.TheVariants.{Accepted};
 
 use crate::accept_errors::{AcceptFault, Shortage};
 use crate::fates::Ended;
+use crate::traffic::Traffic;
 use tcp_stats::{Cells, Count, Counts};
 
 /// What a worker has counted, and whether some of it isn't published yet.
@@ -94,13 +96,31 @@ impl Counted {
 
     /// An admitted connection has ended.
     pub(crate) fn count_end(&mut self, ended: Ended)
-        ensures counts { self.new.counts ≡ with_end ended.ending ended.bytes_in ended.bytes_out self.old.counts }
+        ensures counts { self.new.counts ≡ with_end ended.ending (beyond ended.traffic ended.counted) self.old.counts }
         ensures news { self.new.is_news ≡ true }
     {
         self.count_if(ended.ending.fate());
         self.count(Count::Ended);
-        self.counts.add(Count::BytesIn, ended.bytes_in);
-        self.counts.add(Count::BytesOut, ended.bytes_out);
+        self.add(ended.traffic.beyond(ended.counted));
+    }
+
+    /// These bytes more have passed.
+    fn add(&mut self, more: Traffic)
+        ensures counts { self.new.counts ≡ with_traffic more self.old.counts }
+        ensures news { self.new.is_news ≡ self.old.is_news }
+    {
+        self.counts.add(Count::BytesIn, more.bytes_in);
+        self.counts.add(Count::BytesOut, more.bytes_out);
+    }
+
+    /// These bytes more have passed through a connection that is open.
+    pub(crate) fn count_traffic(&mut self, more: Traffic)
+        ensures counts { self.new.counts ≡ with_traffic more self.old.counts }
+        ensures news { more ≢ none → self.new.is_news ≡ true }
+        ensures kept { self.old.is_news ≡ true → self.new.is_news ≡ true }
+    {
+        self.is_news = self.is_news || more.bytes_in > 0 || more.bytes_out > 0;
+        self.add(more);
     }
 
     /// Raises a count to a number, where it is less.

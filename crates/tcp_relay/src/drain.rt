@@ -3,6 +3,9 @@
 ghost use Rattle.std.specs.Prelude.{◌≡◌};
 ghost use Rattle.tcp_relay.specs.Draining.{begun_of, phase_of};
 
+use base_latch::Latch;
+use std::io;
+use std::os::fd::{AsRawFd, RawFd};
 use std::sync::atomic::{AtomicU64, Ordering};
 
 /// How far a drain is.
@@ -21,19 +24,28 @@ pub enum Phase {
 pub struct Drain {
     /// 0 until a drain begins; then one more than its moment in ms.
     word: AtomicU64,
+    /// What wakes those that wait for nothing else.
+    begun: Latch,
 }
 
 impl Drain {
-    /// None has begun.
-    pub fn new() -> Drain {
-        Drain {
+    /// None has begun. An error is that of eventfd(2), as where no descriptor is left.
+    pub fn open() -> io::Result<Drain> {
+        Ok(Drain {
             word: AtomicU64::new(0),
-        }
+            begun: Latch::open()?,
+        })
     }
 
     /// Begins a drain: from now on no client is accepted, and from a moment on, in ms since the start of serving, open
-    /// connections are closed. Of several such calls the earliest moment counts.
+    /// connections are closed. Of several such calls the earliest moment counts. Workers that sleep are woken.
     pub fn begin(&self, until: u64) {
+        self.note(until);
+        self.begun.set();
+    }
+
+    /// Notes that it has begun, and until when.
+    fn note(&self, until: u64) {
         let mut word = self.word.load(Ordering::SeqCst);
         for _try in 0..u64::MAX {
             let begun = begun_of(word, until);
@@ -45,6 +57,11 @@ impl Drain {
                 Err(now) => word = now,
             }
         }
+    }
+
+    /// What is readable once it has begun (epoll(7)).
+    pub(crate) fn watched(&self) -> RawFd {
+        self.begun.as_raw_fd()
     }
 
     /// How far it is at a moment in ms.

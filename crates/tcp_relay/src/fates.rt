@@ -2,7 +2,9 @@
 
 ghost use Rattle.std.specs.Prelude.{◌≡◌, Some};
 ghost use Rattle.tcp_relay.specs.Fates.{fate_of, over_by};
+ghost use Rattle.tcp_relay.specs.Traffics.{none};
 
+use crate::traffic::Traffic;
 use tcp_link::{ConnectFault, Lateness};
 use tcp_stats::Count;
 
@@ -67,23 +69,25 @@ fn count_of_lateness(lateness: Lateness) -> Count
     }
 }
 
-/// An end of an admitted connection, after so many bytes came in and went out.
+/// An end of an admitted connection.
 #[derive(Clone, Copy, Debug, PartialEq, Eq)]
 pub(crate) struct Ended {
     pub(crate) ending: Ending,
-    pub(crate) bytes_in: u64,
-    pub(crate) bytes_out: u64,
+    /// The bytes after which it ends.
+    pub(crate) traffic: Traffic,
+    /// Those of them that were counted while it was open.
+    pub(crate) counted: Traffic,
 }
 
 impl Ended {
     /// An end before anything passed.
     pub(crate) fn unbegun(ending: Ending) -> Ended
-        ensures { result ≡ record { ending = ending; bytes_in = 0; bytes_out = 0 } }
+        ensures { result ≡ record { ending = ending; traffic = none; counted = none } }
     {
         Ended {
             ending,
-            bytes_in: 0,
-            bytes_out: 0,
+            traffic: Traffic::none(),
+            counted: Traffic::none(),
         }
     }
 }

@@ -1,7 +1,8 @@
-//! Laws of shares, of looks for silent peers, of drains and of what has passed a limit; each is the contract of an empty function,
-//! which no code calls.
+//! Laws of shares, of who takes a client, of looks for silent peers, of drains and of what has passed a limit; each is the contract of
+//! an empty function, which no code calls.
 
 ghost use Rattle.tcp_relay.specs.Accepting.{SharesLaw};
+ghost use Rattle.tcp_relay.specs.Balance.{EvenLaw, TakenLaw};
 ghost use Rattle.tcp_relay.specs.Draining.{DrainLaw};
 ghost use Rattle.tcp_relay.specs.Passed.{PassedStaysLaw};
 ghost use Rattle.tcp_relay.specs.Sweeps.{LookLaw, SilenceLaw};
@@ -9,6 +10,16 @@ ghost use Rattle.tcp_relay.specs.Sweeps.{LookLaw, SilenceLaw};
 /// The workers' shares come to all connections.
 pub fn shares()
     ensures { SharesLaw }
+{}
+
+/// Whoever is left a client takes it, and leaves it to nobody, as long as nothing else changes.
+pub fn left_is_taken()
+    ensures { TakenLaw }
+{}
+
+/// As long as no connection ends, what workers hold that have room differs by one at most.
+pub fn stays_even()
+    ensures { EvenLaw }
 {}
 
 /// Silent peers are looked for as of a moment only once all that was ready then has been told.

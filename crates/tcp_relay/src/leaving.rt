@@ -72,6 +72,7 @@ fn put_connection<J: Naming, W: Width>(
     let Connection {
         conn,
         link: _link,
+        counted: _,
         of: _,
     } = connection;
     let (first, second, third) = conn.end();

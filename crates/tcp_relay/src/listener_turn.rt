@@ -1,64 +1,47 @@
-//! Whose turn it is at the listener; `turning` begins and ends a worker's part, and `serving` makes it.
+//! Whose turn it is at the listener; `turning` begins and ends a worker's waits here, and asks whether it leaves clients to others.
 //!
-//! If all idle workers watched the listener, each connection would wake all of them, and one would get it. So one watches it: the
-//! one that has been idle longest. Once it has accepted a connection, the next takes over, before the rules and the gate are
-//! asked. So a worker that is busy, or blocked, or can take no more keeps nobody from what comes next.
+//! If all workers watched the listener, each connection would wake all of them, and one would get it. So one is told of clients. Once
+//! it has accepted one, whoever holds fewer connections is told of the next, before the rules and the gate are asked. What comes is
+//! left to the one that holds least, also where that is at work: so none has more clients that stay than the others. Whoever is told
+//! anew hears also of those that wait already.
+//!
+//! Nobody waits for a worker that is held up. Whoever leaves a client holds a connection, and so looks each tick at the one that is
+//! told. If that is at work, and has begun no wait since the last look, the one that looks is told in its place, and leaves it nothing
+//! until it waits again.
 
-ghost use Rattle.std.specs.Prelude.{◌≡◌, ◌⊎◌, ◌++◌, ◌∷◌, [], true, false, None, Some, IfNone, IfSome};
-ghost use Rattle.tcp_relay.specs.ListenerTurns.{first_of, without};
+ghost use Rattle.std.specs.Prelude.{◌≤◌};
 
+use crate::acceptor::Pause;
+use crate::balance::{AWAY, Candidate, is_away, is_waiting, least_of, leaves_to, left_to};
+use crate::standing::{NOBODY, Seen, Stand, Told, claims, gives_on, is_held_up, told_as, word_of};
 use crate::watch::{CONNECTIONS, LISTENER, NOTHING};
 use base_sequence::NoMemory;
+use crossbeam_utils::CachePadded;
 use mio::unix::SourceFd;
 use mio::{Interest, Registry};
 use std::alloc::Global;
 use std::os::fd::RawFd;
+use std::sync::atomic::{AtomicUsize, Ordering};
 use std::sync::{Mutex, Wait};
 
-/// The workers that wait and can accept, in the order in which they began, and who is told of connections.
+/// The most workers.
+const WORKERS: usize = 64;
+
+/// What a worker shows the others.
 #[derive(Drop)]
-pub(crate) struct WorkerQueue {
-    waiting: Vec<u32>,
-    told: Option<u32>,
+struct Shown {
+    word: AtomicUsize,
+    /// How often it has begun to wait, modulo the words of the machine.
+    waits: AtomicUsize,
 }
 
-impl WorkerQueue {
-    /// Nobody waits. There are places for so many workers.
-    fn reserve(alloc: Global, workers: usize) -> Result<WorkerQueue, NoMemory> {
-        Ok(WorkerQueue {
-            waiting: Vec::with_capacity(alloc, workers)?,
-            told: None,
-        })
-    }
-
-    /// A worker begins to wait, the last in the queue. False where the queue has no place for it: then it isn't in it, and is never
-    /// told.
-    fn join(&mut self, worker: u32) -> bool
-        ensures last { result ≡ true → self.new.waiting.items ≡ self.old.waiting.items ++ worker ∷ [] }
-        ensures full { result ≡ false → self.new.waiting.items ≡ self.old.waiting.items }
-        ensures told { self.new.told ≡ self.old.told }
-    {
-        self.waiting.push(worker).is_ok()
-    }
-
-    /// A worker waits no more.
-    fn leave(&mut self, worker: u32)
-        ensures others { self.new.waiting.items ≡ without worker self.old.waiting.items }
-        ensures told { self.new.told ≡ self.old.told }
-    {
-        self.waiting.retain(|other| *other != worker);
-    }
-
-    /// Whose turn it is, where that is somebody else than who is told.
-    fn next(&self) -> Option<u32>
-        ensures some { IfSome result (λ worker. first_of self.now.waiting.items ≡ Some worker) }
-        ensures none { IfNone result ((first_of self.now.waiting.items ≡ None) ⊎ (first_of self.now.waiting.items ≡ self.now.told)) }
-    {
-        let first = self.waiting.as_slice().first()?;
-        if self.told == Some(*first) {
-            return None;
+impl Shown {
+    /// Of a worker that is away, and hasn't waited yet.
+    fn new() -> Shown {
+        Shown {
+            word: AtomicUsize::new(AWAY),
+            waits: AtomicUsize::new(0),
         }
-        Some(*first)
     }
 }
 
@@ -69,47 +52,108 @@ pub(crate) struct ListenerTurn {
     watched: Option<RawFd>,
     /// Through which each worker is told, by its number.
     registries: Vec<Registry>,
-    queue: Mutex<WorkerQueue>,
+    /// What each worker shows, by its number. Padded, so that no two write on one line of a processor's cache.
+    shown: Vec<CachePadded<Shown>>,
+    /// Who is told of clients.
+    told: CachePadded<AtomicUsize>,
+    /// Under which it is changed.
+    changes: Mutex<()>,
 }
 
 impl ListenerTurn {
-    /// Nobody waits yet, and nobody is told.
+    /// All are away, and nobody is told.
     pub(crate) fn new(watched: Option<RawFd>, parts: TurnParts) -> ListenerTurn {
-        let TurnParts { registries, queue } = parts;
+        let TurnParts { registries, shown } = parts;
         ListenerTurn {
             watched,
             registries,
-            queue: Mutex::new(queue),
+            shown,
+            told: CachePadded::new(AtomicUsize::new(NOBODY)),
+            changes: Mutex::new(()),
+        }
+    }
+
+    /// Who is told of clients.
+    fn told(&self) -> usize {
+        self.told.load(Ordering::SeqCst)
+    }
+
+    /// The same, as a worker sees it.
+    fn told_as(&self, worker: usize) -> Told {
+        let told = self.told();
+        told_as(worker, told, self.word(told))
+    }
+
+    /// Whether another than a worker is told of clients.
+    fn tells_another(&self, worker: usize) -> bool {
+        match self.told_as(worker) {
+            Told::Waiting | Told::Working => true,
+            Told::Nobody | Told::Itself => false,
+        }
+    }
+
+    /// What a worker shows.
+    fn word(&self, worker: usize) -> usize {
+        match self.shown.get(worker) {
+            Some(shown) => shown.word.load(Ordering::SeqCst),
+            None => AWAY,
+        }
+    }
+
+    /// How often a worker has begun to wait.
+    fn waits(&self, worker: usize) -> usize {
+        match self.shown.get(worker) {
+            Some(shown) => shown.waits.load(Ordering::SeqCst),
+            None => 0,
+        }
+    }
+
+    /// What the others show, in the places of their numbers, to a worker, which is away there.
+    fn others(&self, worker: usize) -> [usize; WORKERS] {
+        let mut words = [AWAY; WORKERS];
+        for other in 0..self.count() {
+            if other != worker {
+                words[other] = self.word(other);
+            }
+        }
+        words
+    }
+
+    /// How many workers there are.
+    fn count(&self) -> usize
+        ensures few { result ≤ 64 }
+    {
+        self.shown.as_slice().len().min(WORKERS)
+    }
+
+    /// Shows of a worker that was at work that it is away, unless it shows something else by now.
+    fn pass_over(&self, worker: usize) {
+        let Some(shown) = self.shown.get(worker) else {
+            return;
+        };
+        let word = shown.word.load(Ordering::SeqCst);
+        if !is_waiting(word) {
+            let order = Ordering::SeqCst;
+            let _ = shown.word.compare_exchange(word, AWAY, order, order);
         }
     }
 
     /// What a worker is told of the listener from now on; at once, if there is something.
-    fn tell(&self, worker: u32, what: Interest) {
-        let (Some(watched), Some(registry)) = (self.watched, self.registries.get(worker as usize))
-        else {
+    fn tell(&self, worker: usize, what: Interest) {
+        let (Some(watched), Some(registry)) = (self.watched, self.registries.get(worker)) else {
             return;
         };
         // It is registered, so the system has no reason to refuse.
         let _ = registry.reregister(&mut SourceFd(&watched), LISTENER, what);
     }
 
-    /// Has another worker told in place of who is, or nobody.
-    fn tell_instead(&self, queue: &mut WorkerQueue, worker: Option<u32>) {
-        if let Some(former) = queue.told {
-            self.tell(former, NOTHING);
-        }
-        if let Some(worker) = worker {
-            self.tell(worker, CONNECTIONS);
-        }
-        queue.told = worker;
-    }
-
-    /// Has the worker told whose turn it is, if it isn't.
-    fn appoint(&self, queue: &mut WorkerQueue) {
-        let listener_turn = queue.next();
-        if listener_turn.is_some() {
-            self.tell_instead(queue, listener_turn);
-        }
+    /// Has a worker told in place of who is, or nobody. First it is known: a worker that is told, and still took another for the one
+    /// that is, would leave it the clients of which it alone hears.
+    fn tell_instead(&self, worker: usize) {
+        let former = self.told();
+        self.told.store(worker, Ordering::SeqCst);
+        self.tell(former, NOTHING);
+        self.tell(worker, CONNECTIONS);
     }
 }
 
@@ -117,7 +161,7 @@ impl ListenerTurn {
 #[derive(Drop)]
 pub(crate) struct TurnParts {
     registries: Vec<Registry>,
-    queue: WorkerQueue,
+    shown: Vec<CachePadded<Shown>>,
 }
 
 impl TurnParts {
@@ -125,13 +169,14 @@ impl TurnParts {
     pub(crate) fn reserve(alloc: Global, workers: usize) -> Result<TurnParts, NoMemory> {
         Ok(TurnParts {
             registries: Vec::with_capacity(alloc, workers)?,
-            queue: WorkerQueue::reserve(alloc, workers)?,
+            shown: Vec::with_capacity(alloc, workers)?,
         })
     }
 
     /// The next worker's registry. False where there is no room for it.
     pub(crate) fn add(&mut self, registry: Registry) -> bool {
-        self.registries.push(registry).is_ok()
+        let shown = CachePadded::new(Shown::new());
+        self.shown.push(shown).is_ok() && self.registries.push(registry).is_ok()
     }
 }
 
@@ -139,42 +184,175 @@ impl TurnParts {
 #[derive(Drop)]
 pub(crate) struct WorkerTurn<'a> {
     listener_turn: &'a ListenerTurn,
-    worker: u32,
-    /// Whether it waits, as far as the others know.
-    is_waiting: bool,
+    worker: usize,
+    /// How it stood when it last began to wait; what it holds, as of now.
+    stand: Stand,
+    /// What it shows, unless it was passed over.
+    word: usize,
+    /// What the one of the others showed that showed least, when it last looked in this turn.
+    least: usize,
+    /// How often it has begun to wait.
+    waits: usize,
+    /// Who was told at its last tick, where that was another that was at work.
+    seen: Option<Seen>,
 }
 
 impl<'a> WorkerTurn<'a> {
-    /// The part of a worker that doesn't wait yet.
+    /// The part of a worker that hasn't waited yet.
     pub(crate) fn new(listener_turn: &'a ListenerTurn, worker: u32) -> WorkerTurn<'a> {
         WorkerTurn {
             listener_turn,
-            worker,
-            is_waiting: false,
+            worker: worker as usize,
+            stand: Stand::away(),
+            word: AWAY,
+            least: 0,
+            waits: 0,
+            seen: None,
         }
     }
 
-    /// It begins to wait. One that can't accept is told of no connection any more.
-    pub(crate) fn begin(&mut self, rt: &impl Wait, can_accept: bool) {
-        let (listener_turn, worker) = (self.listener_turn, self.worker);
-        let mut queue = listener_turn.queue.lock(rt);
-        if can_accept {
-            self.is_waiting = queue.join(worker);
-        } else if queue.told == Some(worker) {
-            listener_turn.tell_instead(&mut queue, None);
+    /// Shows how it stands, and whether it waits.
+    fn show(&mut self, waits: bool) {
+        let word = word_of(self.stand, waits);
+        if word == self.word {
+            return;
         }
-        listener_turn.appoint(&mut queue);
+        self.word = word;
+        if let Some(shown) = self.listener_turn.shown.get(self.worker) {
+            shown.word.store(word, Ordering::SeqCst);
+        }
+    }
+
+    /// Shows that it begins to wait once more.
+    fn count_wait(&mut self) {
+        self.waits = self.waits.wrapping_add(1);
+        if let Some(shown) = self.listener_turn.shown.get(self.worker) {
+            shown.waits.store(self.waits, Ordering::SeqCst);
+        }
+    }
+
+    /// What the one of the others shows that shows least.
+    fn look(&self) -> Candidate {
+        let words = self.listener_turn.others(self.worker);
+        least_of(words.as_slice().split_at(self.listener_turn.count()).0)
+    }
+
+    /// It begins a wait: where it only looks whether something is ready it stays at work.
+    pub(crate) fn begin(&mut self, rt: &impl Wait, stand: Stand, pause: Pause) {
+        self.stand = stand;
+        self.count_wait();
+        self.show(pause != Pause::NotAtAll);
+        let is_bounded = pause != Pause::UntilReady;
+        let told = self.listener_turn.told_as(self.worker);
+        if claims(told, stand.can_accept, is_bounded) {
+            self.take(rt, is_bounded);
+        }
+        if gives_on(told, stand.can_accept, stand.may_have) {
+            self.give_on(rt);
+        }
     }
 
     /// It waits no more.
-    pub(crate) fn end(&mut self, rt: &impl Wait) {
-        if !self.is_waiting {
+    pub(crate) fn end(&mut self) {
+        self.show(false);
+        self.least = 0;
+    }
+
+    /// A tick has passed: if another is told of clients that has been at work since the last one, this one is told in its place, and
+    /// leaves it none until it waits again.
+    pub(crate) fn look_after(&mut self, rt: &impl Wait) {
+        let worker = self.listener_turn.told();
+        let waits = self.listener_turn.waits(worker);
+        let told = self.listener_turn.told_as(self.worker);
+        let seen = (told == Told::Working).then_some(Seen { worker, waits });
+        let is_bounded = !is_held_up(self.seen, seen);
+        self.seen = seen;
+        if claims(told, self.stand.can_accept, is_bounded) {
+            self.listener_turn.pass_over(worker);
+            self.take(rt, is_bounded);
+        }
+    }
+
+    /// It ends: it is left no client any more.
+    pub(crate) fn finish(&mut self, rt: &impl Wait) {
+        self.stand = Stand::away();
+        self.show(false);
+        self.give_on(rt);
+    }
+
+    /// It holds so many connections.
+    pub(crate) fn hold(&mut self, held: usize) {
+        self.stand.held = held;
+        self.show(false);
+    }
+
+    /// It has accepted a client, and holds so many connections beside. If one holds fewer than it would with that client, it is told of
+    /// the next.
+    pub(crate) fn pass(&self, rt: &impl Wait, held: usize) {
+        if self.listener_turn.told() == self.worker {
+            let _is_left = self.leave(rt, held.saturating_add(1));
+        }
+    }
+
+    /// Whether the clients that wait are another's, where it holds so many connections: that is told of them then, or was before.
+    pub(crate) fn leaves(&mut self, rt: &impl Wait, held: usize) -> bool {
+        if !leaves_to(held, self.least) {
+            return false;
+        }
+        self.least = self.look().word;
+        leaves_to(held, self.least) && self.leave(rt, held)
+    }
+
+    /// Has one that holds fewer told of the clients that wait, unless another is. Whether another is now.
+    fn leave(&self, rt: &impl Wait, held: usize) -> bool {
+        let listener_turn = self.listener_turn;
+        if listener_turn.tells_another(self.worker) {
+            return true;
+        }
+        let _changes = listener_turn.changes.lock(rt);
+        if listener_turn.tells_another(self.worker) {
+            return true;
+        }
+        let words = listener_turn.others(self.worker);
+        match left_to(held, words.as_slice().split_at(listener_turn.count()).0) {
+            Some(taker) => {
+                listener_turn.tell_instead(taker);
+                true
+            }
+            None => false,
+        }
+    }
+
+    /// It is told of clients in place of who is, if it still may be.
+    fn take(&self, rt: &impl Wait, is_bounded: bool) {
+        let listener_turn = self.listener_turn;
+        let _changes = listener_turn.changes.lock(rt);
+        let told = listener_turn.told_as(self.worker);
+        if claims(told, self.stand.can_accept, is_bounded) {
+            listener_turn.tell_instead(self.worker);
+        }
+    }
+
+    /// If it is told of clients, whoever holds least of the others is in its place. Where all are away it stays told, if it can accept
+    /// some; else nobody is.
+    fn give_on(&self, rt: &impl Wait) {
+        let listener_turn = self.listener_turn;
+        let _changes = listener_turn.changes.lock(rt);
+        if listener_turn.told() != self.worker || self.tell_next() || self.stand.can_accept {
             return;
         }
-        self.is_waiting = false;
-        let listener_turn = self.listener_turn;
-        let mut queue = listener_turn.queue.lock(rt);
-        queue.leave(self.worker);
-        listener_turn.appoint(&mut queue);
+        listener_turn.tell_instead(NOBODY);
+        // One may have had no room when it was looked at, and seen since that somebody was told.
+        let _is_told = self.tell_next();
+    }
+
+    /// Has the one told that holds least of the others, if there is one with room. Whether there is.
+    fn tell_next(&self) -> bool {
+        let next = self.look();
+        if is_away(next.word) {
+            return false;
+        }
+        self.listener_turn.tell_instead(next.worker);
+        true
     }
 }

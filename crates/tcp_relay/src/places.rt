@@ -7,8 +7,10 @@ ghost use Rattle.admit_core.specs.Conn.{needed};
 ghost use Rattle.admit_core.specs.declared.need.Need.TheVariants.{Rest};
 ghost use Rattle.tcp_relay.specs.Connections.{IsVisitor};
 ghost use Rattle.tcp_relay.specs.Passed.{HasPassedIn, HaveAllPassed, NoneCame, StaysThere};
+ghost use Rattle.tcp_relay.specs.Traffics.{uncounted_in};
 
-use crate::connection::Connection;
+use crate::connection::{Connection, OpenParts};
+use crate::traffic::Traffic;
 use crate::width::Width;
 use admit_core::Conn;
 use mio::Registry;
@@ -187,6 +189,14 @@ impl<'a, J: Naming, W: Width> Places<'a, J, W> {
         }
     }
 
+    /// Whether the connection in a place is open, and a side of it that is owed a reset has taken all, at a moment in ms.
+    pub(crate) fn is_settled(&self, place: usize, moment: u64) -> bool {
+        match self.held.get(place) {
+            Some(Some(connection)) => connection.is_settled(moment),
+            _ => false,
+        }
+    }
+
     /// Tries the server of the connection in a place again, by this socket. Whether the connection is over now.
     pub(crate) fn retry(
         &mut self,
@@ -204,8 +214,19 @@ impl<'a, J: Naming, W: Width> Places<'a, J, W> {
         retry_in(slot, server, registry, place, moment, buffer)
     }
 
-    /// Takes the connection in a place, if it is open. The place stays claimed.
-    pub(crate) fn take(&mut self, place: usize) -> Option<(Conn<'a, SharedRef<J>>, Link)>
+    /// What isn't counted yet of the bytes of the connection in a place, and is from now on.
+    pub(crate) fn count_traffic(&mut self, place: usize) -> Traffic
+        ensures more { IfSome (slice_get self.old.held.items place) (λ slot. result ≡ uncounted_in (λ one. one.link) (λ one. one.counted) slot) }
+        ensures none { NoneCame (λ one. is_some one.link) (λ one. one.conn) self.old.held.items self.new.held.items }
+    {
+        let Some(slot) = self.held.get_mut(place) else {
+            return Traffic::none();
+        };
+        count_traffic_in(slot)
+    }
+
+    /// Takes the connection in a place, if it is open, with what of its bytes is counted. The place stays claimed.
+    pub(crate) fn take(&mut self, place: usize) -> Option<OpenParts<'a, J>>
         ensures free { IfSome result (λ _. slice_get self.new.held.items place ≡ Some None) }
         ensures connection { IfSome result (λ taken. IsVisitor W.tables W.shards taken.0) }
         ensures rests { IfSome result (λ taken. needed taken.0 ≡ Rest) }
@@ -214,9 +235,9 @@ impl<'a, J: Naming, W: Width> Places<'a, J, W> {
         let slot = self.held.get_mut(place)?;
         let connection = slot.take()?;
         match connection.parts() {
-            Ok((conn, link)) => {
+            Ok((conn, link, counted)) => {
                 self.open = self.open.saturating_sub(1);
-                Some((conn, link))
+                Some((conn, link, counted))
             }
             Err(kept) => {
                 self.put(place, kept);
@@ -284,5 +305,16 @@ fn lateness_in<J: Naming, W: Width>(
     match slot {
         Some(connection) => connection.lateness(moment, timeouts),
         None => None,
+    }
+}
+
+/// What isn't counted yet of the bytes of the connection in a place.
+fn count_traffic_in<J: Naming, W: Width>(slot: &mut Option<Connection<'_, J, W>>) -> Traffic
+    ensures more { result ≡ uncounted_in (λ one. one.link) (λ one. one.counted) slot.old }
+    ensures stays { StaysThere (λ one. is_some one.link) (λ one. one.conn) slot.old slot.new }
+{
+    match slot {
+        Some(connection) => connection.count_traffic(),
+        None => Traffic::none(),
     }
 }

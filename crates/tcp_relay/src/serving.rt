@@ -15,12 +15,13 @@ use crate::listeners::{Listener, Listeners};
 use crate::reserved::{Reserved, reserve};
 use crate::shared::Shared;
 use crate::shares::share_of;
+use crate::start_gate::{StartGate, StartPhase};
 use crate::sweep::Sweep;
 use crate::turning::{EventLoop, turn_all};
 use crate::watch::Watch;
 use crate::width::Width;
 use crate::worker::Worker;
-use crate::{Control, FaultKind, Gate, Limits, ServeFault, ServeRuntime, Served};
+use crate::{Control, Drain, FaultKind, Gate, Limits, ServeFault, ServeRuntime, Served};
 use base_clock::{Clock, RunningClock, Start};
 use rule_model::Setup;
 use shard_locks::{Shards, SharedSeat};
@@ -29,7 +30,11 @@ use std::alloc::Global;
 use std::marker::{Brand, PhantomData};
 use std::net::Net;
 use std::thread;
+use std::time::Duration;
 use stick_table::Table;
+
+/// How many ms lie between two looks of a worker whether all others run.
+const START_LOOK: u64 = 1;
 
 /// One worker's connections: until the last number is drawn, or a drain has begun, and all its connections have ended; or it
 /// can't wait for them.
@@ -56,23 +61,25 @@ fn serve_each<'a, T: Table, J: Naming, R: ServeRuntime, G: Gate, W: Width>(
             .acceptor
             .draw(shared.counter, shared.rt, worker.keeps);
         if event_loop.acceptor.number().is_none() && worker.places.is_idle() {
-            return;
+            break;
         }
         if !turn_all(shared, worker, &mut event_loop, &mut buffers) {
             worker.tally.has_failed = true;
-            return;
+            break;
         }
     }
+    event_loop.turn.finish(shared.rt);
 }
 
-/// A watch of the listeners for the next worker, of this number. None where the system refuses it.
+/// A watch of the listeners and of a drain for the next worker, of this number. None where the system refuses it.
 fn watch_one(
     rt: &impl Net,
     listeners: &Listeners<'_>,
+    drain: &Drain,
     number: u32,
     parts: &mut TurnParts,
 ) -> Option<Watch> {
-    let watch = Watch::new(rt, listeners.watched()?, number).ok()?;
+    let watch = Watch::new(rt, listeners.watched()?, drain, number).ok()?;
     let registry = watch.registry().try_clone().ok()?;
     if parts.add(registry) {
         Some(watch)
@@ -81,17 +88,18 @@ fn watch_one(
     }
 }
 
-/// Has each worker watch the listeners, before the connections of one take the descriptors that another needs for that. One that
+/// Has each worker watch the listeners and the drain, before the connections of one take the descriptors that another needs for that. One that
 /// can't has failed.
 fn watch_each<T: Table, J: Naming, R, W: Width>(
     rt: &impl Net,
     listeners: &Listeners<'_>,
+    drain: &Drain,
     workers: &mut [Worker<'_, T, J, R, W>],
     parts: &mut TurnParts,
 ) {
     let mut number = 0u32;
     for worker in workers.iter_mut() {
-        worker.watch = watch_one(rt, listeners, number, parts);
+        worker.watch = watch_one(rt, listeners, drain, number, parts);
         if worker.watch.is_none() {
             worker.tally.has_failed = true;
         }
@@ -99,16 +107,39 @@ fn watch_each<T: Table, J: Naming, R, W: Width>(
     }
 }
 
+/// Waits until all workers run. Whether they do: where one can't be started, none serves.
+fn await_start<R: ServeRuntime>(rt: &R, start: &StartGate) -> bool {
+    for _look in rt.forever() {
+        match start.phase() {
+            StartPhase::Starting => thread::sleep(rt, Duration::from_millis(START_LOOK)),
+            StartPhase::Over => return true,
+            StartPhase::GivenUp => return false,
+        }
+    }
+    false
+}
+
+/// One worker's connections, once all workers run.
+fn serve_started<'a, T: Table, J: Naming, R: ServeRuntime, G: Gate, W: Width>(
+    shared: &Shared<'a, R, G, W>,
+    worker: &mut Worker<'a, T, J, R, W>,
+) {
+    if await_start(shared.rt, shared.control.start) {
+        serve_each(shared, worker);
+    }
+}
+
 /// The same. There are as many workers afterwards.
 fn watch_all<T: Table, J: Naming, R, W: Width>(
     rt: &impl Net,
     listeners: &Listeners<'_>,
+    drain: &Drain,
     workers: &mut Vec<Worker<'_, T, J, R, W>>,
     parts: &mut TurnParts,
 )
     ensures workers { vec_len workers.new ≡ vec_len workers.old }
 {
-    watch_each(rt, listeners, workers.as_mut_slice(), parts);
+    watch_each(rt, listeners, drain, workers.as_mut_slice(), parts);
 }
 
 /// Whether a worker has failed.
@@ -121,8 +152,8 @@ fn has_failed<T: Table, J: Naming, R, W: Width>(workers: &[Worker<'_, T, J, R, W
     false
 }
 
-/// Starts a thread for each worker, and waits until all have ended. Answers whether all could be started; behind the first
-/// that can't, none is started. Nor is any where one can't watch the listeners, which has failed then.
+/// Starts a thread for each worker, and waits until all have ended. Answers whether all could be started; after the first that can't, none
+/// is started, and none has served. Nor is any started where one can't watch the listeners, which has failed then.
 fn run_each<
     'a,
     T: Table + Send,
@@ -138,12 +169,13 @@ fn run_each<
         let mut all = true;
         let each = workers.iter_mut();
         for worker in each {
-            let started = scope.spawn(move || serve_each(shared, worker));
+            let started = scope.spawn(move || serve_started(shared, worker));
             if started.is_err() {
                 all = false;
                 break;
             }
         }
+        shared.control.start.end(all);
         all
     })
 }
@@ -236,7 +268,7 @@ fn serve_wide<
     } = room;
     seat_workers(rt, tables, &mut seats, &mut seated, rooms, connections);
     let listeners = Listeners::new(rt, listeners);
-    watch_all(rt, &listeners, &mut seated, &mut parts);
+    watch_all(rt, &listeners, control.drain, &mut seated, &mut parts);
     let listener_turn = ListenerTurn::new(listeners.watched(), parts);
     let counter = ConnectionCounter::new(stop_after, listener_turn);
     let mut workers = seated;
@@ -249,7 +281,7 @@ fn serve_wide<
         server: socket_address(server),
         timeouts: limits.timeouts,
         retries: limits.retries,
-        keepalive: limits.keepalive,
+        liveness: limits.liveness,
         gate,
         control,
         start,
@@ -285,7 +317,7 @@ fn without_memory<J: Naming>(alloc: Global, seats: Vec<Vec<SharedSeat<J>>>) -> S
 /// thread ends with the last of its connections. Without, it goes on until a drain begins.
 ///
 /// Meanwhile others see by `control` what was counted so far, and how many connections are open. Once they begin a drain there,
-/// no client is accepted any more; an idle thread ends within 100 ms. At the moment that the drain says, what is still open is
+/// no client is accepted any more; an idle thread ends at once. At the moment that the drain says, what is still open is
 /// closed. `Listener::refuse` has clients refused at once in place of waiting in vain.
 ///
 /// Where the system hasn't what a further connection takes, such as descriptors, that is counted, and tried again after a

@@ -12,7 +12,7 @@ use rule_model::Setup;
 use std::alloc::Global;
 use std::marker::PhantomData;
 use std::net::SocketAddr;
-use tcp_link::{Keepalive, Timeouts};
+use tcp_link::{Liveness, Timeouts};
 
 /// What all workers share, each by reference.
 #[derive(Drop)]
@@ -27,7 +27,7 @@ pub(crate) struct Shared<'a, R, G, W: Width> {
     pub(crate) timeouts: Timeouts,
     /// How often a server that refuses a connection is tried again.
     pub(crate) retries: u32,
-    pub(crate) keepalive: Option<Keepalive>,
+    pub(crate) liveness: Liveness,
     pub(crate) gate: &'a G,
     pub(crate) control: Control<'a>,
     /// The moment 0.

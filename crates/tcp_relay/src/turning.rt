@@ -4,22 +4,24 @@ ghost use Rattle.std.specs.Prelude.{◌≡◌, Some, None, slice_get};
 ghost use Rattle.admit_core.specs.Conn.{needed};
 ghost use Rattle.admit_core.specs.declared.need.Need.TheVariants.{Rest};
 ghost use Rattle.tcp_relay.specs.Connections.{IsVisitor};
-ghost use Rattle.tcp_relay.specs.Passed.{HasPassedIn};
+ghost use Rattle.tcp_relay.specs.Addresses.{samples_of};
+ghost use Rattle.tcp_relay.specs.Passed.{HasPassedAs};
 
 use crate::accept_errors::{AcceptFault, Shortage, shortage_of};
 use crate::acceptor::Acceptor;
-use crate::addresses::samples;
 use crate::buffers::Buffers;
-use crate::closing::{close, close_all, close_silent, ended_of, retry_due};
+use crate::closing::{close, close_all, close_silent, count_open, ended_of, retry_due};
 use crate::drain::Phase;
 use crate::fates::{Ended, Ending};
 use crate::listener_turn::WorkerTurn;
 use crate::listeners::Accepted;
 use crate::met::{count_met, met_by};
 use crate::shared::Shared;
+use crate::standing::Stand;
 use crate::sweep::Sweep;
+use crate::traffic::Traffic;
 use crate::visiting::{arrive, end_admitted, end_at, judge_one};
-use crate::watch::{LISTENER, Watch};
+use crate::watch::{LISTENER, Watch, is_of_connection};
 use crate::width::Width;
 use crate::worker::Worker;
 use crate::{Gate, ServeRuntime};
@@ -65,7 +67,7 @@ fn take_in<'a, T: Table, J: Naming, R: ServeRuntime, G: Gate, W: Width>(
     requires free { slice_get worker.old.places.held.items place ≡ Some None }
 {
     let peer = accepted.peer;
-    let samples = samples(peer, accepted.port);
+    let samples = accepted.samples();
     let mut conn = arrive(shared, samples);
     let seated = &mut worker.seated;
     let is_admitted = judge_one(shared, seated, &mut event_loop.clock, number, &mut conn);
@@ -93,7 +95,7 @@ fn carry<'a, T: Table, J: Naming, R: ServeRuntime, G, W: Width>(
 )
     requires connection { IsVisitor W.tables W.shards conn }
     requires rests { needed conn ≡ Rest }
-    requires passed { HasPassedIn W.setup worker.old.seated.items conn }
+    requires passed { HasPassedAs W.setup (samples_of accepted.peer accepted.port) worker.old.seated.items conn }
     requires free { slice_get worker.old.places.held.items place ≡ Some None }
 {
     shared.control.gauge.enter();
@@ -146,7 +148,7 @@ fn start<R: ServeRuntime, G, W: Width>(
     if link.start(event_loop.watch.registry(), place, moment, buffer) {
         return Ok(link);
     }
-    let ended = ended_of(&link, None);
+    let ended = ended_of(&link, Traffic::none(), None);
     shared.control.note_end(ended.ending, &link);
     link.close(shared.rt);
     Err(ended)
@@ -179,10 +181,10 @@ fn accept_one<'a, T: Table, J: Naming, R: ServeRuntime, G: Gate, W: Width>(
     requires free { slice_get worker.old.places.held.items place ≡ Some None }
 {
     let accepted = shared.listeners.accept(event_loop.next);
-    // From here on another is told, as the gate may block this one.
-    event_loop.turn.end(shared.rt);
     match accepted {
         Ok(accepted) => {
+            // From here on another is told, as the gate may block this one.
+            event_loop.turn.pass(shared.rt, worker.places.open());
             event_loop.next = accepted.next;
             event_loop.acceptor.pass();
             worker.counted.count_accepted();
@@ -221,7 +223,7 @@ fn try_to_accept<'a, T: Table, J: Naming, R: ServeRuntime, G: Gate, W: Width>(
 ) {
     let ready = event_loop
         .acceptor
-        .ready_server(shared.rt, shared.server, shared.keepalive);
+        .ready_server(shared.rt, shared.server, shared.liveness);
     if let Err(error) = ready {
         let error = error.raw_os_error().map(i32::unsigned_abs);
         note_short(shared, worker, &mut event_loop.acceptor, error);
@@ -233,7 +235,7 @@ fn try_to_accept<'a, T: Table, J: Naming, R: ServeRuntime, G: Gate, W: Width>(
     }
 }
 
-/// Accepts the clients that wait, as far as this worker can. Whether none waits now.
+/// Accepts the clients that wait, as far as this worker can, and no other is to take them. Whether it has none to take now.
 fn accept_some<'a, T: Table, J: Naming, R: ServeRuntime, G: Gate, W: Width>(
     shared: &Shared<'a, R, G, W>,
     worker: &mut Worker<'a, T, J, R, W>,
@@ -250,7 +252,12 @@ fn accept_some<'a, T: Table, J: Naming, R: ServeRuntime, G: Gate, W: Width>(
         let Some(number) = event_loop.acceptor.number() else {
             break;
         };
+        if event_loop.turn.leaves(shared.rt, worker.places.open()) {
+            event_loop.acceptor.leave();
+            break;
+        }
         try_to_accept(shared, worker, event_loop, buffer, number);
+        event_loop.turn.hold(worker.places.open());
     }
     !event_loop.acceptor.may_have()
 }
@@ -293,7 +300,7 @@ fn tells_of_connections(events: &Events) -> bool {
     false
 }
 
-/// Gives each that is ready its turn, the listener first. Whether that was the listener alone, where no client waits now.
+/// Gives each that is ready its turn, the listener first. Whether that was the listener alone, where it has no client to take now.
 fn turn_each<'a, T: Table, J: Naming, R: ServeRuntime, G: Gate, W: Width>(
     shared: &Shared<'a, R, G, W>,
     worker: &mut Worker<'a, T, J, R, W>,
@@ -307,9 +314,8 @@ fn turn_each<'a, T: Table, J: Naming, R: ServeRuntime, G: Gate, W: Width>(
     }
     let mut only_accepts = event_loop.acceptor.may_have()
         && accept_some(shared, worker, event_loop, buffer);
-    event_loop.turn.end(shared.rt);
     for event in events.iter() {
-        if event.token() != LISTENER {
+        if is_of_connection(event.token()) {
             turn(shared, worker, event_loop, buffer, Ready::of(event), moment);
             only_accepts = false;
         }
@@ -326,20 +332,16 @@ fn wait<'a, T: Table, J: Naming, R: ServeRuntime, G: Gate, W: Width>(
 ) -> bool {
     let has_room = worker.places.has_room();
     let holds = !worker.places.is_idle();
-    let pause = event_loop
-        .acceptor
-        .pause(has_room, event_loop.sweep.is_due(), holds);
-    event_loop
-        .turn
-        .begin(shared.rt, event_loop.acceptor.can_accept(has_room));
-    let drain = shared.control.drain;
-    let is_well = event_loop
-        .watch
-        .wait(shared.rt, drain, events, pause)
-        .is_ok();
-    if !is_well {
-        event_loop.turn.end(shared.rt);
-    }
+    let acceptor = &event_loop.acceptor;
+    let pause = acceptor.pause(has_room, event_loop.sweep.is_due(), holds);
+    let stand = Stand {
+        can_accept: acceptor.can_accept(has_room),
+        may_have: acceptor.may_have(),
+        held: worker.places.open(),
+    };
+    event_loop.turn.begin(shared.rt, stand, pause);
+    let is_well = event_loop.watch.wait(events, pause).is_ok();
+    event_loop.turn.end();
     is_well
 }
 
@@ -367,6 +369,8 @@ pub(crate) fn turn_all<'a, T: Table, J: Naming, R: ServeRuntime, G: Gate, W: Wid
     let heard = event_loop.sweep.counted();
     let only_accepts = turn_each(shared, worker, event_loop, events, buffer, heard);
     if let Some(as_of) = as_of {
+        event_loop.turn.look_after(shared.rt);
+        count_open(worker);
         close_silent(shared, worker, event_loop, as_of);
         if shared.retries > 0 {
             retry_due(shared, worker, event_loop, buffer);

@@ -1,13 +1,16 @@
 //! One connection, from its acceptance to the release of its references; `turning` judges, closes and ends by it.
 
-ghost use Rattle.std.specs.Prelude.{◌≡◌, true, Some, None, slice_get, vec_len};
+ghost use Rattle.std.specs.Prelude.{◌≡◌, ◌≤◌, true, Some, None, slice_get, vec_len};
+ghost use Rattle.shard_book.specs.SeatState.{RefState};
 ghost use Rattle.rule_eval.specs.declared.wants.Samples.{Samples};
 ghost use Rattle.admit_core.specs.Conn.{needed, progress_of, Stands};
-ghost use Rattle.admit_core.specs.Connection.{arrived, closed_of};
+ghost use Rattle.admit_core.specs.Connection.{Connection, arrived, closed_of};
 ghost use Rattle.admit_core.specs.declared.need.Need.TheVariants.{Rest};
 ghost use Rattle.tcp_relay.specs.Connections.{IsVisitor};
+ghost use Rattle.tcp_relay.specs.Moments.{HaveCalledAt};
 ghost use Rattle.tcp_relay.specs.Passed.{HasPassedLimits, HavePassedStill, IsOf};
 ghost use Rattle.tcp_relay.specs.Seating.{AreIn, StoreAs};
+ghost use Rattle.tcp_relay.specs.Untracked.{IsUntrackedSince};
 
 use crate::fates::Ended;
 use crate::leaving::{holds, let_go};
@@ -35,8 +38,9 @@ pub(crate) fn arrive<'a, J: Naming, R, G, W: Width>(
     Conn::new(shared.setup, samples)
 }
 
-/// Has a connection judged by the rules, all at the moment at which they begin, and passes it through the gate. Whether it is
-/// admitted: then its source has passed the limit that the rules begin with, by the records that the seats know.
+/// Has a connection judged by the rules, all at the moment that the clock shows as they begin, and passes it through the gate. Whether it is
+/// admitted: then its source has passed the limit that the rules begin with, by the records that the seats know. Where it holds no
+/// reference to its source, the table was asked for one, and gave none.
 pub(crate) fn judge_one<'a, T: Table, J: Naming, R: ServeRuntime, G: Gate, W: Width>(
     shared: &Shared<'a, R, G, W>,
     seated: &mut Vec<Seated<'a, T, J, R>>,
@@ -54,10 +58,13 @@ pub(crate) fn judge_one<'a, T: Table, J: Naming, R: ServeRuntime, G: Gate, W: Wi
     ensures connection { IsVisitor W.tables W.shards conn.new }
     ensures rests { result ≡ true → needed conn.new ≡ Rest }
     ensures still { HavePassedStill seated.old.items seated.new.items }
+    ensures later { clock.old ≤ clock.new }
+    ensures moment { (connection : Connection RefState) → Stands conn.old connection → HaveCalledAt clock.new seated.old.items seated.new.items }
 
     // Of one that has just come.
     ensures of { (samples : Samples) → Stands conn.old (arrived shared.now.setup.now samples) → IsOf shared.now.setup.now samples conn.new }
     ensures passed { (samples : Samples) → Stands conn.old (arrived shared.now.setup.now samples) → result ≡ true → HasPassedLimits shared.now.setup.now samples seated.new.items conn.new }
+    ensures untracked { (samples : Samples) → Stands conn.old (arrived shared.now.setup.now samples) → result ≡ true → IsUntrackedSince seated.old.items seated.new.items shared.now.setup.now samples conn.new }
 {
     let mut stopped = StoppedClock::at(clock.now());
     let ports = seated.as_mut_slice();
@@ -81,8 +88,8 @@ fn closed<'a, J: Naming, W: Width>(
     conn
 }
 
-/// Ends a connection that was rejected or closed: what is left to be counted is counted, and its references go back, all at one
-/// moment. One whose references can't be given back still holds them.
+/// Ends a connection that was rejected or closed: what is left to be counted is counted, and its references go back, all at the
+/// moment that the clock shows. One whose references can't be given back still holds them.
 fn leave<'a, T: Table, J: Naming, R: ServeRuntime, G, W: Width>(
     shared: &Shared<'a, R, G, W>,
     seated: &mut Vec<Seated<'a, T, J, R>>,
@@ -98,6 +105,8 @@ fn leave<'a, T: Table, J: Naming, R: ServeRuntime, G, W: Width>(
     ensures current { StoreAs (λ one. one.table.spec) W.current seated.new.items }
     ensures connection { IsVisitor W.tables W.shards conn.new }
     ensures still { HavePassedStill seated.old.items seated.new.items }
+    ensures later { clock.old ≤ clock.new }
+    ensures moment { (connection : Connection RefState) → Stands conn.old connection → HaveCalledAt clock.new seated.old.items seated.new.items }
 {
     let mut stopped = StoppedClock::at(clock.now());
     let ports = seated.as_mut_slice();
@@ -143,7 +152,7 @@ pub(crate) fn end_admitted<'a, T: Table, J: Naming, R: ServeRuntime, G, W: Width
     requires free { slice_get worker.old.places.held.items place ≡ Some None }
 {
     worker.counted.count_end(ended);
-    let conn = closed::<J, W>(conn, ended.bytes_in, ended.bytes_out);
+    let conn = closed::<J, W>(conn, ended.traffic.bytes_in, ended.traffic.bytes_out);
     end_at(shared, worker, clock, place, conn, true);
     shared.control.gauge.leave();
 }

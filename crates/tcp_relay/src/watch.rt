@@ -2,17 +2,18 @@
 
 use crate::acceptor::Pause;
 use crate::drain::Drain;
-use crate::sweep::TICK;
 use mio::unix::SourceFd;
 use mio::{Events, Interest, Poll, Registry, Token};
 use std::net::Net;
 use std::os::fd::RawFd;
-use std::sync::Wait;
 use std::time::Duration;
 use std::{io, thread};
 
 /// The listener's token. Those of connections are smaller.
 pub(crate) const LISTENER: Token = Token(usize::MAX);
+
+/// A drain's token. It is told once, as the drain begins.
+const DRAIN: Token = Token(usize::MAX - 1);
 
 /// What the worker whose turn it is is told of the listener.
 pub(crate) const CONNECTIONS: Interest = Interest::READABLE;
@@ -20,7 +21,12 @@ pub(crate) const CONNECTIONS: Interest = Interest::READABLE;
 /// What others are told of it, as a listener is never writable.
 pub(crate) const NOTHING: Interest = Interest::WRITABLE;
 
-/// What the system tells a worker of its connections, and of new ones while it is its turn.
+/// Whether a token is of a connection's socket.
+pub(crate) fn is_of_connection(token: Token) -> bool {
+    token != LISTENER && token != DRAIN
+}
+
+/// What the system tells a worker of its connections, of new ones while it is its turn, and of a drain.
 #[derive(Drop)]
 pub(crate) struct Watch {
     poll: Poll,
@@ -29,11 +35,17 @@ pub(crate) struct Watch {
 }
 
 impl Watch {
-    /// A watch of what is readable while a client waits, which is shared with others. Nothing is told of it yet.
-    pub(crate) fn new(rt: &impl Net, watched: RawFd, worker: u32) -> io::Result<Watch> {
+    /// A watch of what is readable while a client waits, which is shared with others, and of a drain. Nothing is told of clients yet.
+    pub(crate) fn new(
+        rt: &impl Net,
+        watched: RawFd,
+        drain: &Drain,
+        worker: u32,
+    ) -> io::Result<Watch> {
         let poll = Poll::new(rt)?;
-        poll.registry()
-            .register(&mut SourceFd(&watched), LISTENER, NOTHING)?;
+        let registry = poll.registry();
+        registry.register(&mut SourceFd(&watched), LISTENER, NOTHING)?;
+        registry.register(&mut SourceFd(&drain.watched()), DRAIN, Interest::READABLE)?;
         Ok(Watch { poll, worker })
     }
 
@@ -49,32 +61,15 @@ impl Watch {
 
     /// Waits until something is ready, for no longer than the pause. Before it waits for a tick it lets other threads run, which may
     /// be those that its connections wait for: so it is seldom asleep when they send.
-    pub(crate) fn wait(
-        &mut self,
-        rt: &impl Wait,
-        drain: &Drain,
-        events: &mut Events,
-        pause: Pause,
-    ) -> io::Result<()> {
-        if pause == Pause::UntilReady {
-            return self.wait_idle(rt, drain, events);
-        }
-        self.poll.poll(events, Some(Duration::ZERO))?;
-        if pause == Pause::NotAtAll || !events.is_empty() {
-            return Ok(());
-        }
-        thread::yield_now();
-        self.poll.poll(events, Some(Duration::from_millis(TICK)))
-    }
-
-    /// Waits until something is ready, or a drain begins. It looks for that each tick, as nobody wakes it.
-    fn wait_idle(&mut self, rt: &impl Wait, drain: &Drain, events: &mut Events) -> io::Result<()> {
-        for _look in rt.forever() {
-            self.poll.poll(events, Some(Duration::from_millis(TICK)))?;
-            if !events.is_empty() || drain.has_begun() {
-                break;
+    pub(crate) fn wait(&mut self, events: &mut Events, pause: Pause) -> io::Result<()> {
+        if pause == Pause::Tick {
+            self.poll.poll(events, Some(Duration::ZERO))?;
+            if !events.is_empty() {
+                return Ok(());
             }
+            thread::yield_now();
         }
-        Ok(())
+        let most = pause.most().map(Duration::from_millis);
+        self.poll.poll(events, most)
     }
 }

@@ -1,8 +1,8 @@
 -- The answer to show info: HAProxy's names, in its order, for what a TCP proxy without processes, pipes and a queue of tasks has.
-use Rattle.std.specs.Prelude.{ℕ, ◌/◌, Bool, true, false, List, [], ◌∷◌, ◌++◌, codes, decimal}
+use Rattle.std.specs.Prelude.{ℕ, ◌/◌, Bool, true, false, List, [], ◌∷◌, ◌++◌, codes}
 use Rattle.std.specs.List.{flat_map}
 use Rattle.tcp_stats.specs.CountValues.{count_of}
-use Rattle.tcp_stats.specs.Values.{span_text}
+use Rattle.tcp_stats.specs.Values.{Shown, Number, Word, Span, value_text}
 use Rattle.tcp_stats.specs.declared.count.Count.TheVariants.{Accepted, Admitted, BytesOut}
 use Rattle.tcp_stats.specs.declared.snapshot.Snapshot.{Snapshot}
 use Rattle.tcp_stats.specs.declared.info.Info.{Info}
@@ -26,41 +26,41 @@ as_number false = 0
 -- a line's name and value
 pub record Line : Type 0 where
   pub name : List ℕ
-  pub value : List ℕ
+  pub value : Shown
 
 abbrev pub info : Snapshot → Info → Line
-info now Name = record { name = codes "Name"; value = codes "stickd" }
-info now Version = record { name = codes "Version"; value = now.version.now }
-info now ReleaseDate = record { name = codes "Release_date"; value = now.release_date.now }
-info now Nbthread = record { name = codes "Nbthread"; value = decimal now.threads }
-info now Nbproc = record { name = codes "Nbproc"; value = decimal 1 }
-info now ProcessNum = record { name = codes "Process_num"; value = decimal 1 }
-info now Pid = record { name = codes "Pid"; value = decimal now.pid }
-info now Uptime = record { name = codes "Uptime"; value = span_text (uptime_seconds now) }
-info now UptimeSec = record { name = codes "Uptime_sec"; value = decimal (uptime_seconds now) }
-info now Maxconn = record { name = codes "Maxconn"; value = decimal now.limit }
-info now HardMaxconn = record { name = codes "Hard_maxconn"; value = decimal now.limit }
-info now CurrConns = record { name = codes "CurrConns"; value = decimal now.open }
-info now CumConns = record { name = codes "CumConns"; value = decimal (count_of now.counts Accepted) }
-info now CumReq = record { name = codes "CumReq"; value = decimal (count_of now.counts Admitted) }
-info now Maxpipes = record { name = codes "Maxpipes"; value = decimal 0 }
-info now PipesUsed = record { name = codes "PipesUsed"; value = decimal 0 }
-info now PipesFree = record { name = codes "PipesFree"; value = decimal 0 }
-info now ConnRate = record { name = codes "ConnRate"; value = decimal now.connection_rate.last }
-info now ConnRateLimit = record { name = codes "ConnRateLimit"; value = decimal 0 }
-info now MaxConnRate = record { name = codes "MaxConnRate"; value = decimal now.connection_rate.most }
-info now SessRate = record { name = codes "SessRate"; value = decimal now.session_rate.last }
-info now SessRateLimit = record { name = codes "SessRateLimit"; value = decimal 0 }
-info now MaxSessRate = record { name = codes "MaxSessRate"; value = decimal now.session_rate.most }
-info now Tasks = record { name = codes "Tasks"; value = decimal now.open }
-info now RunQueue = record { name = codes "Run_queue"; value = decimal 0 }
-info now Node = record { name = codes "node"; value = now.node.now }
-info now Stopping = record { name = codes "Stopping"; value = decimal (as_number now.is_draining) }
-info now TotalBytesOut = record { name = codes "TotalBytesOut"; value = decimal (count_of now.counts BytesOut) }
+info now Name = record { name = codes "Name"; value = Word (codes "stickd") }
+info now Version = record { name = codes "Version"; value = Word now.version.now }
+info now ReleaseDate = record { name = codes "Release_date"; value = Word now.release_date.now }
+info now Nbthread = record { name = codes "Nbthread"; value = Number now.threads }
+info now Nbproc = record { name = codes "Nbproc"; value = Number 1 }
+info now ProcessNum = record { name = codes "Process_num"; value = Number 1 }
+info now Pid = record { name = codes "Pid"; value = Number now.pid }
+info now Uptime = record { name = codes "Uptime"; value = Span (uptime_seconds now) }
+info now UptimeSec = record { name = codes "Uptime_sec"; value = Number (uptime_seconds now) }
+info now Maxconn = record { name = codes "Maxconn"; value = Number now.limit }
+info now HardMaxconn = record { name = codes "Hard_maxconn"; value = Number now.limit }
+info now CurrConns = record { name = codes "CurrConns"; value = Number now.open }
+info now CumConns = record { name = codes "CumConns"; value = Number (count_of now.counts Accepted) }
+info now CumReq = record { name = codes "CumReq"; value = Number (count_of now.counts Admitted) }
+info now Maxpipes = record { name = codes "Maxpipes"; value = Number 0 }
+info now PipesUsed = record { name = codes "PipesUsed"; value = Number 0 }
+info now PipesFree = record { name = codes "PipesFree"; value = Number 0 }
+info now ConnRate = record { name = codes "ConnRate"; value = Number now.connection_rate.last }
+info now ConnRateLimit = record { name = codes "ConnRateLimit"; value = Number 0 }
+info now MaxConnRate = record { name = codes "MaxConnRate"; value = Number now.connection_rate.most }
+info now SessRate = record { name = codes "SessRate"; value = Number now.session_rate.last }
+info now SessRateLimit = record { name = codes "SessRateLimit"; value = Number 0 }
+info now MaxSessRate = record { name = codes "MaxSessRate"; value = Number now.session_rate.most }
+info now Tasks = record { name = codes "Tasks"; value = Number now.open }
+info now RunQueue = record { name = codes "Run_queue"; value = Number 0 }
+info now Node = record { name = codes "node"; value = Word now.node.now }
+info now Stopping = record { name = codes "Stopping"; value = Number (as_number now.is_draining) }
+info now TotalBytesOut = record { name = codes "TotalBytesOut"; value = Number (count_of now.counts BytesOut) }
 
 -- NAME: VALUE
 unfoldable pub info_line : Snapshot → Info → List ℕ
-info_line now line = (info now line).name ++ codes ": " ++ (info now line).value ++ codes "\n"
+info_line now line = (info now line).name ++ codes ": " ++ value_text (info now line).value ++ codes "\n"
 
 -- the whole answer, which an empty line ends
 abbrev pub info_text : Snapshot → List ℕ

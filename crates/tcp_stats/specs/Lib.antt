@@ -1,9 +1,18 @@
 pub mod CountNames
 pub mod CountValues
 pub mod Values
+pub mod Tags
+pub mod JsonParts
+pub mod Typed
 pub mod Info
 pub mod Csv
 pub mod Stat
+pub mod StatFields
+pub mod StatTexts
+pub mod InfoFields
+pub mod StatQueries
+pub mod CommandForms
+pub mod Messages
 pub mod Commands
 pub mod SeenCommands
 pub mod Http
@@ -12,3 +21,4 @@ pub mod Readings
 pub mod Metrics
 pub mod Report
 pub mod Trouble
+pub mod Process

@@ -4,7 +4,7 @@ use Rattle.std.specs.List.{flat_map, find}
 use Rattle.std.specs.Str.{bytes_eq}
 use Rattle.base_lines.specs.Parts.{parts, is_byte}
 use Rattle.tcp_stats.specs.CountValues.{count_of, capped_sum}
-use Rattle.tcp_stats.specs.Csv.{csv_text}
+use Rattle.tcp_stats.specs.Values.{Shown, Nothing, Number, Word, Name, value_text}
 use Rattle.tcp_stats.specs.declared.count.Count.{Count}
 use Rattle.tcp_stats.specs.declared.count.Count.TheVariants.{Accepted, Admitted, Rejected, ServerRefused, ServerTimedOut, NoPort, ServerFailed, BytesIn, BytesOut}
 use Rattle.tcp_stats.specs.declared.snapshot.Snapshot.{Snapshot}
@@ -23,40 +23,40 @@ valued_columns =
     Pxname ∷ Svname ∷ Qcur ∷ Qmax ∷ Scur ∷ Smax ∷ Slim ∷ Stot ∷ Bin ∷ Bout ∷ Dreq ∷ Dresp ∷ Econ ∷ Status ∷ Weight ∷ Act ∷ Bck ∷ Pid ∷ Iid ∷ Sid ∷ Lbtot ∷ Kind ∷ Rate ∷ RateLim ∷ RateMax ∷ Addr ∷ Mode ∷ ConnRate ∷ ConnRateMax ∷ ConnTot ∷ Dcon ∷ Dses ∷ End ∷ []
 
 -- a value that the listening side alone has
-abbrev pub at_frontend : StatRow → List ℕ → List ℕ
+abbrev pub at_frontend : StatRow → Shown → Shown
 at_frontend Frontend value = value
-at_frontend Server value = []
-at_frontend Backend value = []
+at_frontend Server value = Nothing
+at_frontend Backend value = Nothing
 
 -- a value that the server alone has
-abbrev pub at_server : StatRow → List ℕ → List ℕ
-at_server Frontend value = []
+abbrev pub at_server : StatRow → Shown → Shown
+at_server Frontend value = Nothing
 at_server Server value = value
-at_server Backend value = []
+at_server Backend value = Nothing
 
 -- a value that the listening side has not
-abbrev pub unless_frontend : StatRow → List ℕ → List ℕ
-unless_frontend Frontend value = []
+abbrev pub unless_frontend : StatRow → Shown → Shown
+unless_frontend Frontend value = Nothing
 unless_frontend Server value = value
 unless_frontend Backend value = value
 
 -- a value that the server has not
-abbrev pub unless_server : StatRow → List ℕ → List ℕ
+abbrev pub unless_server : StatRow → Shown → Shown
 unless_server Frontend value = value
-unless_server Server value = []
+unless_server Server value = Nothing
 unless_server Backend value = value
 
--- what a row is called: the server by its address
-abbrev pub row_name : Snapshot → StatRow → List ℕ
-row_name now Frontend = codes "FRONTEND"
-row_name now Server = csv_text now.server.now
-row_name now Backend = codes "BACKEND"
+-- what a row is called: the server as in the configuration
+abbrev pub row_name : Snapshot → StatRow → Shown
+row_name now Frontend = Word (codes "FRONTEND")
+row_name now Server = Name now.server_name.now
+row_name now Backend = Word (codes "BACKEND")
 
 -- whether clients are still taken; that nobody checks the server; that there is one
-abbrev pub row_status : Bool → StatRow → List ℕ
-row_status is_draining Frontend = if is_draining then codes "STOP" else codes "OPEN"
-row_status is_draining Server = codes "no check"
-row_status is_draining Backend = codes "UP"
+abbrev pub row_status : Bool → StatRow → Shown
+row_status is_draining Frontend = Word (if is_draining then codes "STOP" else codes "OPEN")
+row_status is_draining Server = Word (codes "no check")
+row_status is_draining Backend = Word (codes "UP")
 
 -- HAProxy's number for what kind a row is of
 abbrev pub type_number : StatRow → ℕ
@@ -70,9 +70,9 @@ service_number Frontend = 0
 service_number Server = 1
 service_number Backend = 0
 
--- a count, printed
-abbrev pub number : Snapshot → Count → List ℕ
-number now count = decimal (count_of now.counts count)
+-- a count, as a value
+abbrev pub number : Snapshot → Count → Shown
+number now count = Number (count_of now.counts count)
 
 -- the connects to the server that failed, for whatever cause
 abbrev pub failed_connects : Snapshot → ℕ
@@ -116,58 +116,54 @@ stat_name Dses = codes "dses"
 stat_name End = codes "-"
 
 -- a column's value in a row
-abbrev pub stat_value : Snapshot → StatRow → Column → List ℕ
-stat_value now row Pxname = csv_text now.frontend.now
+abbrev pub stat_value : Snapshot → StatRow → Column → Shown
+stat_value now row Pxname = Name now.frontend.now
 stat_value now row Svname = row_name now row
-stat_value now row Qcur = unless_frontend row (decimal 0)
-stat_value now row Qmax = unless_frontend row (decimal 0)
-stat_value now row Scur = decimal now.open
-stat_value now row Smax = decimal now.most
-stat_value now row Slim = at_frontend row (decimal now.limit)
+stat_value now row Qcur = unless_frontend row (Number 0)
+stat_value now row Qmax = unless_frontend row (Number 0)
+stat_value now row Scur = Number now.open
+stat_value now row Smax = Number now.most
+stat_value now row Slim = at_frontend row (Number now.limit)
 stat_value now row Stot = number now Admitted
 stat_value now row Bin = number now BytesIn
 stat_value now row Bout = number now BytesOut
-stat_value now row Dreq = unless_server row (decimal 0)
-stat_value now row Dresp = decimal 0
-stat_value now row Econ = unless_frontend row (decimal (failed_connects now))
+stat_value now row Dreq = unless_server row (Number 0)
+stat_value now row Dresp = Number 0
+stat_value now row Econ = unless_frontend row (Number (failed_connects now))
 stat_value now row Status = row_status now.is_draining row
-stat_value now row Weight = unless_frontend row (decimal 1)
-stat_value now row Act = unless_frontend row (decimal 1)
-stat_value now row Bck = unless_frontend row (decimal 0)
-stat_value now row Pid = decimal 1
-stat_value now row Iid = decimal 2
-stat_value now row Sid = decimal (service_number row)
+stat_value now row Weight = unless_frontend row (Number 1)
+stat_value now row Act = unless_frontend row (Number 1)
+stat_value now row Bck = unless_frontend row (Number 0)
+stat_value now row Pid = Number 1
+stat_value now row Iid = Number 2
+stat_value now row Sid = Number (service_number row)
 stat_value now row Lbtot = unless_frontend row (number now Admitted)
-stat_value now row Kind = decimal (type_number row)
-stat_value now row Rate = decimal now.session_rate.last
-stat_value now row RateLim = at_frontend row (decimal 0)
-stat_value now row RateMax = decimal now.session_rate.most
-stat_value now row Addr = at_server row (csv_text now.server.now)
-stat_value now row Mode = codes "tcp"
-stat_value now row ConnRate = at_frontend row (decimal now.connection_rate.last)
-stat_value now row ConnRateMax = at_frontend row (decimal now.connection_rate.most)
+stat_value now row Kind = Number (type_number row)
+stat_value now row Rate = Number now.session_rate.last
+stat_value now row RateLim = at_frontend row (Number 0)
+stat_value now row RateMax = Number now.session_rate.most
+stat_value now row Addr = at_server row (Name now.server.now)
+stat_value now row Mode = Word (codes "tcp")
+stat_value now row ConnRate = at_frontend row (Number now.connection_rate.last)
+stat_value now row ConnRateMax = at_frontend row (Number now.connection_rate.most)
 stat_value now row ConnTot = at_frontend row (number now Accepted)
 stat_value now row Dcon = at_frontend row (number now Rejected)
-stat_value now row Dses = at_frontend row (decimal 0)
-stat_value now row End = codes "-"
+stat_value now row Dses = at_frontend row (Number 0)
+stat_value now row End = Word (codes "-")
 
 -- whether a column has this name
 abbrev pub is_called : List ℕ → Column → Bool
 is_called name column = bytes_eq (stat_name column) name
 
 -- the value of a column of this name, or nothing
-abbrev pub value_if : Snapshot → StatRow → Option Column → List ℕ
-value_if now row None = []
+abbrev pub value_if : Snapshot → StatRow → Option Column → Shown
+value_if now row None = Nothing
 value_if now row (Some column) = stat_value now row column
 
 -- what a row has under a column's name, and the comma behind it
 unfoldable pub field_text : Snapshot → StatRow → List ℕ → List ℕ
-field_text now row name = value_if now row (find (is_called name) valued_columns) ++ codes ","
+field_text now row name = value_text (value_if now row (find (is_called name) valued_columns)) ++ codes ","
 
 -- a row: a field for each column
 unfoldable pub row_text : Snapshot → StatRow → List ℕ
 row_text now row = flat_map (field_text now row) (parts (is_byte 44) column_names) ++ codes "\n"
-
--- the whole answer, which an empty line ends
-abbrev pub stat_text : Snapshot → List ℕ
-stat_text now = codes "# " ++ column_names ++ codes ",\n" ++ row_text now Frontend ++ row_text now Server ++ row_text now Backend ++ codes "\n"

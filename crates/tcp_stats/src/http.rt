@@ -18,14 +18,23 @@ pub const MOST_BYTES: usize = 8_192;
 /// The most fields of a request's head.
 const MOST_FIELDS: usize = 64;
 
+/// How much of an answer is asked for.
+#[derive(Clone, Copy, Debug, PartialEq, Eq)]
+pub enum Extent {
+    /// All of it.
+    Whole,
+    /// All but its body, as by `HEAD` (RFC 9110, section 9.3.2).
+    Head,
+}
+
 /// What a request asks of the metrics' listener.
 #[derive(Clone, Copy, Debug, PartialEq, Eq)]
 pub enum HttpRequest {
-    /// `GET /metrics`.
-    Metrics,
+    /// `GET /metrics`, or `HEAD /metrics`.
+    Metrics(Extent),
     /// Another path.
-    NotFound,
-    /// Another method on that path.
+    NotFound(Extent),
+    /// Another method on the path of the metrics.
     NotAllowed,
     /// What is no request, or is longer than is read.
     Bad,
@@ -43,17 +52,37 @@ fn path_of(target: &[u8]) -> &[u8]
     }
 }
 
+/// How much of an answer a method asks for.
+fn extent_of(method: &[u8]) -> Extent
+    ensures { result ≡ spec.extent_of method.now }
+{
+    if method == b"HEAD".as_slice() {
+        return Extent::Head;
+    }
+    Extent::Whole
+}
+
+/// What a method asks of the metrics.
+fn metrics_by(method: &[u8]) -> HttpRequest
+    ensures { result ≡ spec.metrics_by method.now }
+{
+    if method == b"GET".as_slice() {
+        return HttpRequest::Metrics(Extent::Whole);
+    }
+    if method == b"HEAD".as_slice() {
+        return HttpRequest::Metrics(Extent::Head);
+    }
+    HttpRequest::NotAllowed
+}
+
 /// What a request of this method and target asks.
 fn asked(method: &[u8], target: &[u8]) -> HttpRequest
     ensures { result ≡ asked_by method.now target.now }
 {
     if path_of(target) != b"/metrics".as_slice() {
-        return HttpRequest::NotFound;
+        return HttpRequest::NotFound(extent_of(method));
     }
-    if method == b"GET".as_slice() {
-        return HttpRequest::Metrics;
-    }
-    HttpRequest::NotAllowed
+    metrics_by(method)
 }
 
 /// Reads a request as far as it has come (RFC 9112). Of one that is whole, what it asks; `Unfinished` where more has to
@@ -80,8 +109,8 @@ impl HttpRequest {
         ensures { result.now ≡ status self }
     {
         match self {
-            HttpRequest::Metrics => "200 OK",
-            HttpRequest::NotFound => "404 Not Found",
+            HttpRequest::Metrics(_) => "200 OK",
+            HttpRequest::NotFound(_) => "404 Not Found",
             HttpRequest::NotAllowed => "405 Method Not Allowed",
             HttpRequest::Bad => "400 Bad Request",
             HttpRequest::Unfinished => "408 Request Timeout",
@@ -93,17 +122,17 @@ impl HttpRequest {
         ensures { result.now ≡ content_type self }
     {
         match self {
-            HttpRequest::Metrics => "text/plain; version=0.0.4; charset=utf-8",
+            HttpRequest::Metrics(_) => "text/plain; version=0.0.4; charset=utf-8",
             _ => "text/plain; charset=utf-8",
         }
     }
 
-    /// The field that names the method that is allowed, where another was asked.
+    /// The field that names the methods that are allowed, where another was asked.
     fn allowed(self) -> &'static str
         ensures { result.now ≡ allowed self }
     {
         match self {
-            HttpRequest::NotAllowed => "Allow: GET\r\n",
+            HttpRequest::NotAllowed => "Allow: GET, HEAD\r\n",
             _ => "",
         }
     }
@@ -113,11 +142,21 @@ impl HttpRequest {
         ensures { result.now ≡ body_of self metrics.now }
     {
         match self {
-            HttpRequest::Metrics => metrics,
-            HttpRequest::NotFound => b"The metrics are at /metrics.\n",
+            HttpRequest::Metrics(_) => metrics,
+            HttpRequest::NotFound(_) => b"The metrics are at /metrics.\n",
             HttpRequest::NotAllowed => b"The metrics are read by GET.\n",
             HttpRequest::Bad => b"This is no request that can be read.\n",
             HttpRequest::Unfinished => b"The request took too long.\n",
+        }
+    }
+
+    /// What is sent of the body: nothing where all but the body is asked for.
+    fn sent(self, body: &[u8]) -> &[u8]
+        ensures { result.now ≡ spec.sent self body.now }
+    {
+        match self {
+            HttpRequest::Metrics(Extent::Head) | HttpRequest::NotFound(Extent::Head) => b"",
+            _ => body,
         }
     }
 }
@@ -146,7 +185,7 @@ fn push_length(text: &mut Vec<u8>, length: u64) -> Result<(), NoMemory>
     Ok(())
 }
 
-/// Appends an answer with this body.
+/// Appends an answer whose fields tell of this body.
 fn push_answer(text: &mut Vec<u8>, request: HttpRequest, body: &[u8]) -> Result<(), NoMemory>
     ensures { OnOk result (text.new.items ≡ text.old.items ++ answer_text request body.now) }
 {
@@ -154,7 +193,7 @@ fn push_answer(text: &mut Vec<u8>, request: HttpRequest, body: &[u8]) -> Result<
     push_length(text, body.len() as u64)?;
     text.extend_from_slice(request.allowed().as_bytes())?;
     text.extend_from_slice(b"Connection: close\r\n\r\n")?;
-    text.extend_from_slice(body)?;
+    text.extend_from_slice(request.sent(body))?;
     Ok(())
 }
 

@@ -61,7 +61,12 @@ fn push_comment(
 
 /// Appends what stands in front of a metric's samples: what it is, and its type.
 #[tactic(auto, unfolding(crate::specs::Metrics::head_text))]
-fn push_head(text: &mut Vec<u8>, name: &[u8], help: &[u8], kind: &[u8]) -> Result<(), NoMemory>
+pub(crate) fn push_head(
+    text: &mut Vec<u8>,
+    name: &[u8],
+    help: &[u8],
+    kind: &[u8],
+) -> Result<(), NoMemory>
     ensures { OnOk result (text.new.items ≡ text.old.items ++ head_text name.now help.now kind.now) }
 {
     push_comment(text, b"HELP", name, help)?;

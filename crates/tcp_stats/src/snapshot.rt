@@ -4,7 +4,7 @@
 ghost use Rattle.std.specs.Prelude.{◌≡◌};
 ghost use Rattle.tcp_stats.specs.Stat as spec;
 ghost use Rattle.tcp_stats.specs.CountValues.{count_of, capped_sum};
-ghost use Rattle.tcp_stats.specs.Values.{value_text};
+ghost use Rattle.tcp_stats.specs.Values.{seen_value};
 
 use crate::value::Value;
 use crate::{Count, Counts, Rate};
@@ -55,8 +55,10 @@ pub struct Snapshot<'a> {
     pub counts: Counts,
     /// The name of the proxy, which its rows of `show stat` have.
     pub frontend: &'a str,
-    /// The address of the server, which is its name too.
+    /// The address of the server.
     pub server: &'a str,
+    /// The name that the configuration gives the server.
+    pub server_name: &'a str,
     /// Its tables, in the order of the configuration.
     pub tables: &'a [TableFacts<'a>],
 }
@@ -64,7 +66,7 @@ pub struct Snapshot<'a> {
 impl Snapshot<'_> {
     /// How many there are of a count.
     pub(crate) fn number(&self, count: Count) -> Value<'static>
-        ensures { value_text result ≡ spec.number self.now count }
+        ensures { seen_value result ≡ spec.number self.now count }
     {
         Value::Number(self.counts.get(count))
     }

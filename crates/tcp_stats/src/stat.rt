@@ -1,15 +1,22 @@
 //! The answer to `show stat`; the stats socket gives it.
 
-ghost use Rattle.std.specs.Prelude.{◌≡◌, ◌++◌, OnOk};
+ghost use Rattle.std.specs.Prelude.{◌≡◌, ◌++◌, [], OnOk};
 ghost use Rattle.std.specs.List.{flat_map, find};
 ghost use Rattle.base_lines.specs.Parts.{parts, is_byte};
 ghost use Rattle.tcp_stats.specs.Stat as spec;
-ghost use Rattle.tcp_stats.specs.Stat.{is_called, value_if, field_text, row_text, stat_text};
-ghost use Rattle.tcp_stats.specs.Values.{value_text};
+ghost use Rattle.tcp_stats.specs.Stat.{is_called, value_if, field_text, row_text};
+ghost use Rattle.tcp_stats.specs.StatQueries.{seen_query};
+ghost use Rattle.tcp_stats.specs.StatTexts as spec_texts;
+ghost use Rattle.tcp_stats.specs.StatTexts.{plain_if, stat_text, typed_if};
+ghost use Rattle.tcp_stats.specs.Values.{seen_value};
 
 use crate::Snapshot;
 use crate::column::{COLUMNS, Column};
+use crate::messages::StatsMessage;
+use crate::stat_query::StatQuery;
 use crate::stat_row::StatRow;
+use crate::stat_typed::{push_json_row, push_typed_row};
+use crate::typed::Format;
 use crate::value::{Value, push_value};
 use base_lines::Parts;
 use base_sequence::NoMemory;
@@ -36,7 +43,7 @@ fn column_named(columns: &[Column], name: &[u8]) -> Option<Column>
 
 /// What a row has under a column's name: the value of the one of this name, or nothing.
 fn value_under<'a>(column: Option<Column>, row: StatRow, now: &Snapshot<'a>) -> Value<'a>
-    ensures { value_text result ≡ value_if now.now row column }
+    ensures { seen_value result ≡ value_if now.now row column }
 {
     match column {
         Some(column) => column.value(row, now),
@@ -84,16 +91,110 @@ fn push_row(text: &mut Vec<u8>, row: StatRow, now: &Snapshot<'_>) -> Result<(), 
     Ok(())
 }
 
-/// Appends the answer to `show stat`: the names of the columns, the three rows, and an empty line.
-pub fn push_stat(text: &mut Vec<u8>, now: &Snapshot<'_>) -> Result<(), NoMemory>
-    ensures { OnOk result (text.new.items ≡ text.old.items ++ stat_text now.now) }
+/// Appends the rows that are asked for, in columns.
+fn push_plain_rows(
+    text: &mut Vec<u8>,
+    rows: &[StatRow],
+    query: &StatQuery<'_>,
+    now: &Snapshot<'_>,
+) -> Result<(), NoMemory>
+    ensures { OnOk result (text.new.items ≡ text.old.items ++ flat_map (plain_if now.now (seen_query query.now)) rows.now) }
+{
+    for row in rows {
+        if query.shows(now.frontend.as_bytes(), *row) {
+            push_row(text, *row, now)?;
+        }
+    }
+    Ok(())
+}
+
+/// Appends the rows that are asked for, a line for each value.
+fn push_typed_rows(
+    text: &mut Vec<u8>,
+    rows: &[StatRow],
+    query: &StatQuery<'_>,
+    now: &Snapshot<'_>,
+) -> Result<(), NoMemory>
+    ensures { OnOk result (text.new.items ≡ text.old.items ++ flat_map (typed_if now.now (seen_query query.now)) rows.now) }
+{
+    for row in rows {
+        if query.shows(now.frontend.as_bytes(), *row) {
+            push_typed_row(text, *row, now)?;
+        }
+    }
+    Ok(())
+}
+
+/// Appends the rows that are asked for as JSON, with commas between. The first one stands behind `mark`.
+fn push_json_rows(
+    text: &mut Vec<u8>,
+    rows: &[StatRow],
+    query: &StatQuery<'_>,
+    now: &Snapshot<'_>,
+) -> Result<(), NoMemory>
+    ensures { OnOk result (text.new.items ≡ text.old.items ++ spec_texts.json_rows now.now (seen_query query.now) [] rows.now) }
+{
+    let mut mark = b"".as_slice();
+    for row in rows {
+        if !query.shows(now.frontend.as_bytes(), *row) {
+            continue;
+        }
+        text.extend_from_slice(mark)?;
+        push_json_row(text, *row, now)?;
+        mark = b",";
+    }
+    Ok(())
+}
+
+/// Appends the answer to `show stat` in columns: their names, the rows, and an empty line.
+fn push_columns(
+    text: &mut Vec<u8>,
+    query: &StatQuery<'_>,
+    now: &Snapshot<'_>,
+) -> Result<(), NoMemory>
+    ensures { OnOk result (text.new.items ≡ text.old.items ++ spec_texts.plain_text now.now (seen_query query.now)) }
 {
     text.extend_from_slice(b"# ")?;
     text.extend_from_slice(column_names().as_bytes())?;
     text.extend_from_slice(b",\n")?;
-    push_row(text, StatRow::Frontend, now)?;
-    push_row(text, StatRow::Server, now)?;
-    push_row(text, StatRow::Backend, now)?;
+    push_plain_rows(text, &StatRow::ALL, query, now)?;
     text.push(b'\n')?;
     Ok(())
+}
+
+/// Appends the answer to `show stat` with a line for each value, and an empty line.
+fn push_typed(text: &mut Vec<u8>, query: &StatQuery<'_>, now: &Snapshot<'_>) -> Result<(), NoMemory>
+    ensures { OnOk result (text.new.items ≡ text.old.items ++ spec_texts.typed_text now.now (seen_query query.now)) }
+{
+    push_typed_rows(text, &StatRow::ALL, query, now)?;
+    text.push(b'\n')?;
+    Ok(())
+}
+
+/// Appends the answer to `show stat` as an array of JSON, and an empty line.
+fn push_json(text: &mut Vec<u8>, query: &StatQuery<'_>, now: &Snapshot<'_>) -> Result<(), NoMemory>
+    ensures { OnOk result (text.new.items ≡ text.old.items ++ spec_texts.json_text now.now (seen_query query.now)) }
+{
+    text.push(b'[')?;
+    push_json_rows(text, &StatRow::ALL, query, now)?;
+    text.extend_from_slice(b"]\n\n")?;
+    Ok(())
+}
+
+/// Appends the answer to `show stat`: the rows that are asked for, in the format that is; or that there is no such proxy.
+pub fn push_stat(
+    text: &mut Vec<u8>,
+    now: &Snapshot<'_>,
+    query: &StatQuery<'_>,
+) -> Result<(), NoMemory>
+    ensures { OnOk result (text.new.items ≡ text.old.items ++ stat_text now.now (seen_query query.now)) }
+{
+    if !query.may_name(now.frontend.as_bytes()) {
+        return StatsMessage::NoSuchProxy.push(text);
+    }
+    match query.format {
+        Format::Plain => push_columns(text, query, now),
+        Format::Typed => push_typed(text, query, now),
+        Format::Json => push_json(text, query, now),
+    }
 }

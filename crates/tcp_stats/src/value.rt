@@ -1,7 +1,7 @@
 //! A value of a row, and how it is printed; the rows of `show info`, `show stat` and the metrics have one each.
 
 ghost use Rattle.std.specs.Prelude.{◌≡◌, ◌+◌, ◌/◌, ◌%◌, ◌<◌, ◌∷◌, ◌++◌, [], OnOk, decimal};
-ghost use Rattle.tcp_stats.specs.Values.{two_digits, span_text, value_text};
+ghost use Rattle.tcp_stats.specs.Values.{two_digits, seen_value, span_text, value_text, plain_text};
 
 use crate::csv::push_csv;
 use base_lines::push_decimal;
@@ -45,9 +45,9 @@ fn push_span(text: &mut Vec<u8>, seconds: u64) -> Result<(), NoMemory>
     Ok(())
 }
 
-/// Appends a value.
+/// Appends a value as one among others with commas between.
 pub(crate) fn push_value(text: &mut Vec<u8>, value: Value<'_>) -> Result<(), NoMemory>
-    ensures { OnOk result (text.new.items ≡ text.old.items ++ value_text value.entry) }
+    ensures { OnOk result (text.new.items ≡ text.old.items ++ value_text (seen_value value.entry)) }
 {
     match value {
         Value::Nothing => Ok(()),
@@ -58,5 +58,18 @@ pub(crate) fn push_value(text: &mut Vec<u8>, value: Value<'_>) -> Result<(), NoM
         }
         Value::Name(name) => push_csv(text, name.as_bytes()),
         Value::Span(seconds) => push_span(text, seconds),
+    }
+}
+
+/// Appends a value as it is.
+pub(crate) fn push_plain(text: &mut Vec<u8>, value: Value<'_>) -> Result<(), NoMemory>
+    ensures { OnOk result (text.new.items ≡ text.old.items ++ plain_text (seen_value value.entry)) }
+{
+    match value {
+        Value::Name(name) => {
+            text.extend_from_slice(name.as_bytes())?;
+            Ok(())
+        }
+        other => push_value(text, other),
     }
 }

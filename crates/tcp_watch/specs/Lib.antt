@@ -4,3 +4,5 @@ pub mod Pending
 pub mod Rhythms
 pub mod Watchdog
 pub mod Conversations
+pub mod ProcessStats
+pub mod Levels

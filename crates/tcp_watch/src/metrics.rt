@@ -1,7 +1,7 @@
 //! The service of HTTP clients that scrape metrics; `tcp_proxy` has one for each thread that serves them.
 
 use crate::program::Program;
-use crate::teller::{Teller, Told};
+use crate::teller::Teller;
 use base_clock::Clock;
 use byte_ports::{Sink, Source, write_all};
 use shard_book::Keeper;
@@ -11,8 +11,8 @@ use tcp_stats::{HttpRequest, MOST_BYTES, push_response, read_request};
 /// How many bytes of a request are read: one that is longer is none.
 const ROOM: usize = MOST_BYTES + 1;
 
-/// How many reads a request takes at most: a client that sends it byte by byte is given up.
-const MOST_READS: usize = 32;
+/// How many reads a request takes at most: each has a byte at least, and one look more sees that there is no room.
+const MOST_READS: usize = ROOM + 1;
 
 /// Answers a request of each client, and then closes.
 #[derive(Drop)]
@@ -20,7 +20,8 @@ pub struct MetricsService<'p, K, C, P> {
     pub teller: Teller<'p, K, C, P>,
 }
 
-/// The request of a client. None where it ends before that, fails or is too slow.
+/// The request of a client. None where it ends before that, fails or is too slow: how long it may take is its reader's. Each read has
+/// a byte at least.
 fn read_one<R: Source>(reader: &mut R) -> Option<HttpRequest> {
     let mut bytes = [0u8; ROOM];
     let mut end = 0usize;
@@ -44,7 +45,7 @@ impl<'p, K: Keeper, C: Clock, P: Program> MetricsService<'p, K, C, P> {
     /// The body of the answer to a request: the metrics, where those are asked for and can be had.
     fn body_of(&mut self, request: HttpRequest) -> Option<Vec<u8>> {
         match request {
-            HttpRequest::Metrics => self.teller.tell(Told::Metrics).ok(),
+            HttpRequest::Metrics(_) => self.teller.tell_metrics().ok(),
             _ => Some(Vec::new(self.teller.alloc)),
         }
     }

@@ -1,10 +1,9 @@
-//! Whether a signal that asks the program to stop waits to be delivered; `process_status` reads what it is told by.
+//! Which signals that ask the program to stop wait to be delivered; `process_status` reads what it is told by.
 
 ghost use Rattle.std.specs.Prelude.{◌≡◌};
 ghost use Rattle.base_lines.specs.Words.{is_blank, words};
 ghost use Rattle.base_lines.specs.declared.words.Blanks.TheVariants.{SpacesAndTabs};
 ghost use Rattle.tcp_watch.specs.Pending as spec;
-ghost use Rattle.tcp_watch.specs.Pending.{stop_blocked, stop_pending};
 ghost use Rattle.base_lines.specs.Parts.{parts, is_line_end};
 
 use base_lines::{Blanks, Parts, Words};
@@ -34,11 +33,25 @@ fn read_hex(text: &[u8]) -> Option<u64>
     Some(number)
 }
 
-/// Whether a set of signals has SIGINT or SIGTERM.
-fn asks_to_stop(signals: u64) -> bool
-    ensures { result ≡ spec.asks_to_stop signals }
-{
-    signals / INTERRUPT % 2 == 1 || signals / TERMINATE % 2 == 1
+/// A signal that asks the program to stop.
+#[derive(Clone, Copy, Debug, PartialEq, Eq)]
+pub enum StopSignal {
+    /// SIGINT, as Ctrl-C sends it.
+    Interrupt,
+    /// SIGTERM, as `kill` sends it, and `docker stop`.
+    Terminate,
+}
+
+impl StopSignal {
+    /// Whether a set of signals has it.
+    fn is_in(self, signals: u64) -> bool
+        ensures { result ≡ spec.is_in self signals }
+    {
+        match self {
+            StopSignal::Interrupt => signals / INTERRUPT % 2 == 1,
+            StopSignal::Terminate => signals / TERMINATE % 2 == 1,
+        }
+    }
 }
 
 /// Which sets of signals a status has (proc_pid_status(5)).
@@ -62,9 +75,9 @@ impl Signals {
     }
 }
 
-/// Whether a line tells such signals, and has SIGINT or SIGTERM.
-fn tells_stop(signals: Signals, line: &[u8]) -> bool
-    ensures { result ≡ spec.tells_stop signals (words (is_blank SpacesAndTabs) line.now) }
+/// Whether a line tells such signals, and has this one.
+fn tells_stop(signals: Signals, stop: StopSignal, line: &[u8]) -> bool
+    ensures { result ≡ spec.tells_stop signals stop (words (is_blank SpacesAndTabs) line.now) }
 {
     let mut words = Words::new(line, Blanks::SpacesAndTabs);
     let (Some(name), Some(digits)) = (words.next(), words.next()) else {
@@ -74,35 +87,36 @@ fn tells_stop(signals: Signals, line: &[u8]) -> bool
         return false;
     }
     match read_hex(digits) {
-        Some(signals) => asks_to_stop(signals),
+        Some(signals) => stop.is_in(signals),
         None => false,
     }
 }
 
-/// Whether a status says of SIGINT or SIGTERM that it is among these signals.
-fn has_stop(signals: Signals, status: &[u8]) -> bool
-    ensures { result ≡ spec.has_stop signals (parts is_line_end status.now) }
+/// Whether a status says of this signal that it is among those.
+fn has_stop(signals: Signals, stop: StopSignal, status: &[u8]) -> bool
+    ensures { result ≡ spec.has_stop signals stop (parts is_line_end status.now) }
 {
     let mut lines = Parts::new(status, b'\n');
     while let Some(line) = lines.next() {
-        if tells_stop(signals, line) {
+        if tells_stop(signals, stop, line) {
             return true;
         }
     }
     false
 }
 
-/// Whether SIGINT or SIGTERM waits to be delivered, by what `/proc/self/status` has. A signal waits as long as it is blocked; one
-/// that isn't blocked has ended the program before it could ask.
-pub fn is_stop_pending(status: &[u8]) -> bool
-    ensures { result ≡ stop_pending status.now }
+/// How many of SIGINT and SIGTERM wait to be delivered, by what `/proc/self/status` has: 0, 1 or 2. A signal waits as long as it is
+/// blocked; one that isn't blocked has ended the program before it could ask. That one came twice isn't told (signal(7)).
+pub fn count_pending(status: &[u8]) -> u32
+    ensures { result ≡ spec.count_pending status.now }
 {
-    has_stop(Signals::Pending, status)
+    u32::from(has_stop(Signals::Pending, StopSignal::Interrupt, status))
+        + u32::from(has_stop(Signals::Pending, StopSignal::Terminate, status))
 }
 
-/// Whether SIGINT or SIGTERM is blocked, so that it can wait.
-pub fn is_stop_blocked(status: &[u8]) -> bool
-    ensures { result ≡ stop_blocked status.now }
+/// Whether a signal is blocked, so that it can wait.
+pub fn is_blocked(stop: StopSignal, status: &[u8]) -> bool
+    ensures { result ≡ spec.is_blocked stop status.now }
 {
-    has_stop(Signals::Blocked, status)
+    has_stop(Signals::Blocked, stop, status)
 }

@@ -2,7 +2,7 @@
 
 ghost use Rattle.std.specs.Prelude.{◌≤◌};
 
-use crate::pending::{is_stop_blocked, is_stop_pending};
+use crate::pending::{StopSignal, count_pending, is_blocked};
 use os::FromRawFd;
 use std::io;
 use std::os::fd::{AsRawFd, OwnedFd};
@@ -30,18 +30,18 @@ impl ProcessStatus {
         Ok(ProcessStatus { file })
     }
 
-    /// Whether SIGTERM or SIGINT is blocked. Where the system doesn't say, it isn't.
-    pub fn blocks_stop(&self) -> bool {
+    /// Whether a signal that asks the program to stop is blocked. Where the system doesn't say, it isn't.
+    pub fn blocks(&self, stop: StopSignal) -> bool {
         let mut status = [0; MOST_BYTES];
         let count = self.read(&mut status);
-        is_stop_blocked(&status[..count])
+        is_blocked(stop, &status[..count])
     }
 
-    /// Whether one of them waits to be delivered.
-    pub fn awaits_stop(&self) -> bool {
+    /// How many such signals wait to be delivered: 0, 1 or 2.
+    pub fn count_pending(&self) -> u32 {
         let mut status = [0; MOST_BYTES];
         let count = self.read(&mut status);
-        is_stop_pending(&status[..count])
+        count_pending(&status[..count])
     }
 
     /// Reads it, and answers how many bytes came.

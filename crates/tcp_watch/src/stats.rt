@@ -3,25 +3,29 @@
 ghost use Rattle.std.specs.Prelude.{◌≡◌};
 ghost use Rattle.tcp_watch.specs.Conversations as spec;
 
-use crate::conversation::{BEGUN, Conversation};
+use crate::conversation::{BEGUN, Conversation, READ_BYTES, Stay, is_cut};
+use crate::level::{Level, may_ask};
+use crate::permitted::answer_permitted;
 use crate::program::{Program, Shutdown};
 use crate::teller::{Teller, Told};
 use base_clock::Clock;
 use base_lines::{LineSoFar, Parts, without_cr};
 use byte_ports::{Failed, Sink, Source, write_all};
 use shard_book::Keeper;
-use table_cli::{answer, answer_oldest_first};
+use table_cli::answer_oldest_first;
 use table_socket::ClientServer;
 use table_texts::Message;
-use tcp_stats::{StatsCommand, StatsMessage, read_command};
+use tcp_stats::{StatsCommand, StatsMessage, push_help, read_command};
 
-/// How many reads a client's conversation has at most.
-const MOST_READS: u64 = 1 << 40;
-
-/// Answers the clients of a stats socket: one line of commands, which `;` parts, unless a client asks to be prompted for more.
+/// Answers the clients of a stats socket: the lines of commands that come together, which `;` parts, unless a client asks to be
+/// prompted for more.
 #[derive(Drop)]
 pub struct StatsService<'p, K, C, P> {
     pub teller: Teller<'p, K, C, P>,
+    /// What its clients may do.
+    pub level: Level,
+    /// How long its clients may stay.
+    pub stay: Stay,
 }
 
 /// How a conversation goes on behind a command, and how many commands were answered so far.
@@ -54,7 +58,7 @@ impl<'p, K: Keeper, C: Clock, P: Program> StatsService<'p, K, C, P> {
     /// Tells of the program.
     fn tell<W: Sink>(
         &mut self,
-        told: Told,
+        told: Told<'_>,
         writer: &mut W,
         talk: Conversation,
     ) -> Result<(), Failed> {
@@ -78,7 +82,21 @@ impl<'p, K: Keeper, C: Clock, P: Program> StatsService<'p, K, C, P> {
         }
     }
 
-    /// Answers a command on a table, by the code of the command socket.
+    /// Lists the commands that begin with words.
+    fn help<W: Sink>(
+        &mut self,
+        asked: &[u8],
+        writer: &mut W,
+        talk: Conversation,
+    ) -> Result<(), Failed> {
+        let mut text = Vec::new(self.teller.alloc);
+        match push_help(&mut text, asked) {
+            Ok(()) => write_answer(writer, text.as_slice(), talk),
+            Err(_) => write_answer(writer, Message::OutOfMemory.bytes(), talk),
+        }
+    }
+
+    /// Answers a command on a table, by the code of the command socket, as far as the level permits.
     fn ask_table<W: Sink>(
         &mut self,
         command: &[u8],
@@ -91,9 +109,8 @@ impl<'p, K: Keeper, C: Clock, P: Program> StatsService<'p, K, C, P> {
             clock,
             program: _,
         } = &mut self.teller;
-        if answer(*alloc, tables.as_mut_slice(), clock, command, writer).is_err() {
-            return Err(Failed);
-        }
+        let tables = tables.as_mut_slice();
+        answer_permitted(*alloc, tables, clock, self.level, command, writer)?;
         write_answer(writer, b"", talk)
     }
 
@@ -123,19 +140,28 @@ impl<'p, K: Keeper, C: Clock, P: Program> StatsService<'p, K, C, P> {
         writer: &mut W,
         talk: Conversation,
     ) -> Result<Conversation, Failed> {
-        let message = match read_command(command) {
+        let asked = read_command(command);
+        if !may_ask(self.level, asked) {
+            self.say(StatsMessage::PermissionDenied, writer, talk)?;
+            return Ok(talk);
+        }
+        let message = match asked {
             StatsCommand::Quit => return Ok(talk.after_quit()),
             StatsCommand::Prompt => {
-                let talk = talk.after_prompt();
+                let talk = talk.after_prompt(self.stay);
                 self.say(StatsMessage::Done, writer, talk)?;
                 return Ok(talk);
             }
-            StatsCommand::ShowInfo => {
-                self.tell(Told::Info, writer, talk)?;
+            StatsCommand::ShowInfo(format) => {
+                self.tell(Told::Info(format), writer, talk)?;
                 return Ok(talk);
             }
-            StatsCommand::ShowStat => {
-                self.tell(Told::Stat, writer, talk)?;
+            StatsCommand::ShowStat(query) => {
+                self.tell(Told::Stat(query), writer, talk)?;
+                return Ok(talk);
+            }
+            StatsCommand::Help(asked) => {
+                self.help(asked, writer, talk)?;
                 return Ok(talk);
             }
             StatsCommand::Table => {
@@ -157,7 +183,6 @@ impl<'p, K: Keeper, C: Clock, P: Program> StatsService<'p, K, C, P> {
                 StatsMessage::Done
             }
             StatsCommand::ShowErrors => StatsMessage::Done,
-            StatsCommand::Help => StatsMessage::Help,
             StatsCommand::Empty | StatsCommand::Unknown => StatsMessage::Unknown,
         };
         self.say(message, writer, talk)?;
@@ -183,7 +208,6 @@ impl<'p, K: Keeper, C: Clock, P: Program> StatsService<'p, K, C, P> {
                 return Ok(now);
             }
         }
-        now.talk = now.talk.after_line();
         Ok(now)
     }
 
@@ -218,12 +242,12 @@ impl<'p, K: Keeper, C: Clock, P: Program> StatsService<'p, K, C, P> {
     /// Answers a client until all is said. How many commands were answered.
     fn converse<R: Source, W: Sink>(&mut self, reader: &mut R, writer: &mut W) -> u64 {
         let mut line = LineSoFar::new();
-        let mut buffer = [0u8; 4096];
+        let mut buffer = [0u8; READ_BYTES];
         let mut now = Progress {
             talk: BEGUN,
             done: 0,
         };
-        for _read in 0..MOST_READS {
+        for _read in 0..self.stay.most_reads() {
             let count = match reader.read(&mut buffer) {
                 Ok(0) | Err(_) => return now.done,
                 Ok(count) => count,
@@ -232,6 +256,7 @@ impl<'p, K: Keeper, C: Clock, P: Program> StatsService<'p, K, C, P> {
                 Ok(after) => now = after,
                 Err(after) => return after.done,
             }
+            now.talk = now.talk.after_lines(is_cut(&buffer[..count]));
             if now.talk.is_over {
                 return now.done;
             }

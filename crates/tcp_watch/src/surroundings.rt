@@ -1,16 +1,17 @@
 //! What the environment says of the service manager; `stickd` reads it as it starts.
 
-use crate::handed::{Handed, read_handed};
+use crate::handed::{HandedFault, HandedSocket, read_handed};
 use crate::notify_address::{NotifyAddress, read_address};
 use crate::watchdog::read_watchdog;
+use base_sequence::Sequence;
 use std::env;
 use std::rt::Env;
 
 /// What the environment says of the service manager.
-#[derive(Clone, Copy, Debug)]
+#[derive(Debug, Drop)]
 pub struct Surroundings {
-    /// The sockets that it hands over.
-    pub handed: Handed,
+    /// The sockets that it hands over, in their order.
+    pub handed: Sequence<HandedSocket>,
     /// Where it takes messages (`NOTIFY_SOCKET`).
     pub notify: Option<NotifyAddress>,
     /// How many ms lie between two messages that the program is alive, where it wants them.
@@ -23,7 +24,7 @@ fn value_of<R: Env + AllocGlobal>(rt: &R, name: &str) -> Option<String> {
 }
 
 /// What the environment says of the service manager of this process.
-pub fn read_surroundings<R: Env + AllocGlobal>(rt: &R) -> Surroundings {
+pub fn read_surroundings<R: Env + AllocGlobal>(rt: &R) -> Result<Surroundings, HandedFault> {
     let own = u32::try_from(libc::getpid()).unwrap_or(0);
     let process = value_of(rt, "LISTEN_PID");
     let count = value_of(rt, "LISTEN_FDS");
@@ -31,13 +32,15 @@ pub fn read_surroundings<R: Env + AllocGlobal>(rt: &R) -> Surroundings {
     let time = value_of(rt, "WATCHDOG_USEC");
     let watched = value_of(rt, "WATCHDOG_PID");
     let notify = value_of(rt, "NOTIFY_SOCKET");
-    Surroundings {
-        handed: read_handed(
-            process.as_ref().map(|text| text.as_bytes()),
-            count.as_ref().map(|text| text.as_bytes()),
-            names.as_ref().map(|text| text.as_bytes()),
-            own,
-        ),
+    let handed = read_handed(
+        rt.alloc(),
+        process.as_ref().map(|text| text.as_bytes()),
+        count.as_ref().map(|text| text.as_bytes()),
+        names.as_ref().map(|text| text.as_bytes()),
+        own,
+    )?;
+    Ok(Surroundings {
+        handed,
         notify: match &notify {
             Some(value) => read_address(value.as_bytes()),
             None => None,
@@ -47,5 +50,5 @@ pub fn read_surroundings<R: Env + AllocGlobal>(rt: &R) -> Surroundings {
             watched.as_ref().map(|text| text.as_bytes()),
             own,
         ),
-    }
+    })
 }

@@ -5,7 +5,7 @@ ghost use Rattle.libc.specs.Net.{SockOption};
 use libc::net as system;
 use std::net::{Net, TcpListener, TcpStream};
 use std::os::fd::{AsRawFd, RawFd};
-use tcp_link::Keepalive;
+use tcp_link::{Keepalive, Liveness, UserTimeout};
 
 /// A number that a socket has for an option of TCP. None where the system doesn't tell.
 fn option(socket: RawFd, level: i32, name: i32) -> Option<u32>
@@ -21,7 +21,7 @@ fn option(socket: RawFd, level: i32, name: i32) -> Option<u32>
 }
 
 /// What a socket says of silent peers: whether they are asked, when, how soon again, how often, and how long bytes may stay
-/// unacknowledged.
+/// unacknowledged, where 0 is as long as the system lets them.
 fn keepalive(socket: RawFd) -> Option<[u32; 5]> {
     Some([
         option(socket, system::SOL_SOCKET, system::SO_KEEPALIVE)?,
@@ -35,21 +35,47 @@ fn keepalive(socket: RawFd) -> Option<[u32; 5]> {
 /// What the sockets say that a listener accepts which was told so.
 fn accepted<R: Net<Listener = TcpListener, Stream = TcpStream>>(
     rt: &R,
-    time: u64,
+    liveness: Liveness,
 ) -> Option<[u32; 5]> {
     let listener = TcpListener::bind(rt, "127.0.0.1:0").ok()?;
-    Keepalive::of(time).apply(rt, &listener).ok()?;
+    liveness.apply(rt, &listener).ok()?;
     let address = listener.local_addr().ok()?;
     let _here = TcpStream::connect(rt, address).ok()?;
     let (there, _address) = listener.accept().ok()?;
     keepalive(there.as_raw_fd())
 }
 
+/// That silent peers are asked after so many ms.
+fn asking(time: u64) -> Liveness {
+    Liveness {
+        keepalive: Some(Keepalive::of(time)),
+        user_timeout: None,
+    }
+}
+
+/// That bytes may stay unacknowledged for so many ms.
+fn giving_up(time: u64) -> Liveness {
+    Liveness {
+        keepalive: None,
+        user_timeout: Some(UserTimeout::of(time)),
+    }
+}
+
 #[test]
 fn accepted_sockets_ask_silent_peers(rt: HostRuntime) {
-    assert!(rt; accepted(&rt, 0) == Some([1, 1, 1, 3, 4_000]));
-    assert!(rt; accepted(&rt, 3_000) == Some([1, 3, 1, 3, 6_000]));
-    assert!(rt; accepted(&rt, 3_001) == Some([1, 4, 2, 3, 10_000]));
-    assert!(rt; accepted(&rt, 60_000) == Some([1, 60, 20, 3, 120_000]));
-    assert!(rt; accepted(&rt, u64::MAX) == Some([1, 32_767, 10_923, 3, 65_536_000]));
+    assert!(rt; accepted(&rt, asking(0)) == Some([1, 1, 1, 3, 0]));
+    assert!(rt; accepted(&rt, asking(3_000)) == Some([1, 3, 1, 3, 0]));
+    assert!(rt; accepted(&rt, asking(3_001)) == Some([1, 4, 2, 3, 0]));
+    assert!(rt; accepted(&rt, asking(60_000)) == Some([1, 60, 20, 3, 0]));
+    assert!(rt; accepted(&rt, asking(u64::MAX)) == Some([1, 32_767, 10_923, 3, 0]));
+}
+
+#[test]
+fn accepted_sockets_give_silent_peers_up(rt: HostRuntime) {
+    let Some(told) = accepted(&rt, giving_up(1_500)) else {
+        panic!(rt; "no client was accepted");
+    };
+    assert!(rt; told[0] == 0 && told[4] == 1_500);
+    let longest = Some([0, told[1], told[2], told[3], 0x7fff_ffff]);
+    assert!(rt; accepted(&rt, giving_up(u64::MAX)) == longest);
 }

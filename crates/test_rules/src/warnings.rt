@@ -86,6 +86,8 @@ const PLAN: StartPlan = StartPlan {
     descriptors: Some(33),
     has_client_timeout: true,
     has_server_timeout: true,
+    metrics: None,
+    takes_ipv6: false,
 };
 
 const FEW: &str =

@@ -16,7 +16,8 @@ OTHERS = ['option tcplog', 'log global', 'mode tcp', 'mode http', 'timeout clien
           'default-server inter 3s', 'timeout tunnel 1h', 'no log', 'disabled', 'unheard of', 'description "a b', '.if defined(X)', '.endif',
           'option tcpka', 'option srvtcpka', 'clitcpka-idle 30', 'srvtcpka-idle 90s', 'clitcpka-idle never', 'backlog 99999999999', 'maxconn 0',
           'maxconn 9999999999', 'nbthread 2', 'nbthread 4000', 'timeout client 0', 'timeout connect 25d', 'timeout server soon', 'timeout client-fin 2s',
-          'stats socket /run/here.sock mode 660', 'default-server maxconn 7 send-proxy', 'no option clitcpka',
+          'stats socket /run/here.sock mode 660', 'stats socket /run/it.sock level user group staff', 'hard-stop-after 30m', 'maxconnrate 5',
+          'tune.bufsize 99', 'option contstats', 'timeout queue 3s', 'retry-on none', 'default-server maxconn 7 send-proxy', 'no option clitcpka',
           'use_backend be', 'use_backend tab if { src 10.0.0.1 }', 'default_backend be', 'default_backend fe', 'acl good src 10.0.0.1 # comment \u00e9']
 TABLES = ['type ip', 'type ipv6', 'type string len 20', 'type integer', 'size 100k', 'expire 30s', 'store conn_cur', 'store gpc0,conn_rate(10s)',
           'store gpc(2),gpc_rate(2,5s)', 'store http_req_rate(10s)', 'nopurge', 'peers mates', 'store gpt0, gpc1', 'type binary len 4', 'size 0']

@@ -41,7 +41,7 @@ def lines_of(text):
 def fates_of(said):
     """What the report says of each line, by its number."""
     fates = {}
-    for line in said:
+    for line in (line for line in said if line.startswith('stickd: line ')):
         _, number, fate = line.split(': ', 1)[0], *line.removeprefix('stickd: line ').split(': ', 1)
         fates[int(number)] = ''.join(letter if letter < '\x80' else '?' for letter in fate)
     return fates
@@ -72,6 +72,12 @@ def stands_for(written, line, fate, new):
     return written.startswith('#- ' + line.rstrip()) or (fate.startswith('rewritten: ') and written.strip().startswith(new))
 
 
+def without_text(ran):
+    """A run that wrote no text, and so doesn't say how that is run."""
+    end = ran.said.index('stickd: run it by') if 'stickd: run it by' in ran.said else len(ran.said)
+    return ran._replace(text=b'', said=ran.said[:end])
+
+
 class Adopter:
     """The program at PATH."""
 
@@ -79,7 +85,7 @@ class Adopter:
         self.program = os.path.abspath(program)
 
     def adopt(self, path, *options):
-        return run([self.program, 'adopt', path, *options])
+        return run([self.program, 'adopt', path, '--verbose', *options])
 
     def check_fault(self, path):
         """What `stickd check` says of a file, apart from that it is valid."""
@@ -105,9 +111,8 @@ class Adopter:
             return (None if not done.text else f'it has written {done.text}'), FAILED
         if done.status not in (SAME, CHANGED):
             return f'status {done.status}: {done.said[-1:]}', done.status
-        quiet = self.adopt(path, *options)
-        if quiet != done._replace(text=done.text if done.status == SAME else b''):
-            return "what stands on standard output isn't as the status says", done.status
+        if (quiet := self.adopt(path, *options)) != (done if done.status == SAME else without_text(done)):
+            return f"what is said isn't as the status says: {quiet}", done.status
         with open(path, 'rb') as file:
             fault = line_missing(lines_of(file.read()), lines_of(done.text), fates_of(done.said))
         with tempfile.TemporaryDirectory() as folder:

@@ -195,7 +195,7 @@ static void change_errors(struct text *text)
     if (is("standard error is dropped"))
         text->size = 0;
     if (is("warnings are dropped"))
-        remove_lines(text, "stickd: warning:", 0);
+        remove_lines(text, "<4>stickd: warning:", 0);
     if (is("explanations are dropped"))
         remove_lines(text, "  ", 0);
     if (is("the line of a fault is another"))

@@ -41,15 +41,16 @@ def footprint(proxy):
 
 
 def wait_for_rest(proxy, threads):
-    """Waits until the program has no connection: three standard streams, two sockets, and two descriptors for each of its threads, or three
-    where it keeps a socket for the server of its next client. Beside those threads there are six: the first, one that keeps the
-    tables, and four for clients of the command socket."""
+    """Waits until the program has no connection: three standard streams, of which it may open two anew, two sockets, two events by which
+    threads are woken, its status in /proc, and two descriptors for each of its threads, or three where it keeps a socket for the server
+    of its next client. Beside those threads there are six: the first, one that keeps the tables, and four for clients of the command
+    socket."""
     wait_for('descriptors and threads are those of a program at rest', lambda: is_at_rest(*footprint(proxy), threads))
 
 
 def is_at_rest(descriptors, running, threads):
     """Whether so many descriptors and running threads are those of a program at rest that serves on so many threads."""
-    return 5 + 2 * threads <= descriptors <= 5 + 3 * threads and running == 6 + threads
+    return 8 + 2 * threads <= descriptors <= 10 + 3 * threads and running == 6 + threads
 
 
 def take(stream, count):

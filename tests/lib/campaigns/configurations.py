@@ -16,7 +16,11 @@ SHARE = 10
 PORTION = 250
 VALID = re.compile(rb'valid: \d+ tables, \d+ rules\n')
 PAST = re.compile(rb'(stickd: line [1-9]\d*: read past\n)*')
-FAULT = re.compile(rb'stickd: line ([1-9]\d*): (?:C1 unknown keyword|C2 bad number or time|C3 bad size|C4 unknown type or data|'
+# The faults that a file of HAProxy's has, and the beginnings of sections that only such a file has: then the file is told as one.
+FOREIGN = (b'C1 ', b'C7 ', b'C8 ', b'C9 ', b'C10 ')
+SECTION = re.compile(rb'^[ \t]*(?:global|defaults)(?:[ \t#]|\r?$)', re.MULTILINE)
+HAPROXYS = b"stickd: it looks like a file of HAProxy's: 'stickd adopt' writes what stickd runs in its place\n"
+FAULT = re.compile(rb'stickd: line ([1-9]\d*): (C1 unknown keyword|C2 bad number or time|C3 bad size|C4 unknown type or data|'
                    rb'C5 unknown table or backend|C6 second table or name|C7 bad condition|C8 unknown ACL|'
                    rb'C9 more than one server|C10 mode http|C11 not UTF-8)\n')
 
@@ -25,9 +29,11 @@ def is_answered(ran, text):
     """Whether a damaged file is called valid, with the lines that are read past, or has one fault, of a line that is there."""
     if ran.status == 0:
         return bool(VALID.fullmatch(ran.stdout) and PAST.fullmatch(ran.stderr))
-    fault = FAULT.fullmatch(ran.stderr)
+    said = ran.stderr.removesuffix(HAPROXYS)
+    fault = FAULT.fullmatch(said)
+    is_foreign = fault is not None and fault[2].startswith(FOREIGN) and SECTION.search(text) is not None
     lines = text.count(b'\n') + (not text.endswith(b'\n'))
-    return ran.status == 1 and ran.stdout == b'' and fault is not None and int(fault[1]) <= lines
+    return ran.status == 1 and ran.stdout == b'' and fault is not None and int(fault[1]) <= lines and (said != ran.stderr) == is_foreign
 
 
 def not_utf8(text):

@@ -21,7 +21,9 @@ from lib.shims import build_shim
 TABLE = 'stick-table type ip size 1k store conn_cur,conn_cnt'
 TRACK = 'tcp-request connection track-sc0 src'
 SETTLED = re.compile(rb'settled www: \d+ calls, 0 references\n')
-LOGGED = re.compile(rb"(?m)^(?:\[(?:INFO|WARN) |stickd: warning: ).*\n")
+LOGGED = re.compile(rb"(?m)^(?:\[INFO |<4>stickd: warning: ).*\n")
+# What stands in front of an error, for the journal.
+MARK = re.compile(rb'(?m)^<3>')
 THREADS = 4
 NOBODY = 65534
 # The seconds that a start may take that is to stop at once.
@@ -39,8 +41,8 @@ class Site:
 
 
 def said_alone(ran):
-    """The same run, without the lines that tell how it goes."""
-    return ran._replace(stderr=LOGGED.sub(b'', ran.stderr))
+    """The same run, without the lines that tell how it goes, and without the marks of errors."""
+    return ran._replace(stderr=MARK.sub(b'', LOGGED.sub(b'', ran.stderr)))
 
 
 def settles_or_says(ran, *texts):
@@ -77,7 +79,7 @@ def descriptors(given):
     socket answers in the end. Then the same crowd until the program stops, whose table is settled."""
     report = Report()
     limits = loadable(stickd(), [(f'{most} descriptors', limited(resource.RLIMIT_NOFILE, most)) for most in range(3, 40)])
-    texts = ("stickd: a thread can't", 'stickd: 127.0.0.1:', 'stickd: /', 'stickd: no random numbers')
+    texts = ("stickd: a thread can't", "stickd: what wakes threads can't", 'stickd: 127.0.0.1:', 'stickd: /', 'stickd: no random numbers')
     start_each(report, stickd(), limits, texts)
     with Server(greets) as server, Proxy(server.port, [TABLE, TRACK], threads=2, descriptors=64) as proxy:
         held = [proxy.connect() for _ in range(100)]

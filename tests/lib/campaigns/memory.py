@@ -29,7 +29,7 @@ COMMANDS = ['set table www key 10.0.0.9 data.gpc0 7 data.conn_cnt 3', 'set table
             'clear table www key 10.0.0.3', 'clear table www data.gpc0 gt 2', 'show table www', 'show table', 'show table www key 10.0.0.1',
             'show table www data.gpc0 le 3', 'show table u', 'set table www key nonsense', 'what', 'set table www key 10.0.0.1 data.gpc0 x']
 # What the program says where it can't start, or can't settle, for want of memory.
-SHORT = re.compile(r"(?:\[INFO .*\n|stickd: warning: .*\n)*(?:stickd: (?:line \d+: C12 out of memory|out of memory|\S+ can't be (?:read|bound): .*|"
+SHORT = re.compile(r"(?:\[INFO .*\n|<4>stickd: warning: .*\n)*(?:(?:<3>)?stickd: (?:line \d+: C12 out of memory|out of memory|\S+ can't be (?:read|bound): .*|"
                    r"a thread can't (?:be started|wait for connections))|error: out of memory|unsettled www: S4)\n(?:\[INFO .*\n)*")
 SETTLED = re.compile(r'settled www: \d+ calls, ([01]) references\n')
 

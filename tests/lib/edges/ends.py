@@ -6,7 +6,7 @@ import subprocess
 import threading
 import time
 
-from lib.proxy import (PATIENCE, TABLE, TRACK, FarServer, Proxy, closed_after, end_of, hears_end, read_all, reset, wait_for)
+from lib.proxy import (PATIENCE, TABLE, TRACK, FarServer, Proxy, Server, closed_after, end_of, hears_end, read_all, reset, wait_for)
 from lib.trials import wants
 
 # How soon something is to be seen that happens at once, in seconds.
@@ -103,24 +103,28 @@ def an_end_passes_as_it_came():
     assert not faults, faults
 
 
-def a_reset_behind_an_end_is_heard():
-    """Where one side has ended its way, and the other is silent, a reset of the first ends the connection at once: its reference
-    goes back, and the other side is told."""
+def a_reset_behind_an_end_says_nothing():
+    """Where one side has ended its way, a reset of it says nothing to the other, which has its end: what that one still sends nobody
+    takes, and as it ends the reference goes back. With --timeout-fin 500ms that comes at the latest when nothing has passed for so long."""
     faults = []
     for from_client in (True, False):
-        with FarServer() as server, Proxy(server.port, [TABLE, TRACK], threads=1) as proxy:
-            client, far = server.joined(proxy)
-            near, other = (client, far) if from_client else (far, client)
-            near.shutdown(socket.SHUT_WR)
-            assert other.recv(1) == b'', 'the end of one way is passed on'
-            assert use_of(proxy) == 1, 'the other way is open'
-            reset(near)
-            try:
-                wait_for('the reference goes back', lambda: use_of(proxy) == 0, SOON)
-                assert hears_end(other, SOON), "the other side isn't told"
-            except AssertionError as fault:
-                faults.append(f'{"client" if from_client else "server"}: {fault}')
-            other.close()
+        for words in ([], ['--timeout-fin', '500ms']):
+            with FarServer() as server, Proxy(server.port, [TABLE, TRACK], *words, threads=1) as proxy:
+                client, far = server.joined(proxy)
+                near, other = (client, far) if from_client else (far, client)
+                near.shutdown(socket.SHUT_WR)
+                assert other.recv(1) == b'', 'the end of one way is passed on'
+                reset(near)
+                try:
+                    other.sendall(b'.')
+                    assert not hears_end(other, 0.3), 'the other side is told'
+                    if not words:
+                        assert use_of(proxy) == 1, 'the connection has ended'
+                        other.close()
+                    wait_for('the reference goes back', lambda: use_of(proxy) == 0, SOON)
+                except AssertionError as fault:
+                    faults.append(f'{"client" if from_client else "server"} {words}: {fault}')
+                other.close()
     assert not faults, faults
 
 
@@ -150,6 +154,36 @@ def both_sides_are_asked_whether_they_live():
         assert far.recv(1) == b'+', 'it is open'
 
 
+def one_that_pauses_is_not_cut():
+    """With --keepalive 1s a client that reads nothing for 8 seconds of what its server sends gets all of it, as its system answers
+    each probe."""
+    count = 10_000_000
+    with Server(lambda client: client.sendall(b'+' * count)) as server:
+        with Proxy(server.port, [TABLE, TRACK], '--keepalive', '1s', threads=1) as proxy, proxy.connect() as client:
+            assert client.recv(1) == b'+', 'it is served'
+            time.sleep(8)
+            assert (came := 1 + len(read_all(client))) == count, f'{came} bytes'
+
+
+def one_that_acknowledges_nothing_is_given_up():
+    """With --tcp-user-timeout 1s a client that takes nothing of what its server sends is given up within seconds, and the server hears
+    it; without, both go on. A connection through which nothing passes stays."""
+    for words in (['--tcp-user-timeout', '1s'], []):
+        with FarServer() as server, Proxy(server.port, [TABLE, TRACK], *words, threads=1) as proxy:
+            idle, far_of_idle = server.joined(proxy)
+            client, far = server.joined(proxy)
+            far.setblocking(False)
+            with contextlib.suppress(BlockingIOError):
+                while True:
+                    far.send(b'+' * 65536)
+            assert hears_end(far, 10) == bool(words), f'{words}: the server hears it'
+            idle.sendall(b'+')
+            assert far_of_idle.recv(1) == b'+', f'{words}: the idle one is open'
+            wait_for('what is counted', lambda: use_of(proxy) == (1 if words else 2), SOON)
+            client.close()
+            far.close()
+
+
 def one_way_alone_has_its_time():
     """With --timeout-fin 500ms a connection of which one way has ended is closed when nothing has passed for so long, whichever side
     ended it; one of which both are open stays."""
@@ -171,5 +205,6 @@ def one_way_alone_has_its_time():
         assert far_of_whole.recv(1) == b'+', 'the whole one is open'
 
 
-TRIALS = [one_way_may_end_before_the_server_accepts, netcat_may_end_its_way_before_the_server_accepts, an_end_passes_as_it_came, a_reset_behind_an_end_is_heard,
-          both_sides_are_asked_whether_they_live, one_way_alone_has_its_time]
+TRIALS = [one_way_may_end_before_the_server_accepts, netcat_may_end_its_way_before_the_server_accepts, an_end_passes_as_it_came,
+          a_reset_behind_an_end_says_nothing, both_sides_are_asked_whether_they_live, one_that_pauses_is_not_cut,
+          one_that_acknowledges_nothing_is_given_up, one_way_alone_has_its_time]

@@ -98,12 +98,13 @@ def passing_errors_hold_nobody_up():
     assert not slow, slow
 
 
-# How many bytes of one connection are carried at most before the others that are ready have their turn.
-SHARE = 262_144
+# How many bytes of one connection are read at most before the others that are ready have their turn: two reads of 64 KiB in each of
+# the turns that its two sockets may have one after the other, and two more that are dropped where its other side has failed.
+SHARE = 393_216
 
 
 def one_that_sends_much_leaves_turns_to_others():
-    """Beside 10 connections whose servers send as much as passes, on one thread, no more than 256 KiB of one of them are read before
+    """Beside 10 connections whose servers send as much as passes, on one thread, no more than 384 KiB of one of them are read before
     the others have their turn: so a byte there and back waits for that much of each of them at most."""
     def sends(client):
         if client.recv(1) == b'!':
@@ -130,6 +131,7 @@ def one_that_sends_much_leaves_turns_to_others():
             with proxy.connect() as client:
                 client.sendall(b'?')
                 assert is_greeted(client), 'another is served'
+            # What a server still sends to those that leave is read too, and dropped.
             ends.set()
             for one in taking:
                 one.join()

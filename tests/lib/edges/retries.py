@@ -4,7 +4,7 @@ import socket
 import threading
 import time
 
-from lib.proxy import PATIENCE, TABLE, TRACK, FarServer, Proxy, closed_after, echoes, free_port, read_all, reset, wait_for
+from lib.proxy import PATIENCE, TABLE, TRACK, FarServer, Proxy, closed_after, echoes, end_of, free_port, read_all, reset, wait_for
 
 
 def opens_after(seconds, port, serve):
@@ -81,5 +81,60 @@ def a_server_that_accepted_is_not_tried_again():
             assert took < 0.9, f'{took:.1f} s, {"" if passes else "no "}byte has passed'
 
 
+def a_client_that_sent_and_leaves_is_noticed():
+    """A client that sent bytes and resets its connection gives its reference back at once, while its server is tried again; and no server
+    gets its bytes. So it does while its server hasn't accepted, though --timeout-connect gives that 10 seconds."""
+    def leaves(proxy):
+        client = proxy.connect()
+        client.sendall(b'request')
+        wait_for('it is tracked', lambda: proxy.rows().get('127.0.0.1', {}).get('conn_cur') == 1)
+        time.sleep(0.2)
+        reset(client)
+        wait_for('its reference is given back', proxy.is_unused, 0.8)
+
+    port = free_port()
+    with Proxy(port, [TABLE, TRACK], '--retries', '1000', threads=1) as proxy:
+        leaves(proxy)
+        with socket.create_server(('127.0.0.1', port)) as listener:
+            listener.settimeout(1.5)
+            with contextlib.suppress(TimeoutError):
+                listener.accept()
+                raise AssertionError('its server is connected to')
+    with socket.socket() as listener, contextlib.ExitStack() as fillers:
+        listener.bind(('127.0.0.1', 0))
+        listener.listen(0)
+        for _ in range(4):
+            filler = fillers.enter_context(socket.socket())
+            filler.setblocking(False)
+            filler.connect_ex(listener.getsockname())
+        time.sleep(0.1)
+        with Proxy(listener.getsockname()[1], [TABLE, TRACK], '--timeout-connect', '10s', threads=1) as proxy:
+            leaves(proxy)
+
+
+def a_server_that_accepts_and_resets_is_tried_once():
+    """A server that accepts each of five clients and resets them before any byte has passed is connected to five times, however
+    many tries are left. Each client is reset."""
+    connects, seen = [], []
+    with socket.create_server(('127.0.0.1', 0)) as listener:
+        def serve():
+            with contextlib.suppress(OSError):
+                while True:
+                    connects.append(listener.accept()[0])
+                    time.sleep(0.05)
+                    reset(connects[-1])
+        threading.Thread(target=serve, daemon=True).start()
+        with Proxy(listener.getsockname()[1], [TABLE, TRACK], '--retries', '3', threads=1) as proxy:
+            for _ in range(5):
+                with proxy.connect() as client:
+                    seen.append(end_of(client))
+            time.sleep(1.5)
+            wait_for('the references are given back', proxy.is_unused)
+        listener.shutdown(socket.SHUT_RDWR)
+    assert len(connects) == 5, f'{len(connects)} connects of 5 clients'
+    assert seen == ['reset'] * 5, seen
+
+
 TRIALS = [a_server_that_comes_gets_all, it_is_tried_as_often_as_asked, a_client_that_leaves_is_noticed,
-          a_server_that_accepted_is_not_tried_again]
+          a_server_that_accepted_is_not_tried_again, a_client_that_sent_and_leaves_is_noticed,
+          a_server_that_accepts_and_resets_is_tried_once]

@@ -1,5 +1,6 @@
 """Trials of what the program says as it starts: each doubt about how it was started in one line, once, and nothing without one."""
 import re
+import signal
 import socket
 
 from lib.proxy import TRACK, Proxy, Server, echoes, read_all, reject_above
@@ -7,6 +8,14 @@ from lib.proxy import TRACK, Proxy, Server, echoes, read_all, reject_above
 TABLE = 'stick-table type ip size {size} store conn_cur'
 SAFE = [TRACK, 'tcp-request connection reject unless { sc0_tracked }', reject_above(3)]
 TIMES = ['--timeout-client', '60s', '--timeout-server', '60s']
+
+
+class Launched(Proxy):
+    """The program at work as its launcher starts it, with SIGTERM and SIGINT blocked: that they aren't is a doubt of its own."""
+
+    def limit(self):
+        super().limit()
+        signal.pthread_sigmask(signal.SIG_BLOCK, [signal.SIGTERM, signal.SIGINT])
 
 
 def words_of(lines):
@@ -17,7 +26,7 @@ def words_of(lines):
 def warned(lines, words, descriptors=4000, size='1k'):
     """What the program says as it starts with these rules and words."""
     with Server(echoes) as server:
-        with Proxy(server.port, [TABLE.format(size=size), *lines], *words, threads=1, descriptors=descriptors) as proxy:
+        with Launched(server.port, [TABLE.format(size=size), *lines], *words, threads=1, descriptors=descriptors) as proxy:
             # One is served only behind what is said at the start.
             with proxy.connect() as client:
                 client.shutdown(socket.SHUT_WR)

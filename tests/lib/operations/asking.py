@@ -7,6 +7,7 @@ import subprocess
 import tempfile
 
 from lib.operations.base import OTHER, OnTerminal, answers, asked, fill, running
+from lib.operations.watched import watched
 from lib.places import TOP, stickd
 from lib.proxy import PATIENCE, Proxy, Server, echoes
 
@@ -123,10 +124,10 @@ def watching_ends_with_the_program():
 def what_changed_is_marked():
     """On a terminal an answer stands in place of the last one, with a mark before each line that wasn't there."""
     with running() as proxy, OnTerminal('ctl', '--socket', proxy.path, '--watch', '1', 'show', 'table') as terminal:
-        assert terminal.pictures(1)[0] == '  # table: www, type: ip, size:1024, used:0\n  \n', terminal.written
+        assert terminal.pictures(1)[0] == '  # table: www, type: ip, size:1024, used:0\n', terminal.written
         fill(proxy, 1)
-        assert '* # table: www, type: ip, size:1024, used:1\n  \n' in terminal.pictures(3), terminal.written
-        assert terminal.pictures(4)[3] == '  # table: www, type: ip, size:1024, used:1\n  \n', terminal.written
+        assert '* # table: www, type: ip, size:1024, used:1\n' in terminal.pictures(3), terminal.written
+        assert terminal.pictures(4)[3] == '  # table: www, type: ip, size:1024, used:1\n', terminal.written
 
 
 def sessions():
@@ -150,5 +151,45 @@ def the_example_of_the_guide():
             assert (done.returncode, done.stdout.rstrip('\n')) == (0, shown), (command, done.stdout)
 
 
+def time_that_passes_is_no_change():
+    """A line isn't marked as less of its entry's life is left, and is where a number of it changed, or the entry was refreshed."""
+    with running() as proxy, OnTerminal('ctl', '--socket', proxy.path, '--watch', '1', 'show', 'table', 'www') as terminal:
+        fill(proxy, 2)
+        # The pictures that show both, the first of which marks them.
+        marks = [[line[:2] for line in picture.splitlines() if 'key=' in line] for picture in terminal.pictures(4)]
+        assert ['  ', '  '] in marks, marks
+        answers(proxy.path, 'set', 'table', 'www', 'key', '10.0.0.1', 'data.gpc0', '9')
+        later = [[line[:2] for line in picture.splitlines() if 'key=' in line] for picture in terminal.pictures(8)[4:]]
+        assert ['* ', '  '] in later, later
+
+
+def what_is_watched_fits_the_terminal():
+    """An answer that is longer than the terminal is shown from its head on, and it is said how many lines there are more; each line is
+    as wide as the terminal at most."""
+    with running() as proxy:
+        fill(proxy, 40)
+        for lines, columns, shown in ((None, None, 22), (10, 30, 8), (100, 200, 41)):
+            words = ('ctl', '--socket', proxy.path, '--watch', '1', 'show', 'table', 'www')
+            with OnTerminal(*words, columns=columns, lines=lines) as terminal:
+                picture = terminal.pictures(1)[0].splitlines()
+            rest = [f'.. {41 - shown} more'] if shown < 41 else []
+            assert len(picture) == shown + len(rest) and picture[shown:] == rest, picture
+            assert len(picture) < (lines or 24) and all(len(line) <= (columns or 80) for line in picture), picture
+            assert picture[0].startswith('  # table: www'), picture
+
+
+def help_points_to_the_other_socket():
+    """`help` on the command socket lists what it answers, and what the stats socket has beside that; on the stats socket the other way."""
+    with watched() as proxy:
+        status, written, said = asked(proxy.path, 'help')
+        assert (status, said) == (0, '') and written.startswith('Unknown command.\n\nThe socket of --socket answers\n  show table '), written
+        assert 'show info' in written.splitlines()[-1], written
+        status, written, said = asked(proxy.stats, 'help', 'show')
+        assert (status, said) == (0, '') and written.startswith('The following commands are valid at this level:\n'), written
+        assert written.endswith('The socket of --socket answers show table, set table and clear table alone, line after line.\n'), written
+        assert asked(proxy.path, '--json', 'help')[1].count('\n') == 1, 'JSON has the answer alone'
+
+
 TRIALS = [the_example_of_the_guide, answers_are_shown_as_they_come, what_did_nothing_has_status_1, nobody_answers, what_is_no_line_is_not_sent,
-          json_says_what_the_answer_says, watching_ends_with_the_program, what_changed_is_marked]
+          json_says_what_the_answer_says, watching_ends_with_the_program, what_changed_is_marked, time_that_passes_is_no_change,
+          what_is_watched_fits_the_terminal, help_points_to_the_other_socket]

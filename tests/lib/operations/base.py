@@ -44,9 +44,10 @@ def fill(proxy, count):
 class OnTerminal:
     """The program with a terminal for its standard output."""
 
-    def __init__(self, *words, columns=None):
+    def __init__(self, *words, columns=None, lines=None):
         self.mine, theirs = pty.openpty()
-        environment = {**os.environ, **({'COLUMNS': str(columns)} if columns else {})}
+        environment = {name: value for name, value in os.environ.items() if name not in ('LINES', 'COLUMNS')}
+        environment.update({name: str(size) for name, size in (('COLUMNS', columns), ('LINES', lines)) if size})
         self.program = subprocess.Popen([stickd(), *words], stdin=subprocess.DEVNULL, stdout=theirs, stderr=subprocess.PIPE, text=True,
                                         env=environment)
         os.close(theirs)

@@ -76,9 +76,14 @@ class Manager:
 
 @contextlib.contextmanager
 def started(manager, *words, **others):
+    def answers():
+        # A socket that isn't handed over isn't there at first.
+        with contextlib.suppress(OSError):
+            return manager.asked('commands', 'show table').startswith('# table')
+        return False
     program = manager.start(*words, **others)
     try:
-        wait_for('it answers', lambda: program.poll() is not None or manager.asked('commands', 'show table').startswith('# table'))
+        wait_for('it answers', lambda: program.poll() is not None or answers())
         assert program.poll() is None, program.stderr.read()
         yield program
     finally:
@@ -118,6 +123,80 @@ def sockets_of_another_are_left():
         done = subprocess.run(words, stdin=subprocess.DEVNULL, capture_output=True, text=True, timeout=PATIENCE, check=False,
                               env={**os.environ, 'LISTEN_PID': '1', 'LISTEN_FDS': '1'})
         assert done.returncode == 1 and "can't be bound: Address already in use" in done.stderr, done
+
+
+def added(manager, stream, name):
+    """Hands one socket more over."""
+    manager.sockets.append(stream)
+    manager.names = (*manager.names, name)
+
+
+def all_listeners_are_served():
+    """Each TCP listener is served that is handed over, also one without a name; `dst_port` is the socket's own port, whatever bind says,
+    and a further bind that a socket listens at isn't bound again."""
+    with Server(greets) as server, Manager(server.port, names=('www',), bind=f'127.0.0.1:{free_port()}') as manager:
+        second, third = (socket.create_server(('127.0.0.1', 0)) for _ in range(2))
+        for stream in (second, third):
+            added(manager, stream, '')
+        ports = [stream.getsockname()[1] for stream in manager.sockets]
+        with open(manager.conf, 'a', encoding='utf-8') as file:
+            file.write(f'    tcp-request connection reject if {{ dst_port {ports[1]} }}\n')
+        with started(manager, '--bind', f'127.0.0.1:{ports[2]}', environment={'LISTEN_FDNAMES': 'www'}):
+            for port, is_admitted in zip(ports, (True, False, True)):
+                with socket.create_connection(('127.0.0.1', port), PATIENCE) as client:
+                    client.settimeout(PATIENCE)
+                    assert is_greeted(client) == is_admitted, port
+
+
+def unserved():
+    """Sockets that can't be served, each with a name and what is said of it."""
+    datagrams = socket.socket(type=socket.SOCK_DGRAM)
+    datagrams.bind(('127.0.0.1', 0))
+    bound = socket.socket()
+    bound.bind(('127.0.0.1', 0))
+    with socket.create_server(('127.0.0.1', 0)) as listener:
+        connected = socket.create_connection(listener.getsockname())
+    unix, second, pipe = socket.socket(socket.AF_UNIX), socket.socket(socket.AF_UNIX), socket.socketpair()[0]
+    for number, stream in enumerate((unix, second)):
+        stream.bind(f'\0stickd-unserved-{os.getpid()}-{number}')
+        stream.listen()
+    listening = socket.create_server(('127.0.0.1', 0))
+    return [(datagrams, 'dgram', 'it is no TCP socket'), (bound, 'www', "it doesn't listen"), (connected, 'www', "it doesn't listen"),
+            (unix, 'www', 'it is no TCP socket'), (listening, 'stats', 'it is no Unix socket'), (pipe, 'stats', "it doesn't listen"),
+            (second, 'commands', 'another one of its name is served')]
+
+
+def what_cannot_be_served_is_refused():
+    """A socket that isn't served, doesn't listen or isn't of TCP ends the start, with its number and its name, and none is served."""
+    for stream, name, reason in unserved():
+        with Server(greets) as server, Manager(server.port, names=('www', 'commands')) as manager:
+            added(manager, stream, name)
+            done = manager.start()
+            written, said = done.communicate(timeout=PATIENCE)
+            assert done.returncode == 1 and written == '', (name, said)
+            assert f"stickd: socket 5 that was handed over, '{name}', can't be served: {reason}\n" in said, (name, said)
+
+
+def more_than_64_are_refused():
+    """A start to which more sockets are handed over than can be served says so, and takes none."""
+    with Server(greets) as server, Manager(server.port, names=('www',)) as manager:
+        done = manager.start(environment={'LISTEN_FDS': '65'})
+        said = done.communicate(timeout=PATIENCE)[1]
+        assert done.returncode == 1 and 'stickd: 65 sockets are handed over, and at most 64 can be served\n' in said, said
+
+
+def clients_without_keys_are_warned_of():
+    """A socket of both families on a table of IPv4 keys is warned of, whatever bind says; not where a rule turns the untracked away."""
+    warning = 'Rule 1: track-sc0 tracks no client of IPv6'
+    for guard, is_warned in (([], True), (['tcp-request connection reject unless { sc0_tracked }'], False)):
+        with Server(greets) as server, Manager(server.port, names=('www', 'commands')) as manager:
+            manager.listener.close()
+            manager.sockets[0] = manager.listener = socket.create_server(('::', 0), family=socket.AF_INET6, dualstack_ipv6=True)
+            with open(manager.conf, 'a', encoding='utf-8') as file:
+                file.write(''.join(f'    {rule}\n' for rule in guard))
+            with started(manager) as program:
+                program.kill()
+                assert (warning in program.stderr.read()) == is_warned, guard
 
 
 def no_connection_is_refused_over_restarts():
@@ -191,5 +270,6 @@ def the_manager_is_told():
                 assert program.wait(PATIENCE) == 0
 
 
-TRIALS = [sockets_are_taken_over, another_address_is_warned_of, sockets_of_another_are_left, no_connection_is_refused_over_restarts,
-          the_manager_is_told]
+TRIALS = [sockets_are_taken_over, another_address_is_warned_of, sockets_of_another_are_left, all_listeners_are_served,
+          what_cannot_be_served_is_refused, more_than_64_are_refused, clients_without_keys_are_warned_of,
+          no_connection_is_refused_over_restarts, the_manager_is_told]

@@ -29,7 +29,7 @@ def nothing_is_said_unless_asked():
 
 
 def rejections_are_said_once_a_second():
-    """With --log-rejected a line a second at most says how many were rejected, and where the last came from."""
+    """With --log-rejected a line a second at most says how many were rejected, and where the last came from, as a key."""
     with watched('--log-rejected', limit=0) as proxy:
         began, count = time.monotonic(), 0
         while time.monotonic() < began + 3.2:
@@ -40,7 +40,7 @@ def rejections_are_said_once_a_second():
         lines = [line for line in proxy.killed() if 'rejected' in line and 'connections:' not in line]
         told = [int(re.search(r'(\d+)', re.sub(r'<\d>', '', line))[1]) for line in lines]
         assert 2 <= len(lines) <= seconds + 1 and sum(told) == count, (lines, count, seconds)
-        assert all(re.search(r'; last 127\.0\.0\.1:\d+$', line) for line in lines), lines
+        assert all(re.search(r'; last 127\.0\.0\.1$', line) for line in lines), lines
 
 
 def a_server_that_refuses_is_said():

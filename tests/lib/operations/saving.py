@@ -17,7 +17,8 @@ from lib.places import stickd
 from lib.proxy import PATIENCE, Server, greets, is_greeted, read_all
 
 TABLE = 'stick-table type ip size 1k expire 10m store conn_cur,gpc0,conn_rate(10s)'
-HEAD = ('# saved by stickd: the ms that an entry has left, and the command that makes it\n'
+HEAD = ('# saved by stickd, and whole if its last line says how many entries it has\n'
+        '# each line has the ms that an entry has left, and the command that makes it\n'
         '# not saved: rates, and which connections hold an entry\n')
 NOTES = HEAD + '# not known: which of two entries goes first that have the same time left, as all of a table without expire\n'
 UNKNOWN = 'Unknown command.\n\n'
@@ -44,8 +45,13 @@ def said_by(answers):
         yield path
 
 
+def with_end(lines):
+    """Lines of entries, and the last line of their file."""
+    return lines + f'# entries: {sum(not line.startswith("#") for line in lines.splitlines())}\n'
+
+
 def saved_of(answers, *tables):
-    """What `stickd ctl save` makes of answers."""
+    """What `stickd ctl save` makes of answers, behind the head."""
     with said_by(answers) as path:
         status, written, said = asked(path, 'save', *tables)
     assert (status, said) == (0, ''), (status, said)
@@ -70,9 +76,9 @@ def a_listing_becomes_lines():
              '300 cmd set table www key 10.0.0.4 data.gpc0 4 data.bytes_in_cnt 0\n'
              '2147483647 cmd set table www key 10.0.0.3 data.gpc0 3 data.bytes_in_cnt 0\n')
     second = '0 cmd set table names key =x data.gpt[0] 1 data.gpt[1] 7\n'
-    assert saved_of(answers) == lost + first + second
-    assert saved_of(answers, 'www') == first
-    assert saved_of(answers, 'names', 'www') == lost + second + first
+    assert saved_of(answers) == with_end(lost + first + second)
+    assert saved_of(answers, 'www') == with_end(first)
+    assert saved_of(answers, 'names', 'www') == with_end(lost + second + first)
 
 
 def entries_stand_as_the_stats_socket_tells():
@@ -85,9 +91,9 @@ def entries_stand_as_the_stats_socket_tells():
                'show table other': header.format('other') + ''.join(sorted(rows)) + '\n'}
     first, second, third = (f'0 cmd set table {{0}} key 10.0.0.{key} data.gpc0 {value}\n' for key, value in ((7, 1), (2, 2), (5, 3)))
     with said_by(answers) as path:
-        assert asked(path, 'save', 'www') == (0, HEAD + (first + second + third).format('www'), '')
+        assert asked(path, 'save', 'www') == (0, HEAD + with_end((first + second + third).format('www')), '')
         both = (first + second + third).format('www') + (second + third + first).format('other')
-        assert asked(path, 'save', 'www', 'other') == (0, NOTES + both, '')
+        assert asked(path, 'save', 'www', 'other') == (0, NOTES + with_end(both), '')
 
 
 def what_can_not_be_saved_is_told():
@@ -150,7 +156,7 @@ def a_restart_keeps_entries():
 
 
 def a_crash_leaves_the_file_of_before():
-    """Killed, it leaves the file as it was; so does a save that fails, which is said, with status 1."""
+    """Killed, it leaves the file as it was."""
     with tempfile.TemporaryDirectory() as room, Server(greets) as server:
         path = os.path.join(room, 'saved')
         with open(path, 'w', encoding='utf-8') as file:
@@ -162,12 +168,6 @@ def a_crash_leaves_the_file_of_before():
             with open(path, encoding='utf-8') as file:
                 assert file.read() == '9 cmd set table www key 10.0.0.1\n'
             assert os.listdir(room) == ['saved']
-        nowhere = os.path.join(room, 'none', 'saved')
-        with Watched(server.port, [TABLE], '--save', nowhere) as proxy:
-            status, written, said = stopped(proxy)
-            calls = calls_of_clients(written, said, time.monotonic() - proxy.began)
-            assert status == 1 and calls == {'www': 1}, (status, written)
-            assert f"stickd: {nowhere} can't be written: No such file or directory (os error 2)\n" in said, said
 
 
 def a_bad_file_lets_nothing_listen():
@@ -180,7 +180,7 @@ def a_bad_file_lets_nothing_listen():
             file.write('9 cmd set table www key 10.0.0.1\n9 cmd set table www key x\n')
         done = subprocess.run([stickd(), 'run', conf, '--socket', sock, '--threads', '1', '--load', path], capture_output=True, text=True,
                               timeout=PATIENCE, check=False)
-        assert (done.returncode, done.stderr) == (1, f"stickd: {path}: line 2: 'set table www key x' is answered 'Invalid key.'\n"), done
+        assert (done.returncode, done.stderr) == (1, f"<3>stickd: {path}: line 2: 'set table www key x' is answered 'Invalid key.'\n"), done
         assert not os.path.exists(sock)
 
 
@@ -223,7 +223,7 @@ def random_tables_are_the_same():
             first, last = shown[:len(names)], shown[len(names):]
             answers = {f'show table {name}': part + '\n' for name, part in zip(names, first)}
             with open(os.path.join(room, 'saved'), 'w', encoding='utf-8') as file:
-                file.write(saved_of(answers, *names))
+                file.write(HEAD + saved_of(answers, *names))
             again = replayed(room, asks.format(LIFE), '--load', os.path.join(room, 'saved'), *words)
             shown = listings_of(again)
             assert shown[:len(names)] == first, (seed, turn, 'rows')

@@ -1,14 +1,19 @@
 """Trials of what Prometheus is told, and that all counts add up."""
+import contextlib
+import os
+import re
 import socket
 import subprocess
 import threading
 import time
 
 from lib.operations.watched import watched
-from lib.proxy import PATIENCE, arrive, is_greeted, read_all, reset, wait_for
+from lib.proxy import PATIENCE, TABLE, TRACK, Proxy, Server, arrive, free_port, greets, is_greeted, read_all, reset, wait_for
 from lib.trials import wants
 
 ROUND = 25
+# How long a scrape may take, in seconds.
+SCRAPE = 5
 
 
 def metrics_are_answered():
@@ -46,6 +51,103 @@ def slow_scrapers_hold_up_nobody():
             assert read_all(stream) == b''
             stream.close()
         assert time.monotonic() - began < 15
+
+
+def head_is_answered_without_a_body():
+    """HEAD has the status and the fields that GET has, the length of the body among them, and no body."""
+    with watched() as proxy:
+        for path in ('/metrics', '/none'):
+            got, asked = (proxy.fetched(f'{method} {path} HTTP/1.1\r\nHost: here\r\n\r\n'.encode()) for method in ('GET', 'HEAD'))
+            assert asked[2] == '' and got[2] != '', (path, asked)
+            assert asked[0] == got[0], (path, asked[0], got[0])
+            lengths = [int(re.search(r'Content-Length: (\d+)', head)[1]) for head in (got[1], asked[1])]
+            # Between the two the counts may have gone on by a digit.
+            assert abs(lengths[0] - lengths[1]) < 20 and lengths[0] == len(got[2]), (path, lengths)
+
+
+def dripped(port, pause):
+    """How long a client is waited for that sends a byte of a request after each pause, in seconds."""
+    with socket.create_connection(('127.0.0.1', port), PATIENCE) as stream:
+        stream.settimeout(pause)
+        began = time.monotonic()
+        with contextlib.suppress(ConnectionError):
+            stream.sendall(b'GET /metrics HTTP/1.1\r\nHost: here\r\nA: ')
+            while time.monotonic() - began < 4 * SCRAPE:
+                stream.sendall(b'a')
+                with contextlib.suppress(TimeoutError):
+                    if stream.recv(1) == b'':
+                        break
+        return time.monotonic() - began
+
+
+def a_request_has_one_deadline():
+    """However fast or slowly a request drips in, its client is closed 5 seconds after the accept, and not before."""
+    with watched() as proxy:
+        for pause in (0.01, 1.0):
+            lasted = dripped(proxy.metrics_port, pause)
+            assert SCRAPE - 0.5 < lasted < 2 * SCRAPE, (pause, lasted)
+
+
+def bytes_count_while_they_pass():
+    """Bytes of a connection are told while it is open, each once, and its end adds none of them again."""
+    way_in, way_out = 'stickd_bytes_total{direction="in"}', 'stickd_bytes_total{direction="out"}'
+    with watched() as proxy:
+        with proxy.connect() as client:
+            assert is_greeted(client)
+            for passed in (100_000, 300_000):
+                client.sendall(b'x' * (passed - int(proxy.metrics()[way_in])))
+                wait_for(f'{passed} bytes are told', lambda: proxy.metrics()[way_in] == passed, within=2)
+            assert proxy.metrics()[way_out] == 1 and proxy.metrics()['stickd_connections'] == 1
+        wait_for('it has ended', lambda: proxy.metrics()['stickd_connections'] == 0)
+        shown = proxy.metrics()
+        assert (shown[way_in], shown[way_out]) == (300_000, 1), shown
+
+
+def unlike_proc(proxy):
+    """Those of the process's metrics that /proc has otherwise, with what a scrape told."""
+    body = proxy.fetched(b'GET /metrics HTTP/1.1\r\nHost: here\r\n\r\n')[2]
+    told = {name: float(value) for name, value in re.findall(r'^(process_[a-z_]+) ([0-9.]+)$', body, re.M)}
+    pid = proxy.program.pid
+    with open(f'/proc/{pid}/stat', encoding='ascii') as file:
+        fields = file.read().rpartition(')')[2].split()
+    with open(f'/proc/{pid}/limits', encoding='ascii') as file:
+        descriptors = int(re.search(r'^Max open files +(\d+)', file.read(), re.M)[1])
+    ticks = (int(fields[11]) + int(fields[12])) / os.sysconf('SC_CLK_TCK')
+    agrees = {
+        'process_cpu_seconds_total': lambda value: 0 <= ticks - value < 2,
+        'process_resident_memory_bytes': lambda value: abs(value - int(fields[21]) * os.sysconf('SC_PAGESIZE')) < 2**22,
+        'process_virtual_memory_bytes': lambda value: abs(value - int(fields[20])) < 2**26,
+        # The client of this scrape is gone by now.
+        'process_open_fds': lambda value: abs(value - len(os.listdir(f'/proc/{pid}/fd'))) <= 2,
+        'process_max_fds': lambda value: value == descriptors,
+        'process_start_time_seconds': lambda value: 0 <= time.time() - value < 60,
+    }
+    return {name: told.get(name) for name, has in agrees.items() if name not in told or not has(told[name])}
+
+
+def the_process_is_told():
+    """What the system says of the process is told by the client libraries' names, and is what /proc says of it."""
+    with watched() as proxy:
+        # Threads that begin beside the first scrapes map memory: so until one of them is alike.
+        for _ in range(50):
+            unlike = unlike_proc(proxy)
+            if not unlike:
+                return
+            time.sleep(0.2)
+        raise AssertionError(unlike)
+
+
+def an_open_place_is_warned_of():
+    """A start warns of metrics that others can reach, and not of those at the machine's own address."""
+    for address, is_warned in (('0.0.0.0', True), ('[::]', True), ('127.0.0.1', False), ('[::1]', False)):
+        place = f'{address}:{free_port()}'
+        with Server(greets) as server, Proxy(server.port, [TABLE, TRACK], '--metrics', place) as proxy:
+            # Who is served comes after all that a start says.
+            with proxy.connect() as client:
+                assert is_greeted(client)
+            proxy.program.terminate()
+            said = proxy.program.communicate(timeout=PATIENCE)[1]
+            assert (f'stickd: warning: Whoever can connect to {place} reads the metrics.' in said) == is_warned, (place, said)
 
 
 def adds_up(shown):
@@ -87,4 +189,5 @@ def counts_add_up():
         assert shown['stickd_connections_accepted_total'] == admitted + rejected, shown
 
 
-TRIALS = [metrics_are_answered, promtool_finds_no_fault, slow_scrapers_hold_up_nobody, counts_add_up]
+TRIALS = [metrics_are_answered, promtool_finds_no_fault, slow_scrapers_hold_up_nobody, head_is_answered_without_a_body,
+          a_request_has_one_deadline, bytes_count_while_they_pass, the_process_is_told, an_open_place_is_warned_of, counts_add_up]

@@ -59,4 +59,18 @@ def a_terminal_is_filled():
                 assert all(len(line) == 12 for line in picture.splitlines()), picture
 
 
-TRIALS = [the_greatest_come_first, as_great_ones_keep_their_order, of_several_tables_one_is_named, a_terminal_is_filled]
+def the_greatest_stay_in_sight():
+    """On a terminal no more entries are shown than it has lines for, as LINES says, or 24: the greatest, their headings, and a line for
+    the cursor."""
+    with running() as proxy:
+        fill(proxy, 40)
+        for lines, shown in ((None, 22), (10, 8), (100, 40)):
+            with OnTerminal('top', '--socket', proxy.path, '--by', 'gpc0', '--rows', '100', lines=lines) as terminal:
+                picture = terminal.pictures(1)[0]
+            keys = [line.split()[0] for line in picture.splitlines()]
+            assert keys == ['key', *[f'10.0.0.{number}' for number in range(40, 40 - shown, -1)]], (lines, picture)
+            assert picture.count('\n') < (lines or 24), 'the last line end would scroll'
+
+
+TRIALS = [the_greatest_come_first, as_great_ones_keep_their_order, of_several_tables_one_is_named, a_terminal_is_filled,
+          the_greatest_stay_in_sight]

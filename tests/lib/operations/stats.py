@@ -29,9 +29,24 @@ def a_line_is_answered_and_closed():
         assert proxy.told('set table www key 10.0.0.1 data.conn_cnt 7;show table www').count('conn_cnt=7') == 1
         assert proxy.told('show errors') == '\n'
         assert proxy.told('').startswith('Unknown command.')
-        with proxy.stats_client() as stream:
-            stream.sendall(b'show table\nshow table\n')
-            assert read_all(stream).decode().count('# table: www') == 1, 'the second line is of no more interest'
+
+
+def lines_that_come_together_are_answered():
+    """All lines that come together are answered, also where they fill a read, and where the last of them comes in two pieces; `quit` ends
+    them, and a line that comes later is of no more interest."""
+    table = b'# table: www, type: ip, size:1024, used:0\n\n'
+    with watched() as proxy:
+        for pieces, count in (([b'show table\nshow table\n'], 2), ([b'show table\nshow ta', b'ble\n'], 2), ([3_000 * b'show table\n'], 3_000),
+                              ([b'show table\nquit\nshow table\n'], 1), ([b'show table;show table\n'], 2)):
+            with proxy.stats_client() as stream:
+                reader = threading.Thread(target=lambda: heard.append(read_all(stream)))
+                heard = []
+                reader.start()
+                for piece in pieces:
+                    stream.sendall(piece)
+                    time.sleep(0.3)
+                reader.join(PATIENCE)
+            assert heard == [count * table], (pieces[0][:40], count, [len(one) for one in heard])
 
 
 def a_prompt_keeps_it_open():
@@ -194,6 +209,7 @@ def exported(proxy):
         exporter.communicate()
 
 
-TRIALS = [a_line_is_answered_and_closed, a_prompt_keeps_it_open, unknown_commands_are_told_what_there_is, info_and_stat_count,
-          clients_beside_each_other_are_answered, answers_come_whole_to_many, socat_asks,
+TRIALS = [a_line_is_answered_and_closed, lines_that_come_together_are_answered, a_prompt_keeps_it_open,
+          unknown_commands_are_told_what_there_is, info_and_stat_count, clients_beside_each_other_are_answered,
+          answers_come_whole_to_many, socat_asks,
           netcat_asks, hatop_shows_the_proxy, the_exporter_of_prometheus_asks]

@@ -1,6 +1,7 @@
 """Trials of what is told in words that others have fixed, each whole: HAProxy's of its stats socket, Prometheus' of the metrics, and
 HTTP's of the answers round them. All of it was typed by hand."""
 import contextlib
+import json
 import os
 import re
 
@@ -41,8 +42,8 @@ TotalBytesOut: 0
 '''
 VARYING_INFO = 'Version|Release_date|Uptime|Uptime_sec|ConnRate|MaxConnRate|SessRate|MaxSessRate'
 
-# What HAProxy answers to `show stat` then: its columns up to those of its modules, without the values that this program doesn't have. The
-# server is named by its address. A star stands for a rate.
+# What HAProxy answers to `show stat` then: its columns up to those of its modules, without the values that this program doesn't have. A
+# star stands for a rate.
 STAT = '''# pxname,svname,qcur,qmax,scur,smax,slim,stot,bin,bout,dreq,dresp,ereq,econ,eresp,wretr,wredis,status,weight,act,bck,\
 chkfail,chkdown,lastchg,downtime,qlimit,pid,iid,sid,throttle,lbtot,tracked,type,rate,rate_lim,rate_max,check_status,check_code,\
 check_duration,hrsp_1xx,hrsp_2xx,hrsp_3xx,hrsp_4xx,hrsp_5xx,hrsp_other,hanafail,req_rate,req_rate_max,req_tot,cli_abrt,srv_abrt,\
@@ -53,7 +54,7 @@ rtime_max,ttime_max,eint,idle_conn_cur,safe_conn_cur,used_conn_cur,need_conn_est
 agg_check_status,-,
 www,FRONTEND,,,0,1,100,1,0,0,0,0,,,,,,OPEN,,,,,,,,,1,2,0,,,,0,*,0,*,,,,,,,,,,,,,,,,,,,,,,,,,,,,,,,,,,,,,,,,tcp,,*,*,2,,1,0,,,,,,,,,,\
 ,,,,,,,,,,,-,
-www,{server},0,0,0,1,,1,0,0,,0,,1,,,,no check,1,1,0,,,,,,1,2,1,,1,,2,*,,*,,,,,,,,,,,,,,,,,,,,,,,,,,,,,,,,,,,,,,{server},,tcp,,,,,,,,,,,,\
+www,one,0,0,0,1,,1,0,0,,0,,1,,,,no check,1,1,0,,,,,,1,2,1,,1,,2,*,,*,,,,,,,,,,,,,,,,,,,,,,,,,,,,,,,,,,,,,,{server},,tcp,,,,,,,,,,,,\
 ,,,,,,,,,,,,,,,,-,
 www,BACKEND,0,0,0,1,,1,0,0,0,0,,1,,,,UP,1,1,0,,,,,,1,2,0,,1,,1,*,,*,,,,,,,,,,,,,,,,,,,,,,,,,,,,,,,,,,,,,,,,tcp,,,,,,,,,,,,,,,,,,,,\
 ,,,,,,,,-,
@@ -127,8 +128,20 @@ stickd_table_entries{table="www"} 2
 stickd_table_references{table="www"} 0
 # TYPE stickd_table_purged_entries_total counter
 stickd_table_purged_entries_total{table="www"} 0
+# TYPE process_cpu_seconds_total counter
+process_cpu_seconds_total *
+# TYPE process_open_fds gauge
+process_open_fds *
+# TYPE process_max_fds gauge
+process_max_fds *
+# TYPE process_virtual_memory_bytes gauge
+process_virtual_memory_bytes *
+# TYPE process_resident_memory_bytes gauge
+process_resident_memory_bytes *
+# TYPE process_start_time_seconds gauge
+process_start_time_seconds *
 '''
-VARYING_METRICS = 'stickd_(?:uptime_seconds|commands_total|rolls_total|expiries_total)'
+VARYING_METRICS = 'stickd_(?:uptime_seconds|commands_total|rolls_total|expiries_total)|process_[a-z_]+'
 
 
 @contextlib.contextmanager
@@ -168,8 +181,8 @@ def metrics_are_those_of_prometheus():
     """Each metric has a line that says what it is, then one of its type, then its samples."""
     with two_came() as (proxy, _):
         text = proxy.fetched(b'GET /metrics HTTP/1.1\r\nHost: here\r\n\r\n')[2]
-        assert len(re.findall(r'^# HELP (\w+) [A-Z].+\.\n# TYPE \1 ', text, re.M)) == text.count('# HELP ') == 27, text
-        shown = re.sub(f'^({VARYING_METRICS}) [0-9]+$', r'\1 *', re.sub(r'^# HELP .*\n', '', text, flags=re.M), flags=re.M)
+        assert len(re.findall(r'^# HELP (\w+) [A-Z].+\.\n# TYPE \1 ', text, re.M)) == text.count('# HELP ') == 33, text
+        shown = re.sub(f'^({VARYING_METRICS}) [0-9.]+$', r'\1 *', re.sub(r'^# HELP .*\n', '', text, flags=re.M), flags=re.M)
         assert shown == METRICS, shown
 
 
@@ -179,7 +192,7 @@ REQUESTS = [
     ('GET /metrics?name=a HTTP/1.1\r\n\r\n', 200), ('\r\nGET /metrics HTTP/1.1\r\n\r\nbody', 200),
     (f'GET /metrics HTTP/1.1\r\nA: {"a" * 8_162}\r\n\r\n', 200), (f'GET /metrics HTTP/1.1\r\nA: {"a" * 8_163}\r\n\r\n', 400),
     ('GET / HTTP/1.1\r\n\r\n', 404), ('GET /metrics/ HTTP/1.1\r\n\r\n', 404), ('POST /other HTTP/1.1\r\n\r\n', 404),
-    ('POST /metrics HTTP/1.1\r\n\r\n', 405), ('HEAD /metrics HTTP/1.1\r\n\r\n', 405), ('get /metrics HTTP/1.1\r\n\r\n', 405),
+    ('POST /metrics HTTP/1.1\r\n\r\n', 405), ('PUT /metrics HTTP/1.1\r\n\r\n', 405), ('get /metrics HTTP/1.1\r\n\r\n', 405),
     ('GET /metrics HTTP/2.0\r\n\r\n', 400), ('\1\2\r\n\r\n', 400),
 ]
 # The heads and the bodies of the answers, by their status; the metrics stand elsewhere.
@@ -188,7 +201,7 @@ ANSWERS = {
     200: 'HTTP/1.1 200 OK\r\nContent-Type: text/plain; version=0.0.4; charset=utf-8\r\nContent-Length: {}\r\nConnection: close',
     400: f'HTTP/1.1 400 Bad Request\r\n{PLAIN}\r\nContent-Length: 37\r\nConnection: close',
     404: f'HTTP/1.1 404 Not Found\r\n{PLAIN}\r\nContent-Length: 29\r\nConnection: close',
-    405: f'HTTP/1.1 405 Method Not Allowed\r\n{PLAIN}\r\nContent-Length: 29\r\nAllow: GET\r\nConnection: close',
+    405: f'HTTP/1.1 405 Method Not Allowed\r\n{PLAIN}\r\nContent-Length: 29\r\nAllow: GET, HEAD\r\nConnection: close',
 }
 BODIES = {400: 'This is no request that can be read.\n', 404: 'The metrics are at /metrics.\n', 405: 'The metrics are read by GET.\n'}
 
@@ -206,27 +219,35 @@ def requests_are_answered_in_http():
 LIST = '''  clear table <table> [<filter>]*         : remove an entry from a table (filter: data/key)
   set table <table> key <k> [data.* <v>]* : update or create a table entry's data
   show errors                             : report last request and/or response errors for each proxy
-  show info                               : report information about the running process
-  show stat                               : report counters for each proxy and server
+  show info [json|typed]*                 : report information about the running process
+  show stat [json|no-maint|typed|up]*     : report counters for each proxy and server
+  show stat <iid> <type> <sid> [json|..]* : report counters of a proxy (-1: any), of types (1, 2, 4; -1: any), of a server (-1: any)
   show table <table> [<filter>]*          : report table usage stats or dump this table's contents (filter: data/key)
   show table <table> oldest-first         : dump this table's contents in the order in which entries go
   shutdown frontend <frontend>            : stop a specific frontend
-  stop <ms>                               : end the program; open connections may go on for so long
+  stop [<ms>]                             : end the program; open connections may go on for so long
   help [<command>]                        : list matching or all commands
   prompt                                  : toggle interactive mode with prompt
   quit                                    : disconnect
 
 '''
 HELP = 'The following commands are valid at this level:\n' + LIST
+# The last three commands follow each list.
+COMMON = ''.join(LIST.splitlines(keepends=True)[-4:])
+HELP_SHOW = HELP.splitlines(keepends=True)[0] + ''.join(line for line in LIST.splitlines(keepends=True) if line.startswith('  show ')) + COMMON
+HELP_INFO = HELP.splitlines(keepends=True)[0] + ''.join(line for line in LIST.splitlines(keepends=True) if 'show info' in line) + COMMON
 UNKNOWN = 'Unknown command. Please enter one of the following commands only:\n' + LIST
 EMPTY_TABLE = '# table: www, type: ip, size:1024, used:0\n\n'
 # Lines, and their whole answers.
 LINES = [
-    ('show info json', UNKNOWN), ('show stat -1 4 -1', UNKNOWN), ('show errors', '\n'), ('SHOW INFO', UNKNOWN), ('show', UNKNOWN),
-    ('show sess', UNKNOWN), ('help', HELP), ('help show info', HELP), ('prompt now', UNKNOWN), ('quit', ''),
+    ('show info brief', UNKNOWN), ('show stat -1 4', UNKNOWN), ('show stat x y z', UNKNOWN), ('show errors', '\n'), ('SHOW INFO', UNKNOWN),
+    ('show', UNKNOWN), ('show stat none -1 -1', 'No such proxy.\n\n'), ('show stat 0 -1 -1', 'No such proxy.\n\n'),
+    ('show stat 99 -1 -1 typed', '\n'), ('show stat 99 -1 -1 json', '[]\n\n'), ('show stat -1 1 -1 json brief', UNKNOWN),
+    ('show sess', UNKNOWN), ('help', HELP), ('help show', HELP_SHOW), ('help sho', HELP_SHOW), ('help show info', HELP_INFO),
+    ('help none', HELP), ('prompt now', UNKNOWN), ('quit', ''),
     ('shutdown frontend', 'A frontend name is expected.\n\n'), ('shutdown frontend none', 'No such frontend.\n\n'),
     ('shutdown frontend www now', UNKNOWN), ('shutdown sessions server www/s1', UNKNOWN), ('shutdown table www', UNKNOWN),
-    ('stop', UNKNOWN), ('stop 30s', UNKNOWN), ('stop 1 2', UNKNOWN), (' show \t table \r', EMPTY_TABLE),
+    ('stop 30s', UNKNOWN), ('stop 1 2', UNKNOWN), (' show \t table \r', EMPTY_TABLE),
     ('show table www oldest-first', EMPTY_TABLE), ('show table none', 'No such table.\n\n'), ('show tables', UNKNOWN),
     ('set timeout cli 1d', UNKNOWN), ('', UNKNOWN), (' \t\r', UNKNOWN), ('blah', UNKNOWN),
 ]
@@ -238,6 +259,71 @@ def lines_are_answered_in_words_of_haproxy():
         for line, wanted in LINES:
             said = proxy.told(line)
             assert said == wanted, (line, said)
+
+
+# What HAProxy answers to `show info typed` then, without the lines that this program has no value for. The bytes out are a counter here.
+TYPED_INFO = '''0.Name.1:POS:str:stickd
+1.Version.1:POS:str:*
+2.Release_date.1:POS:str:*
+3.Nbthread.1:CGS:u32:4
+4.Nbproc.1:CGS:u32:1
+5.Process_num.1:KGP:u32:1
+6.Pid.1:SGP:u32:*
+7.Uptime.1:MDP:str:*
+8.Uptime_sec.1:MDP:u32:*
+15.Maxconn.1:CLP:u32:100
+16.Hard_maxconn.1:CLP:u32:100
+17.CurrConns.1:MGP:u32:0
+18.CumConns.1:MCP:u64:2
+19.CumReq.1:MCP:u64:1
+23.Maxpipes.1:CLP:u32:0
+24.PipesUsed.1:MGP:u32:0
+25.PipesFree.1:MGP:u32:0
+26.ConnRate.1:MRP:u32:*
+27.ConnRateLimit.1:CLP:u32:0
+28.MaxConnRate.1:MMP:u32:*
+29.SessRate.1:MRP:u32:*
+30.SessRateLimit.1:CLP:u32:0
+31.MaxSessRate.1:MRP:u32:*
+47.Tasks.1:MGP:u32:0
+48.Run_queue.1:MGP:u32:0
+50.node.1:COS:str:*
+52.Stopping.1:MGP:u32:0
+61.TotalBytesOut.1:MCP:u64:0
+
+'''
+# Where values differ from run to run in the typed output.
+VARYING_TYPED = re.compile(r'^([0-9]+\.(?:Version|Release_date|Pid|Uptime|Uptime_sec|node|ConnRate|MaxConnRate|SessRate|MaxSessRate)\.1:\w+:\w+):.+$', re.M)
+
+
+def typed_answers_are_those_of_haproxy():
+    """The typed outputs have HAProxy's places, tags and types, and the JSON ones say the same."""
+    with two_came() as (proxy, server):
+        info = VARYING_TYPED.sub(r'\1:*', proxy.told('show info typed'))
+        assert info == TYPED_INFO, info
+        lines = proxy.told('show stat -1 5 -1 typed').splitlines()
+        for wanted in ('S.2.1.1.svname.1:KNS:str:one', f'S.2.1.73.addr.1:CGS:str:{server}', 'S.2.1.7.stot.1:MCP:u64:1',
+                       'F.2.0.1.svname.1:KNS:str:FRONTEND', 'F.2.0.79.conn_tot.1:MCP:u64:2', 'S.2.1.19.act.1:SGP:u32:1'):
+            assert wanted in lines, (wanted, lines)
+        assert not [line for line in lines if line.startswith('B.')], lines
+        for command in ('show info', 'show stat', 'show stat www 4 1', 'show stat 2 3 9'):
+            typed = [line for line in proxy.told(f'{command} typed').splitlines() if line]
+            said = json.loads(proxy.told(f'{command} json'))
+            rows = [said] if command == 'show info' else said
+            assert [typed_of(field) for row in rows for field in row] == [stable(line) for line in typed], (command, said)
+
+
+def typed_of(field):
+    """The typed line of a field of the JSON output."""
+    head = f'{field["objType"][0]}.{field["proxyId"]}.{field["id"]}.' if 'objType' in field else ''
+    tags = ''.join('a' if word == 'Avg' else word[0] for word in (field['tags'][name] for name in ('origin', 'nature', 'scope')))
+    value = field['value']
+    return stable(f'{head}{field["field"]["pos"]}.{field["field"]["name"]}.{field["processNum"]}:{tags}:{value["type"]}:{value["value"]}')
+
+
+def stable(line):
+    """A typed line, but for a value that differs from answer to answer."""
+    return re.sub(r'(\.(?:Uptime|Uptime_sec|\w*[Rr]ate\w*)\.1:\w+:\w+):.*', r'\1:*', line)
 
 
 def a_program_that_drains_is_stopping():
@@ -254,4 +340,4 @@ def a_program_that_drains_is_stopping():
 
 
 TRIALS = [answers_are_those_of_haproxy, metrics_are_those_of_prometheus, requests_are_answered_in_http,
-          lines_are_answered_in_words_of_haproxy, a_program_that_drains_is_stopping]
+          lines_are_answered_in_words_of_haproxy, typed_answers_are_those_of_haproxy, a_program_that_drains_is_stopping]

@@ -13,6 +13,7 @@ EXAMPLES = [name for name in sorted(os.listdir(os.path.join(TOP, 'examples'))) i
 # What is installed, by hand: each file below the prefix and its mode; and where zsh looks, by who installs.
 BELOW_PREFIX = {
     'bin/stickd': 0o755,
+    'lib/stickd/stickd': 0o755,
     'lib/systemd/system/stickd.service': 0o644,
     'lib/systemd/system/stickd.socket': 0o644,
     'share/man/man1/stickd.1.gz': 0o644,
@@ -194,7 +195,8 @@ def it_is_installed_without_dpkg_and_goes():
     root = folder()
     install(root, '--program', Made.program, umask=0o077)
     looks_right(root, 'usr/local', ZSH_OF_OTHERS)
-    same('the program', content(root, 'usr/local/bin/stickd'), content(Made.program))
+    same('the launcher', content(root, 'usr/local/bin/stickd'), content(TOP, 'packaging', 'launcher'))
+    same('the program', content(root, 'usr/local/lib/stickd/stickd'), content(Made.program))
     answers(root, 'usr/local')
     serves_one(root, 'usr/local')
     mine = content(root, CONFIGURATION)
@@ -207,6 +209,7 @@ def it_is_installed_without_dpkg_and_goes():
     same('left', set(files_below(root)), {CONFIGURATION, 'usr/local/bin/other'})
     same('the operator\'s configuration', content(root, CONFIGURATION), mine)
     same('folder of documents', os.path.exists(os.path.join(root, 'usr/local/share/doc/stickd')), False)
+    same('folder of the program', os.path.exists(os.path.join(root, 'usr/local/lib/stickd')), False)
 
 
 def it_is_installed_below_any_prefix():

@@ -3,6 +3,7 @@ import contextlib
 import os
 import random
 import re
+import signal
 import socket
 import stat
 import subprocess
@@ -12,6 +13,8 @@ import time
 from lib.package.base import PATIENCE, Made, content, folder, put, run, same
 
 CONFIGURATION = 'etc/stickd/stickd.cfg'
+# SIGINT and SIGTERM, which the launcher blocks.
+STOPS = sum(1 << number - 1 for number in (signal.SIGINT, signal.SIGTERM))
 # A user without rights, who starts what root has installed.
 NOBODY = 65534
 
@@ -21,10 +24,13 @@ def unit_of(root, prefix):
     unit = content(root, prefix, 'lib/systemd/system/stickd.service').decode().replace('\\\n', ' ')
     program = os.path.join('/', prefix, 'bin/stickd')
     started = re.findall(r'^(?:ExecStart|ExecStartPre|ExecStop)=(\S+)', unit, re.MULTILINE)
-    same('programs of the unit', started, [program, '/usr/bin/touch', program, program])
+    same('programs of the unit', started, [program, '/usr/bin/touch', program, program, program])
     same('paths of the unit', set(re.findall(r'/\S*bin/stickd\b', unit)), {program})
     assert re.search(r'^DynamicUser=yes$', unit, re.MULTILINE), 'the unit has no user of its own'
-    return [re.search(rf'^{name}=(.*)', unit, re.MULTILINE)[1].split() for name in ('ExecStart', 'ExecStop')]
+    checked = re.search(r'^ExecStartPre=(\S+ run .*)', unit, re.MULTILINE)[1].split()
+    words, stop = (re.search(rf'^{name}=(.*)', unit, re.MULTILINE)[1].split() for name in ('ExecStart', 'ExecStop'))
+    same('what is checked before a start', [word for word in checked if word != '--check'], words)
+    return words, stop
 
 
 class Echo:
@@ -58,7 +64,7 @@ def edited(root, front, back):
     """The operator's own configuration: the example, with other endpoints."""
     path = os.path.join(root, CONFIGURATION)
     text = content(path).decode()
-    for old, new in [('bind :8080\n', f'bind 127.0.0.1:{front}\n'), ('127.0.0.1:9000\n', f'127.0.0.1:{back}\n')]:
+    for old, new in [('bind [::]:8080\n', f'bind 127.0.0.1:{front}\n'), ('127.0.0.1:9000\n', f'127.0.0.1:{back}\n')]:
         same(f'{old!r} in the example', text.count(old), 1)
         text = text.replace(old, new)
     put(path, text)
@@ -84,6 +90,11 @@ def to_unix(path):
     return stream
 
 
+def signals_blocked(process):
+    """The signals that a process blocks, of which signal n is bit n - 1."""
+    return int(re.search(r'^SigBlk:\t(\w+)$', content('/proc', str(process), 'status').decode(), re.MULTILINE)[1], 16)
+
+
 def serves_one(root, prefix):
     """Starts what was installed, by the unit's own words and as a user without rights, and makes a connection."""
     echo, front, room = Echo(), free_port(), folder()
@@ -104,13 +115,14 @@ def serves_one(root, prefix):
                              umask=0o077, **other)
     try:
         with connected(lambda to: socket.create_connection(to, PATIENCE), ('127.0.0.1', front), proxy) as client:
+            same('signals that are blocked', signals_blocked(proxy.pid) & STOPS, STOPS)
             client.sendall(b'hello')
             same('echo', client.recv(100), b'hello')
             with connected(to_unix, address, proxy) as operator:
-                operator.sendall(b'show table www key 127.0.0.1\n')
+                operator.sendall(b'show table www key ::ffff:127.0.0.1\n')
                 operator.shutdown(socket.SHUT_WR)
                 answer = operator.makefile().read()
-            assert re.search(r'^0x0: key=127\.0\.0\.1 use=1 exp=\d+ conn_cur=1$', answer, re.MULTILINE), answer
+            assert re.search(r'^0x0: key=::ffff:127\.0\.0\.1 use=1 exp=\d+ conn_cur=1$', answer, re.MULTILINE), answer
         same('mode of the socket', stat.S_IMODE(os.stat(address).st_mode), 0o600)
         run(os.path.join(root, stop[0][1:]), *stop[1:])
         written, said = proxy.communicate(timeout=PATIENCE)
@@ -118,7 +130,7 @@ def serves_one(root, prefix):
         proxy.kill()
         proxy.communicate(timeout=PATIENCE)
     same('status', proxy.returncode, 0)
-    assert re.search(r'^\d+ cmd set table www key 127\.0\.0\.1$', content(saved).decode(), re.MULTILINE), content(saved)
+    assert re.search(r'^\d+ cmd set table www key ::ffff:127\.0\.0\.1$', content(saved).decode(), re.MULTILINE), content(saved)
     assert re.fullmatch(r'settled www: \d+ calls, 0 references\n', written), (written, said)
 
 
@@ -126,4 +138,4 @@ def answers(root, prefix):
     """Sees that the installed program runs, and that it takes the installed configuration."""
     program = os.path.join(root, prefix, 'bin', 'stickd')
     same('--version', run(program, '--version')[0], f'stickd {Made.version}\n')
-    same('check', run(program, 'check', os.path.join(root, CONFIGURATION))[0], 'valid: 1 tables, 2 rules\n')
+    same('check', run(program, 'check', os.path.join(root, CONFIGURATION))[0], 'valid: 1 tables, 3 rules\n')

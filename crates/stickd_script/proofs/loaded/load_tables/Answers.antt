@@ -1,7 +1,7 @@
-use Rattle.std.proofs.Common.{◌≡◌, ◌++◌, length, take, drop, ap, arith}
+use Rattle.std.proofs.Common.{◌≡◌, ◌++◌, length, take, drop, map, ap, arith}
 use Rattle.std.proofs.lemmas.Grind.{common_steps}
 use Rattle.admit_drive.specs.Tables.{table_states}
-use Rattle.table_cli.specs.SeenLines.{seen_fault}
+use Rattle.table_cli.specs.SeenLines.{seen_load}
 use Rattle.stickd_script.proofs.LoadedLemmas.{loaded_so, unloaded_so}
 use Rattle.stickd_script.proofs.loaded.load_tables.Goals as goal
 
@@ -10,13 +10,13 @@ returns-in-Ok-clause-all g c =
     let tables = c.load.new.tables in
     let old = c.args.tables.now in
     let refilled : take old.len (tables ++ drop (length tables) old.items) ≡ tables = grind (arith, common_steps) in
-    loaded_so (table_states old.items) (table_states c.as_mut_slice.result.now) (table_states tables) (table_states (take old.len (tables ++ drop (length tables) old.items))) c.args.saved.now (ap table_states c.as_mut_slice.ensures.value)
-    (ap table_states refilled) c.in-Ok.ensures.all
+    loaded_so c.args.misfits (table_states old.items) (table_states c.as_mut_slice.result.now) (table_states tables) (table_states (take old.len (tables ++ drop (length tables) old.items))) c.args.saved.now (ap table_states c.as_mut_slice.ensures.value)
+    (ap table_states refilled) (map seen_load c.in-Ok.skipped.items) c.in-Ok.ensures.all
 
 pub returns-in-Err-clause-fault : goal.returns-in-Err-clause-fault
 returns-in-Err-clause-fault g c =
     let tables = c.load.new.tables in
     let old = c.args.tables.now in
     let refilled : take old.len (tables ++ drop (length tables) old.items) ≡ tables = grind (arith, common_steps) in
-    unloaded_so (table_states old.items) (table_states c.as_mut_slice.result.now) (table_states tables) (table_states (take old.len (tables ++ drop (length tables) old.items))) c.args.saved.now (ap table_states c.as_mut_slice.ensures.value)
-    (ap table_states refilled) c.in-Err.fault.line (seen_fault c.in-Err.fault.fault) c.in-Err.ensures.fault
+    unloaded_so c.args.misfits (table_states old.items) (table_states c.as_mut_slice.result.now) (table_states tables) (table_states (take old.len (tables ++ drop (length tables) old.items))) c.args.saved.now (ap table_states c.as_mut_slice.ensures.value)
+    (ap table_states refilled) (seen_load c.in-Err.fault) c.in-Err.ensures.fault

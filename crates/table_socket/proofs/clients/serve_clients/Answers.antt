@@ -3,8 +3,8 @@ use Rattle.table_socket.specs.declared.served.Served.{Served}
 use Rattle.table_socket.proofs.ClientsLemmas.{visits_more}
 use Rattle.table_socket.proofs.clients.serve_clients.Goals as goal
 
-pub loop-preserved-else-load-2 : goal.loop-preserved-else-load-2
-loop-preserved-else-load-2 g c =
+pub loop-preserved-in-Ok : goal.loop-preserved-in-Ok
+loop-preserved-in-Ok g c =
     let S = g.S.ClientServer in
     let was = c.loop.invariant in
     visits_more S.visits _ _ _ was.0 _ _ _ _ _ was.2 was.3 (ap (λ (s : Served). s.clients) c.note_client.ensures) (ap (λ (s : Served). s.commands) c.note_client.ensures) was.1 c.serve_stream.ensures
@@ -14,10 +14,3 @@ loop-preserved g c =
     let S = g.S.ClientServer in
     let was = c.loop.invariant in
     visits_more S.visits _ _ _ was.0 _ _ _ _ _ was.2 was.3 (ap (λ (s : Served). s.clients) c.note_client.ensures) (ap (λ (s : Served). s.commands) c.note_client.ensures) was.1 c.serve_stream.ensures
-
-pub returns-then-load-2 : goal.returns-then-load-2
-returns-then-load-2 g c =
-    let S = g.S.ClientServer in
-    let was = c.loop.invariant in
-    let all = visits_more S.visits _ _ _ was.0 _ _ _ _ _ was.2 was.3 (ap (λ (s : Served). s.clients) c.note_client.ensures) (ap (λ (s : Served). s.commands) c.note_client.ensures) was.1 c.serve_stream.ensures in
-    record { counts = all.0; in_turn = all.1; clients = all.2; commands = all.3 }

@@ -1,7 +1,12 @@
-use Rattle.tcp_relay.proofs.ConnectionLemmas.{each_still, lent_store, passed_still, ports_of, ready, still_passed, stored_still, visitor_still}
+use Rattle.std.proofs.Common.{◌∙◌, ◌++◌, drop, length, subst, sym, take}
+use Rattle.std.specs.Vec.{vec_len}
+use Rattle.tcp_relay.specs.Moments.{HaveCalledAt}
+use Rattle.tcp_relay.proofs.ConnectionLemmas.{called_still, each_still, lent_store, passed_still, ports_of, ready, still_passed, stored_still, untracked_still, visitor_still}
+use Rattle.tcp_relay.proofs.MomentGoes.{judged_called}
 use Rattle.tcp_relay.proofs.PassedGoes.{judged_passed}
 use Rattle.tcp_relay.proofs.PassedOf.{judged_of}
 use Rattle.tcp_relay.proofs.PassedStays.{judged_keep, judged_stores}
+use Rattle.tcp_relay.proofs.UntrackedGoes.{judged_untracked}
 use Rattle.tcp_relay.proofs.visiting.judge_one.Goals as goal
 
 pub judge-is_admitted-requires-clause-ready : goal.judge-is_admitted-requires-clause-ready
@@ -42,6 +47,21 @@ returns-clause-passed g c samples stands admitted =
     passed_still g.W.Width.tables g.W.Width.shards c.args.seated.now lent.result.now lent.ensures.value lent.ensures.len c.requires.count c.requires.shards judged.new.ports judged.ensures.parts c.args.shared.now.setup.now samples judged.new.conn
     (judged_passed _ c.args.shared.now.setup.now samples (ports_of lent.result.now) (ports_of judged.new.ports) c.args.conn.now judged.new.conn _ _ g.W.Width.current c.args.shared.now.current
     (lent_store g.W.Width.tables g.W.Width.shards c.args.seated.now lent.result.now lent.ensures.value lent.ensures.len c.requires.count c.requires.shards g.W.Width.current c.requires.current) stands judged.ensures.gone judged.ensures.judged (judged.ensures.rests admitted))
+
+pub returns-clause-untracked : goal.returns-clause-untracked
+returns-clause-untracked g c samples stands admitted =
+    let lent = c.as_mut_slice-ports in
+    let judged = c.judge-is_admitted in
+    untracked_still g.W.Width.tables g.W.Width.shards c.args.seated.now lent.result.now lent.ensures.value lent.ensures.len c.requires.count c.requires.shards judged.new.ports judged.ensures.parts c.args.shared.now.setup.now samples judged.new.conn
+    (judged_untracked _ c.args.shared.now.setup.now samples (ports_of lent.result.now) (ports_of judged.new.ports) c.args.conn.now judged.new.conn _ _ stands judged.ensures.gone judged.ensures.judged (judged.ensures.rests admitted))
+
+pub returns-clause-moment : goal.returns-clause-moment
+returns-clause-moment g c connection stands =
+    let lent = c.as_mut_slice-ports in
+    let judged = c.judge-is_admitted in
+    subst (λ now. HaveCalledAt now c.args.seated.now.items (take (vec_len c.args.seated.now) (judged.new.ports ++ drop (length judged.new.ports) c.args.seated.now.items))) (c.at-stopped.ensures ∙ sym c.now.ensures.shows.1)
+    (called_still g.W.Width.tables g.W.Width.shards c.args.seated.now lent.result.now lent.ensures.value lent.ensures.len c.requires.count c.requires.shards judged.new.ports judged.ensures.parts _
+    (judged_called (ports_of lent.result.now) (ports_of judged.new.ports) c.args.conn.now judged.new.conn _ _ connection stands judged.ensures.gone))
 
 pub returns-clause-still : goal.returns-clause-still
 returns-clause-still g c =

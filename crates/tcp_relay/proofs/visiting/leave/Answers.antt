@@ -1,4 +1,8 @@
-use Rattle.tcp_relay.proofs.ConnectionLemmas.{each_still, lent_store, ports_of, ready, still_passed, stored_still, visitor_still}
+use Rattle.std.proofs.Common.{◌∙◌, ◌++◌, drop, length, subst, sym, take}
+use Rattle.std.specs.Vec.{vec_len}
+use Rattle.tcp_relay.specs.Moments.{HaveCalledAt}
+use Rattle.tcp_relay.proofs.ConnectionLemmas.{called_still, each_still, lent_store, ports_of, ready, still_passed, stored_still, visitor_still}
+use Rattle.tcp_relay.proofs.MomentGoes.{rested_called}
 use Rattle.tcp_relay.proofs.PassedStays.{rests_keep, rests_store}
 use Rattle.tcp_relay.proofs.visiting.leave.Goals as goal
 
@@ -26,6 +30,14 @@ returns-clause-connection g c =
     let lent = c.as_mut_slice-ports in
     let rested = c.finish-rested in
     visitor_still g.W.Width.tables g.W.Width.shards c.args.seated.now lent.result.now lent.ensures.value lent.ensures.len c.requires.count c.requires.shards rested.new.ports rested.ensures.parts rested.new.conn rested.ensures.living rested.ensures.ready
+
+pub returns-clause-moment : goal.returns-clause-moment
+returns-clause-moment g c connection stands =
+    let lent = c.as_mut_slice-ports in
+    let rested = c.finish-rested in
+    subst (λ now. HaveCalledAt now c.args.seated.now.items (take (vec_len c.args.seated.now) (rested.new.ports ++ drop (length rested.new.ports) c.args.seated.now.items))) (c.at-stopped.ensures ∙ sym c.now.ensures.shows.1)
+    (called_still g.W.Width.tables g.W.Width.shards c.args.seated.now lent.result.now lent.ensures.value lent.ensures.len c.requires.count c.requires.shards rested.new.ports rested.ensures.parts _
+    (rested_called (ports_of lent.result.now) (ports_of rested.new.ports) c.args.conn.now rested.new.conn _ _ rested.result connection stands rested.ensures.rested))
 
 pub returns-clause-still : goal.returns-clause-still
 returns-clause-still g c =

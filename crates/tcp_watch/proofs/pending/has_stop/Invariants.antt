@@ -5,7 +5,7 @@ use Rattle.tcp_watch.proofs.pending.has_stop.Given as goal
 
 -- the lines that are left tell what the whole status tells
 abbrev pub invariant-loop-line : goal.invariant-loop-line
-invariant-loop-line l = has_stop l.signals l.lines ≡ has_stop l.signals (parts is_line_end l.status)
+invariant-loop-line l = has_stop l.signals l.stop l.lines ≡ has_stop l.signals l.stop (parts is_line_end l.status)
 
 abbrev pub decreases-loop-line : goal.decreases-loop-line
 decreases-loop-line l = length l.lines

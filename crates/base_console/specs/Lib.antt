@@ -1,0 +1,4 @@
+pub mod Attempts
+pub mod Marks
+pub mod Patience
+pub mod Ways

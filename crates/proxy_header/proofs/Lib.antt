@@ -1,0 +1,11 @@
+mod BinaryLemmas
+mod GroupLemmas
+mod HeardLemmas
+mod LineLaws
+mod LineLemmas
+mod RunLemmas
+mod TextLemmas
+mod VisibleLemmas
+mod WrittenBinary
+mod WrittenLine
+mod WrittenLemmas
