@@ -54,7 +54,7 @@ _stickd() {
             choices=(-f)
             ;;
         "run -")
-            choices=(-W "--socket --threads --check --haproxy --anyway --first-server --frontend --bind --shards --purge --ipv4-prefix --ipv6-prefix --load --load-lenient --save --save-every --connections --backlog --timeout-connect --retries --timeout-client --timeout-server --timeout-fin --keepalive --tcp-user-timeout --socket-mode --socket-group --socket-level --socket-clients --timeout-socket --stats-socket --stats-clients --metrics --report --log-rejected --drain --stop-after --roll-at -h --help")
+            choices=(-W "--socket --threads --check --haproxy --anyway --first-server --frontend --bind --shards --purge --ipv4-prefix --ipv6-prefix --load --load-lenient --save --save-every --connections --backlog --timeout-connect --retries --timeout-client --timeout-server --timeout-fin --keepalive --tcp-user-timeout --send-proxy --send-proxy-v2 --socket-mode --socket-group --socket-level --socket-clients --timeout-socket --stats-socket --stats-clients --metrics --report --log-rejected --drain --stop-after --roll-at -h --help")
             ;;
         "run "*)
             compopt -o filenames 2>/dev/null

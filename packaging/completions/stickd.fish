@@ -75,6 +75,8 @@ complete -c stickd -n '__stickd_at run' -l timeout-server -x -d 'How long a serv
 complete -c stickd -n '__stickd_at run' -l timeout-fin -x -d 'How long a connection may be silent once one side has ended [default: as the other timeouts]'
 complete -c stickd -n '__stickd_at run' -l keepalive -x -d 'Ask silent peers whether they are still there after TIME (TCP keepalive) [default: never]'
 complete -c stickd -n '__stickd_at run' -l tcp-user-timeout -x -d 'Give a peer up that acknowledges nothing for TIME (TCP_USER_TIMEOUT) [default: as the system does]'
+complete -c stickd -n '__stickd_at run' -l send-proxy -d 'Tell the server first who the client is, by version 1 of the PROXY protocol'
+complete -c stickd -n '__stickd_at run' -l send-proxy-v2 -d 'The same by version 2, which is binary'
 complete -c stickd -n '__stickd_at run' -l socket-mode -x -d 'The permissions of the socket\'s file, in octal, up to 0777 [default: 600]'
 complete -c stickd -n '__stickd_at run' -l socket-group -x -a '(__fish_complete_groups)' -d 'The group of the socket\'s file, a name or a number [default: the program\'s]'
 complete -c stickd -n '__stickd_at run' -l socket-level -x -d 'What the socket\'s clients may do: user (see no keys), operator (see all) or admin (do all) [default: admin]'

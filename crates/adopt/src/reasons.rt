@@ -125,7 +125,8 @@ impl Why {
             Why::Conditional => "a block under a condition can't be decided here",
             Why::Peers => "tables aren't shared with peers",
             Why::ServerWords => "an option of the server is lost",
-            Why::ProxyProtocol => "the PROXY protocol isn't spoken",
+            Why::ProxyProtocol =>
+                "headers of the PROXY protocol aren't read, and only --send-proxy or --send-proxy-v2 has them written",
             Why::Tls => "TLS isn't spoken",
             Why::BindWords => "an option of the listener is lost",
             Why::HostName => "its name isn't resolved: write its address",

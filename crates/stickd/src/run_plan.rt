@@ -4,13 +4,15 @@ ghost use Rattle.std.specs.Prelude.{◌≡◌, ◌≤◌, Some, IfOk, IfSome, le
 ghost use Rattle.rule_addresses.specs.Addresses.{bind_of};
 
 use clap::ArgMatches;
+use proxy_header::Version;
 use rule_addresses::{Endpoint, read_bind};
 use rule_words::read_time;
 use std::alloc::Global;
 use stickd_ctl::PATIENCE;
 use stickd_input::{
     BIND, CHECK, CLIENT, CONNECT, DRAIN, FIN, KEEPALIVE, LEVEL, LOAD, LOAD_LENIENT, LOG_REJECTED,
-    METRICS, REPORT, SAVE, SAVE_EVERY, SERVER, SOCKET, STATS, TIMEOUT, USER_TIMEOUT, VERSION,
+    METRICS, REPORT, SAVE, SAVE_EVERY, SEND_PROXY, SEND_PROXY_V2, SERVER, SOCKET, STATS, TIMEOUT,
+    USER_TIMEOUT, VERSION,
 };
 use table_cli::Misfits;
 use table_socket::read_mode;
@@ -34,7 +36,7 @@ const SOCKET_MODE: u32 = 0o600;
 const MOST_BACKLOG: u32 = 0x7fff_ffff;
 
 /// The day of the program's release, as HAProxy's tools are told it.
-const RELEASE_DATE: &str = "2026/11/27";
+const RELEASE_DATE: &str = "2026/11/30";
 
 /// How long open connections may go on once the program is to stop, where that isn't said, in ms.
 const DRAIN_TIME: u64 = 30_000;
@@ -98,6 +100,14 @@ fn read_liveness<'a>(arguments: &ArgMatches<'a>) -> Result<Liveness, BadWord<'a>
         keepalive: read_timeout(arguments, KEEPALIVE)?.map(Keepalive::of),
         user_timeout: read_timeout(arguments, USER_TIMEOUT)?.map(UserTimeout::of),
     })
+}
+
+/// By which version of the PROXY protocol the server is told of a client, if it is.
+fn read_told_by(arguments: &ArgMatches<'_>) -> Option<Version> {
+    if arguments.get_flag(SEND_PROXY_V2) {
+        return Some(Version::Two);
+    }
+    arguments.get_flag(SEND_PROXY).then_some(Version::One)
 }
 
 /// The permissions of the command socket's file.
@@ -360,6 +370,7 @@ pub fn read_plan<'a>(
             timeouts: read_timeouts(arguments)?,
             retries: arguments.get_one::<u32>("retries").unwrap_or(0),
             liveness: read_liveness(arguments)?,
+            told_by: read_told_by(arguments),
         },
         stop_after: arguments.get_one::<u64>("stop-after"),
         keep: read_keep(arguments)?,

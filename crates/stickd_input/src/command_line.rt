@@ -6,6 +6,7 @@ use crate::arguments::{
 use crate::haproxy_options::{
     anyway_option, first_server_option, frontend_option, haproxy_option, names_haproxy, of_haproxy,
 };
+use crate::header_options::{send_proxy_option, send_proxy_v2_option};
 use crate::help::{ADOPT_HELP, CHECK_HELP, CTL_HELP, REPLAY_HELP, RUN_HELP, STOP_HELP, TOP_HELP};
 use crate::options::{
     backlog_option, bind_option, check_option, client_option, clients_option, connect_option,
@@ -23,7 +24,7 @@ use clap::{Arg, ArgMatches, Command, Error};
 use std::alloc::{AllocError, Global};
 
 /// The program's version.
-pub const VERSION: &str = "0.1.0";
+pub const VERSION: &str = "0.2.0";
 
 /// The option that asks for an explanation of each fault.
 fn explain_option<'a>(alloc: Global) -> Arg<'a> {
@@ -237,6 +238,8 @@ fn run_command<'a>(alloc: Global, has_haproxy: bool) -> Result<Command<'a>, Allo
     let command = add_argument(command, fin_option(alloc));
     let command = add_argument(command, keepalive_option(alloc));
     let command = add_argument(command, user_timeout_option(alloc));
+    let command = add_argument(command, send_proxy_option(alloc));
+    let command = add_made(command, send_proxy_v2_option(alloc));
     let command = add_argument(command, mode_option(alloc));
     let command = add_argument(command, group_option(alloc));
     let command = add_argument(command, level_option(alloc));

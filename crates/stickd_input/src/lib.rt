@@ -17,6 +17,7 @@ mod explanation;
 mod guesses;
 mod habits;
 mod haproxy_options;
+mod header_options;
 mod help;
 mod hints;
 mod keeping;
@@ -33,6 +34,7 @@ pub use command_line::{VERSION, read_command_line};
 use explanation::{explain_fault, explain_warnings};
 use habits::is_foreign;
 pub use haproxy_options::{ANYWAY, FIRST_SERVER, FRONTEND, HAPROXY, names_haproxy};
+pub use header_options::{SEND_PROXY, SEND_PROXY_V2};
 pub use keeping::{Keeping, read_checked_keeping, read_keeping};
 pub use options::{
     BIND, CHECK, CLIENT, CONNECT, DRAIN, FIN, KEEPALIVE, LEVEL, LOG_REJECTED, METRICS, REPORT,

@@ -3,3 +3,6 @@ pub mod TableLemmas
 pub mod ClockLemmas
 pub mod LineLemmas
 pub mod OldestLemmas
+pub mod MatchingLemmas
+pub mod FilterLemmas
+pub mod ClearingLemmas

@@ -57,7 +57,7 @@ module _ {K S : Type 0} (spec : K → Spec) (parts : K → ℕ) (state : K → S
 
 module _ {K S : Type 0} (answers : Answering S) (refuses : Refusing S) (spec : K → Spec) (parts : K → ℕ) (state : K → S) where
   -- that table alone has another state
-  seen_after : (tables : List (Named K)) (place : ℕ) (was now : Named K) → now.name ≡ was.name → spec now.keeper ≡ spec was.keeper → parts now.keeper ≡ parts was.keeper
+  pub seen_after : (tables : List (Named K)) (place : ℕ) (was now : Named K) → now.name ≡ was.name → spec now.keeper ≡ spec was.keeper → parts now.keeper ≡ parts was.keeper
       → states_of spec parts state (set tables place now) ≡ set (states_of spec parts state tables) place (record (state_of spec parts state was) { state = state now.keeper })
   seen_after tables place was now same kept divided =
       let f : Named K → NamedState S = state_of spec parts state in

@@ -10,3 +10,5 @@ pub mod SavedEnd
 pub mod SeenLines
 pub mod OldestFirst
 pub mod Unplaced
+pub mod Matching
+pub mod MatchingLaws

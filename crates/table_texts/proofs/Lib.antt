@@ -1,2 +1,4 @@
 pub mod RequestLemmas
+pub mod FilterLemmas
+pub mod ComparisonLemmas
 pub mod DottedLemmas

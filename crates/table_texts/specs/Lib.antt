@@ -2,6 +2,8 @@ pub mod Form
 pub mod Texts
 pub mod FieldNames
 pub mod Request
+pub mod Filters
+pub mod Comparisons
 pub mod Seen
 pub mod Bytes
 pub mod Examples

@@ -55,7 +55,8 @@ pub fn datum_name(word: &[u8]) -> Option<&[u8]>
     }
 }
 
-fn read_op(word: &[u8]) -> Option<Op>
+/// How a word compares.
+pub(crate) fn read_op(word: &[u8]) -> Option<Op>
     ensures { result ≡ op_of word.now }
 {
     if word == b"eq".as_slice() {

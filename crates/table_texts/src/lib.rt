@@ -6,7 +6,9 @@
 #![tactic(auto)]
 
 mod answer_text;
+mod comparisons;
 mod field_name;
+mod filters;
 mod form;
 mod header;
 mod labels;
@@ -15,7 +17,9 @@ mod request;
 mod rows;
 
 pub use answer_text::Answer;
+pub use comparisons::{Comparison, read_comparisons};
 pub use field_name::read_field;
+pub use filters::{Filtered, read_filtered};
 pub use form::{Choice, Form, Request, read_form};
 pub use header::push_header;
 pub use message::Message;

@@ -1,5 +1,5 @@
 -- One direction of a connection, and what a read or a write makes of it.
-use Rattle.std.specs.Prelude.{◌≡◌, ◌<◌, ◌≤◌, ◌+◌, ◌-◌, ◌*◌, ◌^◌, ◌⊎◌, ℕ, List, [], length, take, drop}
+use Rattle.std.specs.Prelude.{◌≡◌, ◌<◌, ◌≤◌, ◌+◌, ◌-◌, ◌*◌, ◌^◌, ◌⊎◌, ℕ, min, List, [], length, take, drop}
 use Rattle.byte_ports.specs.Bytes.{Grows, IsAtEnd, IsOneMore, Takes}
 use Rattle.tcp_flow.specs.declared.pumping.Ending.{Ending}
 use Rattle.tcp_flow.specs.declared.pumping.Ending.TheVariants.{EndOfInput, ReadFault, WriteFault}
@@ -14,6 +14,10 @@ pub record FlowState : Type 0 where
 
 abbrev pub fresh : FlowState
 fresh = record { reads = 0; read = 0; written = 0; start = 0; end = 0 }
+
+-- one that begins with so many bytes in its buffer, as if one read had given them, if there are any
+abbrev pub keeping : ℕ → FlowState
+keeping count = record { reads = min count 1; read = count; written = 0; start = 0; end = count }
 
 -- bytes wait to be written
 abbrev pub Keeps : FlowState → Type 0

@@ -17,6 +17,10 @@ pub record DirectionState : Type 0 where
 abbrev pub unbegun : DirectionState
 unbegun = record { passage = nothing; over = false }
 
+-- one that begins with bytes of ours: they wait to be written before all that its reader gives, and count as read
+abbrev pub beginning : List ℕ → DirectionState
+beginning first = record { passage = record { read = length first; written = 0; rest = first }; over = false }
+
 -- a flow and the bytes of a direction between turns: what the flow keeps are these bytes; one that is over has none
 pub record IsDirection (flow : FlowState) (rest : List ℕ) (over : Bool) : Type 0 where
   pub going : over ≡ false → Keeps flow → flow.end ≤ length rest

@@ -1,10 +1,10 @@
 //! One direction of a connection whose sockets don't wait; `tcp_link` gives it a turn whenever a socket is ready.
 
-ghost use Rattle.std.specs.Prelude.{◌≡◌, ◌<◌, ◌≤◌, ◌+◌, ◌*◌, ◌↔◌, false, [], length, IsTrue, OnErr, OnOk};
+ghost use Rattle.std.specs.Prelude.{◌≡◌, ◌<◌, ◌≤◌, ◌+◌, ◌*◌, ◌↔◌, false, [], length, IsTrue, OnErr, OnOk, vec_len};
 ghost use Rattle.byte_ports.specs.Bytes.{IsAtEnd};
 ghost use Rattle.tcp_flow.specs.FlowState.{Keeps, from_its_start, kept};
 ghost use Rattle.tcp_flow.specs.Passage.{passage};
-ghost use Rattle.tcp_flow.specs.Turns.{HasFailed, HasTurned, IsDirection, is_last, unbegun};
+ghost use Rattle.tcp_flow.specs.Turns.{HasFailed, HasTurned, IsDirection, beginning, is_last, unbegun};
 
 use crate::carries::carry_now;
 use crate::flow::Flow;
@@ -39,9 +39,17 @@ impl Direction {
     pub fn new(alloc: Global) -> Direction
         ensures { result ≡ unbegun }
     {
+        Direction::beginning(Vec::new(alloc))
+    }
+
+    /// A direction that gives these bytes before all that its reader gives. They count as read.
+    pub fn beginning(first: Vec<u8>) -> Direction
+        requires room { vec_len first ≤ 65536 }
+        ensures { result ≡ beginning first.items }
+    {
         Direction {
-            flow: Flow::new(),
-            rest: Vec::new(alloc),
+            flow: Flow::keeping(first.len()),
+            rest: first,
             over: false,
         }
     }

@@ -2,7 +2,7 @@
 
 ghost use Rattle.std.specs.Prelude.{◌≡◌, ◌+◌, ◌-◌, ◌<◌, ◌≤◌, ◌↔◌, [], length, IsTrue, OnOk, OnErr, IfErr};
 ghost use Rattle.byte_ports.specs.Bytes.{Grows, IsOneMore};
-ghost use Rattle.tcp_flow.specs.FlowState.{HasRead, HasStopped, HasWritten, Keeps, fresh};
+ghost use Rattle.tcp_flow.specs.FlowState.{HasRead, HasStopped, HasWritten, Keeps, fresh, keeping};
 
 mod now;
 
@@ -48,6 +48,21 @@ impl Flow {
             written: 0,
             start: 0,
             end: 0,
+        }
+    }
+
+    /// A direction whose buffer begins with so many bytes that wait to be written, as if one read had given them, if
+    /// there are any.
+    pub(crate) fn keeping(count: usize) -> Flow
+        requires room { count ≤ 65536 }
+        ensures { result ≡ keeping count }
+    {
+        Flow {
+            reads: count.min(1) as u64,
+            read: count as u64,
+            written: 0,
+            start: 0,
+            end: count,
         }
     }
 

@@ -1,5 +1,5 @@
 -- What contracts see of a connection between two sockets.
-use Rattle.std.specs.Prelude.{◌≡◌, ◌≢◌, ℕ, Bool, true, false, ◌&&◌, ◌||◌, not, nat_lt, Option, Some, None, is_some, if◌then◌else◌}
+use Rattle.std.specs.Prelude.{◌≡◌, ◌≢◌, ℕ, ◌-◌, List, length, Bool, true, false, ◌&&◌, ◌||◌, not, nat_lt, Option, Some, None, is_some, if◌then◌else◌}
 use Rattle.tcp_flow.specs.Turns.{is_last}
 use Rattle.tcp_flow.specs.declared.steps.Step.{Step}
 use Rattle.tcp_flow.specs.declared.steps.Step.TheVariants.{Ended, Failed, WaitsToRead, WaitsToWrite, Yields}
@@ -11,9 +11,9 @@ use Rattle.tcp_link.specs.declared.way.Way.{Way}
 use Rattle.tcp_link.specs.Closing.{lost_bytes, reader_failed, writer_failed}
 use Rattle.tcp_link.specs.Losses.{drops, is_given_up, is_spent, no_loss}
 use Rattle.tcp_link.specs.Silence.{heard_last, is_quiet, is_silent, limit_at_end, wrote_last}
-use Rattle.tcp_link.specs.Ways.{Advances, has_read, has_written, is_end, unbegun_way}
+use Rattle.tcp_link.specs.Ways.{Advances, has_read, has_written, greeted_way, is_end, unbegun_way}
 
--- the direction from the client to the server and the one back, when something passed last at the client and at the server, in ms, whether the server is known to have accepted the connection, whether the client, and the server, was told that the other has ended, and whether each is watched for room; when something was written to the client last, and to the server, in ms, if anything was; what was dropped of the bytes that each still sent once the other had failed; how often a server that refuses may still be tried again, and, where the next try is waited for, when it refused, in ms; whether the client is gone that no server has accepted
+-- the direction from the client to the server and the one back, when something passed last at the client and at the server, in ms, whether the server is known to have accepted the connection, whether the client, and the server, was told that the other has ended, and whether each is watched for room; when something was written to the client last, and to the server, in ms, if anything was; what was dropped of the bytes that each still sent once the other had failed; how often a server that refuses may still be tried again, and, where the next try is waited for, when it refused, in ms; whether the client is gone that no server has accepted; and how many bytes of ours the server is given before the client's
 pub record LinkState : Type 0 where
   pub there : Way
   pub back : Way
@@ -31,11 +31,12 @@ pub record LinkState : Type 0 where
   pub tries : ℕ
   pub refused : Option ℕ
   pub gone : Bool
+  pub greeting : ℕ
 
--- a connection that begins at a moment, and whose server may be tried again so often
-abbrev pub opened : ℕ → ℕ → LinkState
-opened moment retries = record {
-  there = unbegun_way;
+-- a connection that begins at a moment, whose server is given a greeting first and may be tried again so often
+abbrev pub opened : List ℕ → ℕ → ℕ → LinkState
+opened greeting moment retries = record {
+  there = greeted_way greeting;
   back = unbegun_way;
   client = moment;
   server = moment;
@@ -51,6 +52,7 @@ opened moment retries = record {
   tries = retries;
   refused = None;
   gone = false;
+  greeting = length greeting;
 }
 
 -- whether its server has refused it, and isn't tried again yet
@@ -96,9 +98,9 @@ is_reset_due link moment = owes_reset link.back.step link.there.step && is_quiet
 abbrev pub must_be_accepted : LinkState → Bool
 must_be_accepted link = link.accepted || has_passed link
 
--- the bytes that came of the client, and those that went to it; none where nothing has passed at the server
+-- the bytes that came of the client, and those that went to it; none where nothing has passed at the server. A greeting counts as none
 abbrev pub bytes : LinkState → ℕ × ℕ
-bytes link = if has_passed link then (link.there.direction.passage.read, link.back.direction.passage.written) else (0, 0)
+bytes link = if has_passed link then (link.there.direction.passage.read - link.greeting, link.back.direction.passage.written) else (0, 0)
 
 -- whether the server has ended and the client is still to be told so: not where nothing more passes, as closing tells it
 abbrev pub owes_client : LinkState → Bool

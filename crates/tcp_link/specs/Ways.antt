@@ -1,7 +1,7 @@
 -- What a turn does to one direction of a connection between sockets.
-use Rattle.std.specs.Prelude.{◌≡◌, ◌+◌, ◌*◌, ◌≤◌, ℕ, Bool, true, false, ◌&&◌, ◌||◌, [], length, nat_le, nat_lt}
+use Rattle.std.specs.Prelude.{◌≡◌, ◌+◌, ◌*◌, ◌≤◌, ℕ, Bool, true, false, ◌&&◌, ◌||◌, List, [], ◌∷◌, length, nat_le, nat_lt}
 use Rattle.tcp_flow.specs.Passage.{Passage}
-use Rattle.tcp_flow.specs.Turns.{HasTurned, is_last, unbegun}
+use Rattle.tcp_flow.specs.Turns.{HasTurned, beginning, is_last, unbegun}
 use Rattle.tcp_flow.specs.declared.steps.Cause.TheVariants.{Memory, Read, Write}
 use Rattle.tcp_flow.specs.declared.steps.Step.{Step}
 use Rattle.tcp_flow.specs.declared.steps.Step.TheVariants.{Ended, Failed, WaitsToRead, WaitsToWrite, Yields}
@@ -13,6 +13,11 @@ use Rattle.tcp_link.specs.declared.way.Way.{Way}
 -- nothing has passed, and nothing is known of what the sender still sends
 abbrev pub unbegun_way : Way
 unbegun_way = record { direction = unbegun; step = WaitsToRead; ahead = More }
+
+-- the receiver is given bytes of ours first, which wait for room; where there are none, nothing has passed
+abbrev pub greeted_way : List ℕ → Way
+greeted_way [] = unbegun_way
+greeted_way (byte ∷ greeting) = record { direction = beginning (byte ∷ greeting); step = WaitsToWrite; ahead = More }
 
 -- what was read of the sender is what was written to the receiver and what waits for room; where one of them failed, or there was no memory, what was not written is lost
 abbrev pub Accounts : Passage → Step → Type 0

@@ -26,6 +26,7 @@ mod ready;
 mod resetting;
 mod server_socket;
 mod timeouts;
+mod unopened;
 mod way;
 
 pub use ahead::Ahead;
@@ -40,3 +41,4 @@ pub use ready::Ready;
 pub use resetting::reset;
 pub use server_socket::ServerSocket;
 pub use timeouts::Timeouts;
+pub use unopened::Unopened;

@@ -1,6 +1,6 @@
 //! A connection between two sockets: it begins, has turns, and closes; `tcp_relay` calls it for each admitted client.
 
-ghost use Rattle.std.specs.Prelude.{◌≡◌, ◌≢◌, ◌<◌, ◌||◌, not, true, false, IfErr, IfOk, IsTrue, OnOk};
+ghost use Rattle.std.specs.Prelude.{◌≡◌, ◌≢◌, ◌<◌, ◌≤◌, ◌||◌, not, true, false, vec_len, IfErr, IfOk, IsTrue, OnOk};
 ghost use Rattle.tcp_link.specs.Closing.{closing};
 ghost use Rattle.tcp_link.specs.Links.{AdvancesIfItWaited, DropsOnly, HandsOn, IsGone, IsHeard, IsWatched, KeepsButAccepted, KeepsWhatIsKnown, bytes, has_ended, has_passed, is_held_up, is_late, is_over, must_be_accepted, opened, owes_client, owes_server, waits, way_from, way_to};
 ghost use Rattle.tcp_link.specs.Retries.{IfTried, IsRefused, fails_unread, may_retry, noted, refused_at, tells_refusal};
@@ -15,7 +15,7 @@ use crate::closing::Closing;
 use crate::end::{End, Side};
 use crate::loss::Rest;
 use crate::way::Way;
-use crate::{Buffer, Ready, ServerSocket, Timeouts, Unreached};
+use crate::{Buffer, Ready, ServerSocket, Timeouts, Unopened};
 use mio::Registry;
 use mio::net::TcpStream;
 use std::alloc::Global;
@@ -39,6 +39,8 @@ pub struct Link {
     refused: Option<u64>,
     /// Whether its client has failed, and no server has accepted.
     is_gone: bool,
+    /// How many bytes the server is given before the client's.
+    greeting: u64,
     /// From where a direction that begins anew takes memory.
     alloc: Global,
 }
@@ -49,32 +51,37 @@ impl Model for Link {
 
     ghost Value = { LinkState };
 
-    ghost view = { λ link. record { there = link.there; back = link.back; client = link.client.heard; server = link.server.heard; accepted = link.is_accepted; client_told = link.client.is_told; server_told = link.server.is_told; client_watched = link.client.watches_room; server_watched = link.server.watches_room; client_wrote = link.client.wrote; server_wrote = link.server.wrote; client_loss = link.client.loss; server_loss = link.server.loss; tries = link.tries; refused = link.refused; gone = link.is_gone } };
+    ghost view = { λ link. record { there = link.there; back = link.back; client = link.client.heard; server = link.server.heard; accepted = link.is_accepted; client_told = link.client.is_told; server_told = link.server.is_told; client_watched = link.client.watches_room; server_watched = link.server.watches_room; client_wrote = link.client.wrote; server_wrote = link.server.wrote; client_loss = link.client.loss; server_loss = link.server.loss; tries = link.tries; refused = link.refused; gone = link.is_gone; greeting = link.greeting } };
 
     ghost invariant = { λ link. IsWay link.there × IsWay link.back };
 }
 
 impl Link {
-    /// Begins to connect a client to its server, at a moment in ms. A server that refuses may be tried again so many times.
-    /// Where the system says at once that it can't connect, it waits for the first of these, or that is an error if there are none.
+    /// Begins to connect a client to its server, at a moment in ms. The server is given a greeting first, where that has bytes, from
+    /// whose allocator the link takes memory. A server that refuses may be tried again so many times. Where the system says at once
+    /// that it can't connect, it waits for the first of these. If there are none that is an error, with which the client comes back as
+    /// it was: whoever closes it has then done first what is to come before that.
     pub fn open(
         _rt: &impl Net,
-        alloc: Global,
         client: TcpStream,
         server: ServerSocket,
+        greeting: Vec<u8>,
         moment: u64,
         retries: u32,
-    ) -> Result<Link, Unreached>
-        ensures open { IfOk result (λ link. waits link ≡ false → link ≡ opened moment retries) }
-        ensures refused { IfOk result (λ link. waits link ≡ true → (0 < retries) × (link ≡ refused_at moment (opened moment retries))) }
+    ) -> Result<Link, Unopened>
+        requires greeting { vec_len greeting ≤ 65536 }
+        ensures open { IfOk result (λ link. waits link ≡ false → link ≡ opened greeting.items moment retries) }
+        ensures refused { IfOk result (λ link. waits link ≡ true → (0 < retries) × (link ≡ refused_at moment (opened greeting.items moment retries))) }
         ensures last { IfErr result (λ _. retries ≡ 0) }
+        ensures client { IfErr result (λ unopened. unopened.client ≡ client) }
     {
         match server.connect() {
-            Ok(socket) => Ok(Link::new(alloc, client, socket, moment, retries)),
-            Err(refusal) if retries == 0 => Err(refusal.cause()),
+            Ok(socket) => Ok(Link::new(client, socket, greeting, moment, retries)),
+            Err(refusal) if retries == 0 => Err(Unopened::new(client, refusal.cause())),
             Err(refusal) => {
-                let mut link = Link::new(alloc, client, refusal.socket, moment, retries);
-                link.server.note(refusal.number);
+                let number = refusal.number;
+                let mut link = Link::new(client, refusal.socket, greeting, moment, retries);
+                link.server.note(number);
                 link.refuse(moment);
                 Ok(link)
             }
@@ -82,18 +89,28 @@ impl Link {
     }
 
     /// A link between these sockets, through which nothing has passed.
-    fn new(alloc: Global, client: TcpStream, server: TcpStream, moment: u64, retries: u32) -> Link
-        ensures { result ≡ opened moment retries }
+    fn new(
+        client: TcpStream,
+        server: TcpStream,
+        greeting: Vec<u8>,
+        moment: u64,
+        retries: u32,
+    ) -> Link
+        requires greeting { vec_len greeting ≤ 65536 }
+        ensures { result ≡ opened greeting.items moment retries }
     {
+        let alloc = *greeting.allocator();
+        let length = greeting.len() as u64;
         Link {
             client: End::new(client, moment),
             server: End::new(server, moment),
-            there: Way::new(alloc),
+            there: Way::greeting(greeting),
             back: Way::new(alloc),
             is_accepted: false,
             tries: retries,
             refused: None,
             is_gone: false,
+            greeting: length,
             alloc,
         }
     }
@@ -355,14 +372,15 @@ impl Link {
             || !is_held_up(back, there) && self.server.is_silent_for(moment, server)
     }
 
-    /// How many bytes came in and went out: those that were read of the client, and those that were written to it. None where
-    /// the server took and gave nothing. Of each direction, what was read is what was written and what waits, until it fails.
+    /// How many bytes came in and went out: those that were read of the client, and those that were written to it. A greeting is none
+    /// of them. None where the server took and gave nothing. Of each direction, what was read is what was written and what waits, until it fails.
     pub fn bytes(&self) -> (u64, u64)
         ensures exact { result ≡ bytes self.now }
         ensures there { IsWay self.now.there }
         ensures back { IsWay self.now.back }
     {
-        let counted = (self.there.direction.read(), self.back.direction.written());
+        let read = self.there.direction.read().saturating_sub(self.greeting);
+        let counted = (read, self.back.direction.written());
         if self.has_passed() { counted } else { (0, 0) }
     }
 

@@ -21,17 +21,30 @@ pub(crate) struct Way {
 }
 
 impl Way {
-    ghost use Rattle.std.specs.Prelude.{◌≡◌, true};
+    ghost use Rattle.std.specs.Prelude.{◌≡◌, ◌≤◌, true, vec_len};
     ghost use Rattle.tcp_link.specs.Retries.{fails_unread};
     ghost use Rattle.tcp_link.specs.Silence.{heard_last, wrote_last};
-    ghost use Rattle.tcp_link.specs.Ways.{Advances, IsWay, has_read, has_written, has_written_more, has_written_more_than, told_also, unbegun_way};
+    ghost use Rattle.tcp_link.specs.Ways.{Advances, IsWay, greeted_way, has_read, has_written, has_written_more, has_written_more_than, told_also, unbegun_way};
 
     pub(crate) fn new(alloc: Global) -> Way
         ensures { result ≡ unbegun_way }
     {
+        Way::greeting(Vec::new(alloc))
+    }
+
+    /// One whose receiver is given these bytes first, which wait for room.
+    pub(crate) fn greeting(first: Vec<u8>) -> Way
+        requires room { vec_len first ≤ 65536 }
+        ensures { result ≡ greeted_way first.items }
+    {
+        let step = if first.is_empty() {
+            Step::WaitsToRead
+        } else {
+            Step::WaitsToWrite
+        };
         Way {
-            direction: Direction::new(alloc),
-            step: Step::WaitsToRead,
+            direction: Direction::beginning(first),
+            step,
             ahead: Ahead::More,
         }
     }

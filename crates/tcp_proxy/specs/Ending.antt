@@ -1,7 +1,12 @@
 -- How a table ended, as it is printed.
-use Rattle.std.specs.Prelude.{◌≡◌, refl, ℕ, ◌^◌, ◌-◌, min, List, ◌++◌, Result, Ok, Err, codes, decimal, length, sum, sum_by}
+use Rattle.std.specs.Prelude.{◌≡◌, refl, ℕ, ◌^◌, ◌-◌, min, Bool, List, ◌++◌, Result, Ok, Err, codes, decimal, length, sum, sum_by}
 use Rattle.std.specs.Fmt.{digits}
 use Rattle.stick_model.specs.declared.rows.Ticket.{Ticket}
+use Rattle.stick_model.specs.declared.specification.Spec.{Spec}
+use Rattle.shard_book.specs.BookState.{BookState}
+use Rattle.shard_book.specs.SeatState.{RefState, SeatState}
+use Rattle.shard_settling.specs.Faults.{IsFault}
+use Rattle.shard_settling.specs.Settled.{AreSettled, counts_in, tickets_in}
 use Rattle.shard_settling.specs.declared.fault.Fault.{Fault}
 use Rattle.shard_settling.specs.declared.fault.Fault.TheVariants.{MissingCalls, MissingRefs, Mismatch, Memory}
 use Rattle.tcp_proxy.specs.declared.table_end.Tally.{Tally}
@@ -11,6 +16,19 @@ use Rattle.tcp_proxy.specs.declared.table_end.Tally.{Tally}
 -- the events that all shards have counted, and the tickets that are out there, each number up to 2^64 - 1
 abbrev pub tally_of : List ℕ → List (List Ticket) → Tally
 tally_of counts tickets = record { calls = min (sum counts) (2 ^ 64 - 1); references = min (sum_by (λ (out : List Ticket). length out) tickets) (2 ^ 64 - 1) }
+
+-- ---- how a table ends
+
+-- the numbers count books that are settled by what their callers left
+pub record CountsSettled (specs : List Spec) (keep : Bool) (seats : List SeatState) (refs : List RefState) (tally : Tally) : Type 0 where
+  pub books : List BookState
+  pub settled : AreSettled specs keep seats refs books
+  pub counted : tally ≡ tally_of (counts_in books) (tickets_in books)
+
+-- the fault has its cause in books that were found
+pub record IsFound (specs : List Spec) (keep : Bool) (seats : List SeatState) (refs : List RefState) (fault : Fault) : Type 0 where
+  pub books : List BookState
+  pub cause : IsFault specs keep seats refs books fault
 
 -- ---- what is printed
 

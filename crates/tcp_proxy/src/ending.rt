@@ -1,6 +1,9 @@
 //! The tables of a setup are settled once nobody calls them; `running` calls it.
 
 ghost use Rattle.std.specs.Prelude.{◌≡◌, ◌&&◌, Err, IfErr, IfOk, is_ok};
+ghost use Rattle.shard_locks.specs.Shared.{seats_of};
+ghost use Rattle.shard_locks.specs.ShardsState.{parts_of};
+ghost use Rattle.tcp_proxy.specs.Ending.{CountsSettled, IsFound};
 
 use crate::table_end::{TableEnd, Tally, tally_of};
 use rule_model::Setup;
@@ -33,13 +36,16 @@ pub(crate) fn give_up_all<J: Naming>(mut refs: Vec<Vec<SharedRef<J>>>) {
     refs.destroy_empty();
 }
 
-/// Settles a table.
+/// Settles a table by the seats and the references that its callers left. What was counted of it, or what it lacks.
 fn settle_table<T: Table, J: Naming>(
     alloc: Global,
     table: Shards<T, J>,
     seats: Vec<SharedSeat<J>>,
     refs: Vec<SharedRef<J>>,
-) -> Result<Tally, Fault> {
+) -> Result<Tally, Fault>
+    ensures settled { IfOk result (λ tally. CountsSettled (parts_of table) table.keep (seats_of seats.items) refs.items tally) }
+    ensures fault { IfErr result (λ fault. IsFound (parts_of table) table.keep (seats_of seats.items) refs.items fault) }
+{
     match settle(alloc, table, seats, refs) {
         Ok(settled) => Ok(tally_of(&settled)),
         Err(unsettled) => {

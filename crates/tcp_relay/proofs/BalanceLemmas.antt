@@ -1,6 +1,7 @@
 -- Who shows least, and that what workers hold stays even.
-use Rattle.std.proofs.Common.{◌≡◌, ◌≢◌, ◌≤◌, ◌<◌, ◌⊎◌, inl, inr, ⊎_elim, arith, ℕ, zero, suc, ◌+◌, ◌*◌, ◌/◌, ◌-◌, ◌^◌, ◌==◌, ◌&&◌, not, min, nat_lt, nat_eq, Bool, true, false, refl, sym, ap, ◌∙◌, subst, List, [], ◌∷◌, Option, Some, None, slice_get, slice_set, if◌then◌else◌}
-use Rattle.tcp_relay.specs.Balance.{EvenLaw, IsEven, TakenLaw, away, is_away, leaves_to, least_from, least_of, left_to, less_of, others_of, shown}
+use Rattle.std.proofs.Common.{◌≡◌, ◌≢◌, ◌≤◌, ◌<◌, ◌⊎◌, inl, inr, ⊎_elim, arith, ℕ, zero, suc, ◌+◌, ◌*◌, ◌/◌, ◌-◌, ◌^◌, ◌==◌, ◌&&◌, not, min, nat_lt, nat_eq, Bool, true, false, refl, sym, ap, ◌∙◌, subst, List, [], ◌∷◌, Option, Some, None, length, slice_get, slice_set, if◌then◌else◌}
+use Rattle.std.proofs.lemmas.Bool.Decides.{nat_tests}
+use Rattle.tcp_relay.specs.Balance.{is_alone, AloneLaw, EvenLaw, IsEven, TakenLaw, away, is_away, leaves_to, least_from, least_of, left_to, less_of, others_of, shown}
 use Rattle.tcp_relay.specs.declared.balance.Candidate.{Candidate}
 
 none_some : {X : Type 0} (x : X) → None ≡ Some x → ⊥
@@ -210,3 +211,18 @@ even_stays worker held waits words own_at few left even one other a b one_at oth
     both worker held waits words own_at few left even one other a b
     (get_after_set words worker one (shown (held + 1) false) a one_at)
     (get_after_set words worker other (shown (held + 1) false) b other_at) a_there b_there
+
+-- ---- one that is alone
+
+none_first : (worker : ℕ) → (nat_lt 1 2 && (suc worker == 0)) ≡ true → ⊥
+none_first worker is = grind (arith, nat_tests, is)
+
+none_second : (worker more : ℕ) → (nat_lt (suc (suc more)) 2 && (worker == 0)) ≡ true → ⊥
+none_second worker more is = grind (arith, nat_tests, is)
+
+-- it is away to itself, and of others there is none
+pub alone_none : AloneLaw
+alone_none worker held [] alone = refl
+alone_none zero held (word ∷ []) alone = refl
+alone_none (suc worker) held (word ∷ []) alone = absurd (none_first worker alone)
+alone_none worker held (word ∷ other ∷ words) alone = absurd (none_second worker (length words) alone)

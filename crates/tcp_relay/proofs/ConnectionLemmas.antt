@@ -25,6 +25,7 @@ use Rattle.tcp_relay.specs.Connections.{IsVisitor}
 use Rattle.tcp_relay.specs.Passed.{HasPassedLimits, HavePassedStill}
 use Rattle.tcp_relay.specs.Untracked.{IsUntrackedSince}
 use Rattle.tcp_relay.specs.Moments.{HaveCalledAt}
+use Rattle.tcp_relay.specs.Releasing.{GivesBack}
 use Rattle.tcp_relay.specs.Seating.{AreIn, StoreAs}
 
 abbrev shards_of : SeatedState → ℕ
@@ -146,6 +147,11 @@ module _ (tables shards : ℕ) (seated : Vec SeatedState Global) (lent : List Se
     called_still moment called =
         subst (λ seats. HaveCalledAt moment seats (take (vec_len seated) (new ++ drop (length new) seated.items))) (same_ports lent ∙ value)
         (subst (HaveCalledAt moment (ports_of lent)) (same_ports new ∙ sym same_items) called)
+
+    pub back_still : (moment : ℕ) (before after : Held RefState) → GivesBack moment (ports_of lent) (ports_of new) before after → GivesBack moment seated.items (take (vec_len seated) (new ++ drop (length new) seated.items)) before after
+    back_still moment before after back =
+        subst (λ seats. GivesBack moment seats (take (vec_len seated) (new ++ drop (length new) seated.items)) before after) (same_ports lent ∙ value)
+        (subst (λ seats. GivesBack moment (ports_of lent) seats before after) (same_ports new ∙ sym same_items) back)
 
     pub still_passed : HavePassedStill (ports_of lent) (ports_of new) → HavePassedStill seated.items (take (vec_len seated) (new ++ drop (length new) seated.items))
     still_passed still =

@@ -18,3 +18,7 @@ mod PassedPlaces
 mod PassedOf
 mod UntrackedGoes
 mod MomentGoes
+mod ReleasingCalls
+mod ReleasingMoves
+mod ReleasingGoes
+mod EndingGoes

@@ -55,7 +55,7 @@ all_more P [] x all is = (is, tt)
 all_more P (y ∷ xs) x all is = (all.0, all_more P xs x all.1 is)
 
 -- a clock that stands
-abbrev stands_still : ℕ → ℕ → ℕ → Type 0
+abbrev pub stands_still : ℕ → ℕ → ℕ → Type 0
 stands_still old now new = (now ≡ old) × (new ≡ old)
 
 module _ (start : List SeatedState) (moment : ℕ) where
@@ -109,7 +109,7 @@ module _ (start : List SeatedState) (moment : ℕ) where
         cases true same = own (eq-from table asked.table same)
         cases false apart = had table seat (sym (ap (λ seats. slice_get seats table) by.others ∙ get_set_other old asked.table table by.after apart) ∙ at) part
 
-  moves_at : (now : ℕ) (old new : List SeatedState) (connection after : Connection RefState) (moved : Moved) → now ≡ moment → Moves seated_meaning now old connection new after moved → HaveCalledAt moment start old → HaveCalledAt moment start new
+  pub moves_at : (now : ℕ) (old new : List SeatedState) (connection after : Connection RefState) (moved : Moved) → now ≡ moment → Moves seated_meaning now old connection new after moved → HaveCalledAt moment start old → HaveCalledAt moment start new
   moves_at now old new connection after Answered is moves had =
       called_told old new moves.0 moves.1 moves.3 (asked_at connection.setup.shards now connection.progress.held (need connection) moves.0 moves.2 ∙ is) had
   moves_at now old new connection after Turned is moves had = subst (HaveCalledAt moment start) (sym moves.1) had
@@ -136,7 +136,7 @@ module _ (start : List SeatedState) (moment : ℕ) where
   rests_at old new RestsKept rests had = moved_at rests.last new Kept rests.still (goes_at rests.count old rests.last rests.goes had)
 
 -- nobody has called yet
-none_called : (moment : ℕ) (seats : List SeatedState) → HaveCalledAt moment seats seats
+pub none_called : (moment : ℕ) (seats : List SeatedState) → HaveCalledAt moment seats seats
 none_called moment seats table seat at part = (seat, at, record { calls = []; mine = sym (append-nil (mine_at seat part)); now_all = tt })
 
 -- whatever connection it was, as it was judged, and as it came to rest

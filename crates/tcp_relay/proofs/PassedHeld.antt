@@ -102,14 +102,14 @@ sc0_after (wants.Track Sc1 table key) progress (Some reference) = inl refl
 sc0_after (wants.Track Sc2 table key) progress (Some reference) = inl refl
 
 -- it is judged still, and nothing is handed out
-heard_judged : {R : Type 0} (want : Want) (progress : Progress R) (came : Option R) → is_judged progress.phase ≡ true → is_judged (heard_by want progress came).phase ≡ true
+pub heard_judged : {R : Type 0} (want : Want) (progress : Progress R) (came : Option R) → is_judged progress.phase ≡ true → is_judged (heard_by want progress came).phase ≡ true
 heard_judged (wants.Get table key) progress came judged = refl
 heard_judged (wants.Track slot table key) progress came judged = refl
 heard_judged (wants.Look slot) progress came judged = refl
 heard_judged (wants.Count slot act) progress came judged = refl
 heard_judged (wants.Done verdict) progress came judged = judged
 
-heard_given : {R : Type 0} (want : Want) (progress : Progress R) (came : Option R) → (heard_by want progress came).given ≡ progress.given
+pub heard_given : {R : Type 0} (want : Want) (progress : Progress R) (came : Option R) → (heard_by want progress came).given ≡ progress.given
 heard_given (wants.Get table key) progress came = refl
 heard_given (wants.Track slot table key) progress came = refl
 heard_given (wants.Look slot) progress came = refl
@@ -135,11 +135,11 @@ pub record HoldsSame {R : Type 0} (connection after : Connection R) : Type 0 whe
   pub answers : after.answers ≡ connection.answers
   pub sc0 : after.progress.held.sc0 ≡ connection.progress.held.sc0
 
-refused_as : {R : Type 0} (connection : Connection R) → connection.progress.given ≡ None → (refused connection None).progress ≡ refused_before (is_asking (asks connection) connection.progress) (need connection) connection.progress
+pub refused_as : {R : Type 0} (connection : Connection R) → connection.progress.given ≡ None → (refused connection None).progress ≡ refused_before (is_asking (asks connection) connection.progress) (need connection) connection.progress
 unfolding refused_of
 refused_as connection none = ap (λ g. refused_given g (asks connection) connection.progress None) none
 
-before_same : {R : Type 0} (asking : Bool) (wanted : Need) (progress : Progress R) → is_judged progress.phase ≡ true
+pub before_same : {R : Type 0} (asking : Bool) (wanted : Need) (progress : Progress R) → is_judged progress.phase ≡ true
     → ((refused_before asking wanted progress).held ≡ progress.held) × ((refused_before asking wanted progress).given ≡ progress.given) × ((refused_before asking wanted progress).phase ≡ Admitted → ⊥)
 before_same true wanted progress judged = (refl, refl, λ is. cc)
 before_same {R = R} false wanted progress judged =

@@ -1,10 +1,14 @@
 -- What connections in places have passed, as one is put in a place, and as seats are told of more.
-use Rattle.std.proofs.Common.{◌≡◌, ℕ, zero, suc, Bool, true, false, sym, ap, ◌∙◌, subst, List, [], ◌∷◌, length, Option, Some, None, slice_get, slice_set, arith}
+use Rattle.std.proofs.Common.{map, ◌≡◌, ◌≢◌, ◌≤◌, ◌<◌, ◌+◌, ℕ, zero, suc, nat_eq, nat_lt, Bool, true, false, refl, sym, ap, ◌∙◌, subst, List, [], ◌∷◌, length, Option, Some, None, slice_get, slice_index_or, slice_set, arith}
 use Rattle.std.proofs.lemmas.Bool.{false≢true}
+use Rattle.std.proofs.lemmas.Bool.Decides.{nat_tests}
 use Rattle.shard_book.specs.SeatState.{RefState}
 use Rattle.shard_locks.specs.ShardsState.{SeatedState}
 use Rattle.rule_model.specs.declared.sections.Setup.{Setup}
 use Rattle.admit_core.specs.declared.conn.Conn.{Conn}
+use Rattle.tcp_relay.specs.Releasing.{OthersStay, is_open_there}
+use Rattle.tcp_relay.proofs.PassedTold.{get_set_other, get_set_same}
+use Rattle.stick_model.proofs.TestLemmas.{eq-from}
 use Rattle.tcp_relay.specs.Passed.{HasPassedIn, HaveAllPassed, HavePassedStill, NoneCame, Passes, StaysThere}
 
 none_some : {X : Type 0} (x : X) → None ≡ Some x → ⊥
@@ -67,3 +71,63 @@ module _ {X : Type 0} (is_open : X → Bool) (conn_of : X → Conn RefState) whe
   pub put_passed : (old new : List (Option X)) (place : ℕ) (one : X) (conn : Conn RefState) → new ≡ slice_set old place (Some one) → conn_of one ≡ conn → (setup : Setup) (seats : List SeatedState) → HasPassedIn setup seats conn → HaveAllPassed is_open conn_of setup seats old → HaveAllPassed is_open conn_of setup seats new
   put_passed old new place one conn put same setup seats has all =
       subst (HaveAllPassed is_open conn_of setup seats) (sym put) (set_passed is_open conn_of setup seats old place (Some one) (passes_one is_open conn_of setup seats one conn same has) all)
+
+-- ---- in a place, and in all others
+
+self_same : (a : ℕ) → nat_eq a a ≡ true
+self_same a = grind (arith, nat_tests)
+
+differ : (a b : ℕ) → a ≢ b → nat_eq a b ≡ false
+differ a b apart = by (nat_eq a b) refl
+  where
+    by : (same : Bool) → nat_eq a b ≡ same → nat_eq a b ≡ false
+    by true is = absurd (apart (eq-from a b is))
+    by false is = is
+
+-- what is lent of a list is there
+pub get_there : {X : Type 0} (xs : List X) (i : ℕ) (x : X) → i < length xs → x ≡ slice_index_or xs i x → slice_get xs i ≡ Some x
+get_there [] i x within is = absurd (omega (arith, within))
+get_there (y ∷ ys) zero x within is = ap Some (sym is)
+get_there (y ∷ ys) (suc i) x within is = get_there ys i x (omega (arith, within)) is
+
+-- one is put in a place that is free
+pub there_put : {X : Type 0} (old new : List (Option X)) (place : ℕ) (one : X) → slice_get old place ≡ Some None → new ≡ slice_set old place (Some one) → slice_get new place ≡ Some (Some one)
+there_put old new place one free put = ap (λ places. slice_get places place) put ∙ get_set_same old place (Some one) None free
+
+-- a place is set
+pub others_set : {X : Type 0} (old new : List (Option X)) (place : ℕ) (now : Option X) → new ≡ slice_set old place now → OthersStay place old new
+others_set old new place now put other apart = ap (λ places. slice_get places other) put ∙ get_set_other old place other now (differ other place apart)
+
+pub set_count : {X : Type 0} (old : List X) (place : ℕ) (now : X) → length (slice_set old place now) ≡ length old
+set_count [] place now = refl
+set_count (one ∷ more) zero now = refl
+set_count (one ∷ more) (suc place) now = ap suc (set_count more place now)
+
+-- ---- whether one is open in some place
+
+beyond : {X : Type 0} (places : List (Option X)) (at : ℕ) → length places ≤ at → slice_get places at ≡ None
+beyond [] zero less = refl
+beyond [] (suc at) less = refl
+beyond (one ∷ more) zero less = absurd (omega (arith, less))
+beyond (one ∷ more) (suc at) less = beyond more at (omega (arith, less))
+
+-- none in the first places, and none in the next
+pub closed_more : {X : Type 0} (is_open : X → Bool) (old new : List (Option X)) (place : ℕ) → is_open_there is_open (slice_get new place) ≡ false → OthersStay place old new → ((at : ℕ) → at < place → is_open_there is_open (slice_get old at) ≡ false)
+    → (at : ℕ) → at < place + 1 → is_open_there is_open (slice_get new at) ≡ false
+closed_more is_open old new place closed others all at less = by (nat_eq at place) refl
+  where
+    by : (same : Bool) → nat_eq at place ≡ same → is_open_there is_open (slice_get new at) ≡ false
+    by true is = ap (λ i. is_open_there is_open (slice_get new i)) (eq-from at place is) ∙ closed
+    by false is =
+        let apart : at ≢ place = λ same. false≢true (sym is ∙ ap (λ i. nat_eq i place) same ∙ self_same place) in
+        ap (is_open_there is_open) (others at apart) ∙ all at (omega (arith, less, apart))
+
+-- none in any place
+pub all_closed : {X : Type 0} (is_open : X → Bool) (places : List (Option X)) (count : ℕ) → length places ≤ count → ((at : ℕ) → at < count → is_open_there is_open (slice_get places at) ≡ false) → (at : ℕ) → is_open_there is_open (slice_get places at) ≡ false
+all_closed is_open places count few all at = by (nat_lt at count) refl
+  where
+    by : (within : Bool) → nat_lt at count ≡ within → is_open_there is_open (slice_get places at) ≡ false
+    by true is = all at (grind (arith, nat_tests, is))
+    by false is =
+        let out : count ≤ at = grind (arith, nat_tests, is) in
+        ap (is_open_there is_open) (beyond places at (omega (arith, few, out)))

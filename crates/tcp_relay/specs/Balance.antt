@@ -1,5 +1,5 @@
 -- Who takes a client: what each worker shows the others, and what follows from it.
-use Rattle.std.specs.Prelude.{◌≡◌, ◌≢◌, ◌≤◌, ◌<◌, ℕ, Bool, ◌+◌, ◌*◌, ◌/◌, ◌%◌, ◌-◌, ◌^◌, ◌==◌, ◌&&◌, not, min, nat_lt, Option, Some, None, List, [], ◌∷◌, slice_get, slice_set, true, false, if◌then◌else◌}
+use Rattle.std.specs.Prelude.{◌≡◌, ◌≢◌, ◌≤◌, ◌<◌, ℕ, Bool, ◌+◌, ◌*◌, ◌/◌, ◌%◌, ◌-◌, ◌^◌, ◌==◌, ◌&&◌, not, min, nat_lt, Option, Some, None, List, [], ◌∷◌, length, slice_get, slice_set, true, false, if◌then◌else◌}
 use Rattle.tcp_relay.specs.declared.balance.Candidate.{Candidate}
 
 -- what a worker shows that is to be left no client
@@ -44,6 +44,14 @@ left_to held words = if leaves_to held (least_of words).word then Some (least_of
 -- what the others show: one isn't left a client by itself
 abbrev pub others_of : ℕ → List ℕ → List ℕ
 others_of worker words = slice_set words worker away
+
+-- a worker of so many has no other beside it: it is the first, and there is no second
+abbrev pub is_alone : ℕ → ℕ → Bool
+is_alone worker workers = nat_lt workers 2 && worker == 0
+
+-- one that is alone leaves a client to nobody, whatever is shown
+abbrev pub AloneLaw : Type 0
+AloneLaw = (worker held : ℕ) (words : List ℕ) → is_alone worker (length words) ≡ true → left_to held (others_of worker words) ≡ None
 
 -- whoever is left a client takes it, and leaves it to nobody
 abbrev pub TakenLaw : Type 0

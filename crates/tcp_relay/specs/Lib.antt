@@ -6,10 +6,12 @@ pub mod Counting
 pub mod Counts
 pub mod Draining
 pub mod Fates
+pub mod Greetings
 pub mod ListenerTurns
 pub mod Listening
 pub mod Numbers
 pub mod Passed
+pub mod Releasing
 pub mod Seating
 pub mod Serving
 pub mod Sweeps

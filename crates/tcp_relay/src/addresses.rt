@@ -9,7 +9,7 @@ use rule_eval::Samples;
 use std::net::{IpAddr, Ipv4Addr, Ipv6Addr, SocketAddr};
 
 /// An address as rules know it.
-fn read_ip(ip: IpAddr) -> Address
+pub(crate) fn read_ip(ip: IpAddr) -> Address
     ensures { result ≡ address_of ip }
 {
     match ip {

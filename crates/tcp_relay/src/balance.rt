@@ -48,6 +48,13 @@ pub(crate) fn leaves_to(held: usize, word: usize) -> bool
     !is_away(word) && word / 2 < held
 }
 
+/// Whether a worker of so many has no other beside it, by its number. Then it leaves a client to nobody.
+pub(crate) fn is_alone(worker: usize, workers: usize) -> bool
+    ensures { result ≡ spec.is_alone worker workers }
+{
+    workers < 2 && worker == 0
+}
+
 /// The one of two that shows less, the first where they show as much.
 fn less_of(one: Candidate, other: Candidate) -> Candidate
     ensures { result ≡ spec.less_of one other }

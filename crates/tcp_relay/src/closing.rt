@@ -1,7 +1,8 @@
 //! Connections that end, or are tried again, outside of a turn of their own; `turning` has it done behind its polls.
 
-ghost use Rattle.std.specs.Prelude.{◌≡◌, true, IfSome, None};
+ghost use Rattle.std.specs.Prelude.{◌≡◌, ℕ, true, false, is_some, length, slice_get, IfSome, None};
 ghost use Rattle.tcp_link.specs.Links.{must_be_accepted};
+ghost use Rattle.tcp_relay.specs.Releasing.{GivesBack, OthersStay, held_there, is_open_there};
 ghost use Rattle.tcp_relay.specs.Traffics.{passed};
 ghost use Rattle.tcp_relay.specs.declared.fates.Ending.TheVariants.{Over};
 
@@ -47,14 +48,21 @@ fn ending_of(link: &Link, cause: Option<Ending>) -> Ending
     }
 }
 
-/// Ends the connection in a place, if it is open there, for this cause, or as it is over.
+/// Ends the connection in a place, if it is open there, for this cause, or as it is over. Each reference that it holds is released, or
+/// is held in that place from now on: where a release was refused.
 pub(crate) fn close<'a, T: Table, J: Naming, R: ServeRuntime, G, W: Width>(
     shared: &Shared<'a, R, G, W>,
     worker: &mut Worker<'a, T, J, R, W>,
     clock: &mut RunningClock<'_, R>,
     place: usize,
     cause: Option<Ending>,
-) {
+)
+    ensures back { is_open_there (λ one. is_some one.link) (slice_get worker.old.places.held.items place) ≡ true → GivesBack clock.new worker.old.seated.items worker.new.seated.items (held_there (λ one. one.conn) (slice_get worker.old.places.held.items place)) (held_there (λ one. one.conn) (slice_get worker.new.places.held.items place)) }
+    ensures kept { is_open_there (λ one. is_some one.link) (slice_get worker.old.places.held.items place) ≡ false → held_there (λ one. one.conn) (slice_get worker.new.places.held.items place) ≡ held_there (λ one. one.conn) (slice_get worker.old.places.held.items place) }
+    ensures closed { is_open_there (λ one. is_some one.link) (slice_get worker.new.places.held.items place) ≡ false }
+    ensures others { OthersStay place worker.old.places.held.items worker.new.places.held.items }
+    ensures count { length worker.new.places.held.items ≡ length worker.old.places.held.items }
+{
     let Some((conn, link, counted)) = worker.places.take(place) else {
         return;
     };
@@ -93,12 +101,14 @@ pub(crate) fn count_open<T: Table, J: Naming, R, W: Width>(worker: &mut Worker<'
     }
 }
 
-/// Closes all connections, as a drain has come to its end.
+/// Closes all connections, as a drain has come to its end. None is open any more in any place.
 pub(crate) fn close_all<'a, T: Table, J: Naming, R: ServeRuntime, G, W: Width>(
     shared: &Shared<'a, R, G, W>,
     worker: &mut Worker<'a, T, J, R, W>,
     event_loop: &mut EventLoop<'_, R>,
-) {
+)
+    ensures closed { (place : ℕ) → is_open_there (λ one. is_some one.link) (slice_get worker.new.places.held.items place) ≡ false }
+{
     for place in 0..worker.places.count() {
         let cause = Some(Ending::Drained);
         close(shared, worker, &mut event_loop.clock, place, cause);

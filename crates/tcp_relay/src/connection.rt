@@ -36,6 +36,7 @@ impl<'a, J: Naming, W: Width> Connection<'a, J, W> {
         requires connection { IsVisitor W.tables W.shards conn }
         requires rests { needed conn ≡ Rest }
         ensures conn { result.conn ≡ conn.entry }
+        ensures open { is_some result.link ≡ true }
         ensures counted { result.counted ≡ none }
     {
         Connection {
@@ -49,6 +50,7 @@ impl<'a, J: Naming, W: Width> Connection<'a, J, W> {
     /// A connection that still holds references once it is closed.
     pub(crate) fn kept(conn: Conn<'a, SharedRef<J>>) -> Connection<'a, J, W>
         requires connection { IsVisitor W.tables W.shards conn }
+        ensures conn { result.conn ≡ conn.entry }
         ensures closed { is_some result.link ≡ false }
     {
         Connection {
@@ -63,8 +65,12 @@ impl<'a, J: Naming, W: Width> Connection<'a, J, W> {
     pub(crate) fn parts(self) -> Result<OpenParts<'a, J>, Connection<'a, J, W>>
         ensures connection { IfOk result (λ parts. IsVisitor W.tables W.shards parts.0) }
         ensures rests { IfOk result (λ parts. needed parts.0 ≡ Rest) }
+        ensures conn { IfOk result (λ parts. parts.0 ≡ self.entry.conn) }
+        ensures open { IfOk result (λ _. is_some self.entry.link ≡ true) }
         ensures counted { IfOk result (λ parts. parts.2 ≡ self.entry.counted) }
+        ensures kept { IfErr result (λ kept. kept.conn ≡ self.entry.conn) }
         ensures closed { IfErr result (λ kept. is_some kept.link ≡ false) }
+        ensures was_closed { IfErr result (λ _. is_some self.entry.link ≡ false) }
     {
         let Connection {
             conn,

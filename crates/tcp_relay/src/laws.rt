@@ -2,7 +2,7 @@
 //! an empty function, which no code calls.
 
 ghost use Rattle.tcp_relay.specs.Accepting.{SharesLaw};
-ghost use Rattle.tcp_relay.specs.Balance.{EvenLaw, TakenLaw};
+ghost use Rattle.tcp_relay.specs.Balance.{AloneLaw, EvenLaw, TakenLaw};
 ghost use Rattle.tcp_relay.specs.Draining.{DrainLaw};
 ghost use Rattle.tcp_relay.specs.Passed.{PassedStaysLaw};
 ghost use Rattle.tcp_relay.specs.Sweeps.{LookLaw, SilenceLaw};
@@ -15,6 +15,11 @@ pub fn shares()
 /// Whoever is left a client takes it, and leaves it to nobody, as long as nothing else changes.
 pub fn left_is_taken()
     ensures { TakenLaw }
+{}
+
+/// A worker that is alone leaves a client to nobody, so it needn't look at what is shown.
+pub fn alone_leaves_none()
+    ensures { AloneLaw }
 {}
 
 /// As long as no connection ends, what workers hold that have room differs by one at most.

@@ -3,7 +3,7 @@
 ghost use Rattle.std.specs.Prelude.{◌≡◌, ◌≤◌, ◌<◌, ◌+◌, ◌*◌, ℕ, false, IfSome, None, length, map, option_map, vec_len};
 ghost use Rattle.rule_model.specs.declared.actions.Slot.TheVariants.{Sc0, Sc1, Sc2};
 ghost use Rattle.admit_core.specs.Conn.{progress_of};
-ghost use Rattle.admit_core.specs.Held.{held_at};
+ghost use Rattle.admit_core.specs.Held.{held_at, nothing_held};
 ghost use Rattle.tcp_relay.specs.Seating.{HaveFew, HaveRoom, held_in, put_in_if};
 ghost use Rattle.tcp_relay.specs.Connections.{left_by, left_by_all, left_if};
 
@@ -23,6 +23,7 @@ pub(crate) fn holds<J: Naming>(conn: &Conn<'_, SharedRef<J>>) -> bool
     ensures sc0 { result ≡ false → held_at (progress_of conn.now).held Sc0 ≡ None }
     ensures sc1 { result ≡ false → held_at (progress_of conn.now).held Sc1 ≡ None }
     ensures sc2 { result ≡ false → held_at (progress_of conn.now).held Sc2 ≡ None }
+    ensures held { result ≡ false → (progress_of conn.now).held ≡ nothing_held }
 {
     conn.held(Slot::Sc0).is_some()
         || conn.held(Slot::Sc1).is_some()

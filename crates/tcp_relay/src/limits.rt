@@ -1,8 +1,10 @@
-//! How much is served at once, and how long; `stickd` makes it of the command line, and `serve` goes by it.
+//! How much is served at once, how long, and of whom a server is told; `stickd` makes it of the command line, and `serve` goes by it.
 
+use proxy_header::Version;
 use tcp_link::{Liveness, Timeouts};
 
-/// How many connections are open at once, how long each may be silent, and how the system finds out that a peer is gone.
+/// How many connections are open at once, how long each may be silent, how the system finds out that a peer is gone, and how a server
+/// is told of its clients.
 #[derive(Clone, Copy, Debug, PartialEq, Eq)]
 pub struct Limits {
     /// How many connections are open at once at most, on all threads together. They are shared out evenly; the first threads hold
@@ -13,4 +15,6 @@ pub struct Limits {
     pub retries: u32,
     /// How the system finds out that a server is gone. Of a client it does as the listener says, of which its socket inherits that.
     pub liveness: Liveness,
+    /// By which version of the PROXY protocol a server is told first who its client is. It isn't told without.
+    pub told_by: Option<Version>,
 }

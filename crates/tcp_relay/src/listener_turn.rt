@@ -12,7 +12,9 @@
 ghost use Rattle.std.specs.Prelude.{◌≤◌};
 
 use crate::acceptor::Pause;
-use crate::balance::{AWAY, Candidate, is_away, is_waiting, least_of, leaves_to, left_to};
+use crate::balance::{
+    AWAY, Candidate, is_alone, is_away, is_waiting, least_of, leaves_to, left_to,
+};
 use crate::standing::{NOBODY, Seen, Stand, Told, claims, gives_on, is_held_up, told_as, word_of};
 use crate::watch::{CONNECTIONS, LISTENER, NOTHING};
 use base_sequence::NoMemory;
@@ -231,6 +233,11 @@ impl<'a> WorkerTurn<'a> {
         }
     }
 
+    /// Whether there is no other worker, to whom a client could be left.
+    fn is_alone(&self) -> bool {
+        is_alone(self.worker, self.listener_turn.count())
+    }
+
     /// What the one of the others shows that shows least.
     fn look(&self) -> Candidate {
         let words = self.listener_turn.others(self.worker);
@@ -289,14 +296,15 @@ impl<'a> WorkerTurn<'a> {
     /// It has accepted a client, and holds so many connections beside. If one holds fewer than it would with that client, it is told of
     /// the next.
     pub(crate) fn pass(&self, rt: &impl Wait, held: usize) {
-        if self.listener_turn.told() == self.worker {
+        // One that is alone leaves a client to nobody, whatever is shown: it takes no lock for that with each client.
+        if !self.is_alone() && self.listener_turn.told() == self.worker {
             let _is_left = self.leave(rt, held.saturating_add(1));
         }
     }
 
     /// Whether the clients that wait are another's, where it holds so many connections: that is told of them then, or was before.
     pub(crate) fn leaves(&mut self, rt: &impl Wait, held: usize) -> bool {
-        if !leaves_to(held, self.least) {
+        if self.is_alone() || !leaves_to(held, self.least) {
             return false;
         }
         self.least = self.look().word;

@@ -1,15 +1,19 @@
 //! The connections that a worker holds, by their places' numbers; `worker` keeps them, and `turning` gives them turns.
 
-ghost use Rattle.std.specs.Prelude.{◌≡◌, ◌≤◌, ◌==◌, ◌||◌, not, nat_lt, is_some, length, IfSome, List, None, Some, slice_get, slice_set, vec_capacity, vec_len};
+ghost use Rattle.std.specs.Prelude.{◌≡◌, ◌≤◌, ℕ, ◌==◌, ◌||◌, not, nat_lt, true, false, is_some, length, IfNone, IfSome, List, None, Some, slice_get, slice_set, vec_capacity, vec_len};
 ghost use Rattle.rule_model.specs.declared.sections.Setup.{Setup};
+ghost use Rattle.shard_book.specs.SeatState.{RefState};
 ghost use Rattle.shard_locks.specs.ShardsState.{SeatedState};
-ghost use Rattle.admit_core.specs.Conn.{needed};
+ghost use Rattle.admit_core.specs.Conn.{needed, progress_of};
+ghost use Rattle.admit_core.specs.declared.held.Held.{Held};
 ghost use Rattle.admit_core.specs.declared.need.Need.TheVariants.{Rest};
 ghost use Rattle.tcp_relay.specs.Connections.{IsVisitor};
 ghost use Rattle.tcp_relay.specs.Passed.{HasPassedIn, HaveAllPassed, NoneCame, StaysThere};
+ghost use Rattle.tcp_relay.specs.Releasing.{GivesBack, OthersStay, held_there, is_open_there};
 ghost use Rattle.tcp_relay.specs.Traffics.{uncounted_in};
 
 use crate::connection::{Connection, OpenParts};
+use crate::leaving::{holds, let_go};
 use crate::traffic::Traffic;
 use crate::width::Width;
 use admit_core::Conn;
@@ -66,7 +70,9 @@ impl<'a, J: Naming, W: Width> Places<'a, J, W> {
     }
 
     /// How many places have been in use.
-    pub(crate) fn count(&self) -> usize {
+    pub(crate) fn count(&self) -> usize
+        ensures { result ≡ length self.now.held.items }
+    {
         self.held.as_slice().len()
     }
 
@@ -136,6 +142,9 @@ impl<'a, J: Naming, W: Width> Places<'a, J, W> {
         requires free { slice_get self.old.held.items place ≡ Some None }
         requires connection { IsVisitor W.tables W.shards conn }
         requires rests { needed conn ≡ Rest }
+        ensures held { held_there (λ one. one.conn) (slice_get self.new.held.items place) ≡ (progress_of conn.entry).held }
+        ensures opened { is_open_there (λ one. is_some one.link) (slice_get self.new.held.items place) ≡ true }
+        ensures others { OthersStay place self.old.held.items self.new.held.items }
         ensures passed { (setup : Setup) (seats : List SeatedState) → HasPassedIn setup seats conn.entry → HaveAllPassed (λ one. is_some one.link) (λ one. one.conn) setup seats self.old.held.items → HaveAllPassed (λ one. is_some one.link) (λ one. one.conn) setup seats self.new.held.items }
     {
         self.open = self.open.saturating_add(1);
@@ -143,12 +152,39 @@ impl<'a, J: Naming, W: Width> Places<'a, J, W> {
     }
 
     /// Puts a connection that still holds references in its place.
-    pub(crate) fn put_kept(&mut self, place: usize, conn: Conn<'a, SharedRef<J>>)
+    fn put_kept(&mut self, place: usize, conn: Conn<'a, SharedRef<J>>)
         requires free { slice_get self.old.held.items place ≡ Some None }
         requires connection { IsVisitor W.tables W.shards conn }
+        ensures held { held_there (λ one. one.conn) (slice_get self.new.held.items place) ≡ (progress_of conn.entry).held }
+        ensures closed { is_open_there (λ one. is_some one.link) (slice_get self.new.held.items place) ≡ false }
+        ensures others { OthersStay place self.old.held.items self.new.held.items }
+        ensures count { length self.new.held.items ≡ length self.old.held.items }
         ensures none { NoneCame (λ one. is_some one.link) (λ one. one.conn) self.old.held.items self.new.held.items }
     {
         self.put(place, Connection::kept(conn));
+    }
+
+    /// Leaves a connection that has ended in its place, if it still holds references. Else the place is free. Whether it holds some.
+    #[inline(always)]
+    pub(crate) fn part(&mut self, place: usize, conn: Conn<'a, SharedRef<J>>) -> bool
+        requires free { slice_get self.old.held.items place ≡ Some None }
+        requires connection { IsVisitor W.tables W.shards conn }
+        ensures held { held_there (λ one. one.conn) (slice_get self.new.held.items place) ≡ (progress_of conn.entry).held }
+        ensures closed { is_open_there (λ one. is_some one.link) (slice_get self.new.held.items place) ≡ false }
+        ensures others { OthersStay place self.old.held.items self.new.held.items }
+        ensures count { length self.new.held.items ≡ length self.old.held.items }
+        ensures none { NoneCame (λ one. is_some one.link) (λ one. one.conn) self.old.held.items self.new.held.items }
+
+        // So what a connection has given back, but for what it holds, is given back but for what the place holds.
+        ensures back { (now : ℕ) (old new : List SeatedState) (before : Held RefState) → GivesBack now old new before (progress_of conn.entry).held → GivesBack now old new before (held_there (λ one. one.conn) (slice_get self.new.held.items place)) }
+    {
+        if holds(&conn) {
+            self.put_kept(place, conn);
+            return true;
+        }
+        let_go(conn);
+        self.free(place);
+        false
     }
 
     /// Gives the connection in a place its turn, of which a socket is ready. Whether it is over now.
@@ -230,6 +266,12 @@ impl<'a, J: Naming, W: Width> Places<'a, J, W> {
         ensures free { IfSome result (λ _. slice_get self.new.held.items place ≡ Some None) }
         ensures connection { IfSome result (λ taken. IsVisitor W.tables W.shards taken.0) }
         ensures rests { IfSome result (λ taken. needed taken.0 ≡ Rest) }
+        ensures taken { IfSome result (λ taken. held_there (λ one. one.conn) (slice_get self.old.held.items place) ≡ (progress_of taken.0).held) }
+        ensures was_open { is_some result ≡ is_open_there (λ one. is_some one.link) (slice_get self.old.held.items place) }
+        ensures kept { IfNone result (held_there (λ one. one.conn) (slice_get self.new.held.items place) ≡ held_there (λ one. one.conn) (slice_get self.old.held.items place)) }
+        ensures closed { is_open_there (λ one. is_some one.link) (slice_get self.new.held.items place) ≡ false }
+        ensures others { OthersStay place self.old.held.items self.new.held.items }
+        ensures count { length self.new.held.items ≡ length self.old.held.items }
         ensures none { NoneCame (λ one. is_some one.link) (λ one. one.conn) self.old.held.items self.new.held.items }
     {
         let slot = self.held.get_mut(place)?;

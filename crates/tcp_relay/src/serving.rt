@@ -282,6 +282,7 @@ fn serve_wide<
         timeouts: limits.timeouts,
         retries: limits.retries,
         liveness: limits.liveness,
+        told_by: limits.told_by,
         gate,
         control,
         start,

@@ -8,6 +8,7 @@ use crate::control::Control;
 use crate::listeners::Listeners;
 use crate::width::Width;
 use base_clock::Start;
+use proxy_header::Version;
 use rule_model::Setup;
 use std::alloc::Global;
 use std::marker::PhantomData;
@@ -28,6 +29,8 @@ pub(crate) struct Shared<'a, R, G, W: Width> {
     /// How often a server that refuses a connection is tried again.
     pub(crate) retries: u32,
     pub(crate) liveness: Liveness,
+    /// By which version of the PROXY protocol the server is told first who a client is, if it is.
+    pub(crate) told_by: Option<Version>,
     pub(crate) gate: &'a G,
     pub(crate) control: Control<'a>,
     /// The moment 0.

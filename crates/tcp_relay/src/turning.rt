@@ -1,39 +1,31 @@
 //! A worker's connections, each in its turn; `serving` calls `turn_all` in each worker's loop.
 
 ghost use Rattle.std.specs.Prelude.{◌≡◌, Some, None, slice_get};
-ghost use Rattle.admit_core.specs.Conn.{needed};
-ghost use Rattle.admit_core.specs.declared.need.Need.TheVariants.{Rest};
-ghost use Rattle.tcp_relay.specs.Connections.{IsVisitor};
-ghost use Rattle.tcp_relay.specs.Addresses.{samples_of};
-ghost use Rattle.tcp_relay.specs.Passed.{HasPassedAs};
 
 use crate::accept_errors::{AcceptFault, Shortage, shortage_of};
 use crate::acceptor::Acceptor;
 use crate::buffers::Buffers;
-use crate::closing::{close, close_all, close_silent, count_open, ended_of, retry_due};
+use crate::closing::{close, close_all, close_silent, count_open, retry_due};
 use crate::drain::Phase;
-use crate::fates::{Ended, Ending};
 use crate::listener_turn::WorkerTurn;
 use crate::listeners::Accepted;
 use crate::met::{count_met, met_by};
+use crate::opening::carry;
 use crate::shared::Shared;
 use crate::standing::Stand;
 use crate::sweep::Sweep;
-use crate::traffic::Traffic;
-use crate::visiting::{arrive, end_admitted, end_at, judge_one};
+use crate::visiting::{arrive, end_at, judge_one};
 use crate::watch::{LISTENER, Watch, is_of_connection};
 use crate::width::Width;
 use crate::worker::Worker;
 use crate::{Gate, ServeRuntime};
-use admit_core::Conn;
 use base_clock::{Clock, RunningClock};
 use mio::{Events, net};
-use shard_locks::SharedRef;
 use shard_record::Naming;
 use std::thread;
 use std::time::Duration;
 use stick_table::Table;
-use tcp_link::{Buffer, Link, Ready, reset};
+use tcp_link::{Buffer, Ready, reset};
 
 /// How many connections are accepted before others get their turn.
 const ACCEPTS: u32 = 16;
@@ -70,88 +62,18 @@ fn take_in<'a, T: Table, J: Naming, R: ServeRuntime, G: Gate, W: Width>(
     let samples = accepted.samples();
     let mut conn = arrive(shared, samples);
     let seated = &mut worker.seated;
-    let is_admitted = judge_one(shared, seated, &mut event_loop.clock, number, &mut conn);
-    worker.counted.count_verdict(is_admitted);
-    if is_admitted {
-        carry(shared, worker, event_loop, buffer, place, accepted, conn);
+    let admitted = judge_one(shared, seated, &mut event_loop.clock, number, &mut conn);
+    worker.counted.count_verdict(admitted.is_some());
+    if let Some(admitted) = admitted {
+        carry(
+            shared, worker, event_loop, buffer, place, accepted, conn, admitted,
+        );
         return;
     }
     shared.control.note_rejected(peer);
     // First its references: a client that hears of the reset may come again at once.
     end_at(shared, worker, &mut event_loop.clock, place, conn, false);
     reset(shared.rt, net::TcpStream::from_std(accepted.client));
-}
-
-/// Carries an admitted client to its server. It stands apart from what a rejected one goes through, which needs none of its memory.
-#[inline(never)]
-fn carry<'a, T: Table, J: Naming, R: ServeRuntime, G, W: Width>(
-    shared: &Shared<'a, R, G, W>,
-    worker: &mut Worker<'a, T, J, R, W>,
-    event_loop: &mut EventLoop<'_, R>,
-    buffer: &mut Buffer,
-    place: usize,
-    accepted: Accepted,
-    conn: Conn<'a, SharedRef<J>>,
-)
-    requires connection { IsVisitor W.tables W.shards conn }
-    requires rests { needed conn ≡ Rest }
-    requires passed { HasPassedAs W.setup (samples_of accepted.peer accepted.port) worker.old.seated.items conn }
-    requires free { slice_get worker.old.places.held.items place ≡ Some None }
-{
-    shared.control.gauge.enter();
-    let moment = event_loop.sweep.shows(event_loop.clock.now());
-    match begin(shared, event_loop, buffer, place, accepted, moment) {
-        Ok(link) => worker.places.put_open(place, conn, link),
-        Err(ended) => {
-            end_admitted(shared, worker, &mut event_loop.clock, place, conn, ended);
-        }
-    }
-}
-
-/// Connects an admitted client to its server, and moves what is there already. Where that is over at once, how it ended.
-fn begin<R: ServeRuntime, G, W: Width>(
-    shared: &Shared<'_, R, G, W>,
-    event_loop: &mut EventLoop<'_, R>,
-    buffer: &mut Buffer,
-    place: usize,
-    accepted: Accepted,
-    moment: u64,
-) -> Result<Link, Ended> {
-    let Accepted { client, peer, .. } = accepted;
-    // Only now: a rejected client needs it not.
-    if client.set_nonblocking(true).is_err() {
-        return Err(Ended::unbegun(Ending::Over));
-    }
-    let client = net::TcpStream::from_std(client);
-    let Some(server) = event_loop.acceptor.take_server() else {
-        return Err(Ended::unbegun(Ending::Over));
-    };
-    let retries = shared.retries;
-    match Link::open(shared.rt, shared.alloc, client, server, moment, retries) {
-        Ok(link) => start(shared, event_loop, buffer, place, link, moment),
-        Err(unreached) => {
-            shared.control.note_unreached(unreached, peer);
-            Err(Ended::unbegun(Ending::Unreached(unreached.fault)))
-        }
-    }
-}
-
-/// Moves what the client has sent already. Where the connection is over at once, how it ended.
-fn start<R: ServeRuntime, G, W: Width>(
-    shared: &Shared<'_, R, G, W>,
-    event_loop: &mut EventLoop<'_, R>,
-    buffer: &mut Buffer,
-    place: usize,
-    mut link: Link,
-    moment: u64,
-) -> Result<Link, Ended> {
-    if link.start(event_loop.watch.registry(), place, moment, buffer) {
-        return Ok(link);
-    }
-    let ended = ended_of(&link, Traffic::none(), None);
-    shared.control.note_end(ended.ending, &link);
-    link.close(shared.rt);
-    Err(ended)
 }
 
 /// What becomes of a client that couldn't be accepted.

@@ -1,19 +1,21 @@
 //! One connection, from its acceptance to the release of its references; `turning` judges, closes and ends by it.
 
-ghost use Rattle.std.specs.Prelude.{◌≡◌, ◌≤◌, true, Some, None, slice_get, vec_len};
+ghost use Rattle.std.specs.Prelude.{◌≡◌, ◌≤◌, true, false, is_some, length, IfSome, Some, None, slice_get, vec_len};
 ghost use Rattle.shard_book.specs.SeatState.{RefState};
 ghost use Rattle.rule_eval.specs.declared.wants.Samples.{Samples};
 ghost use Rattle.admit_core.specs.Conn.{needed, progress_of, Stands};
 ghost use Rattle.admit_core.specs.Connection.{Connection, arrived, closed_of};
+ghost use Rattle.admit_core.specs.Left.{is_rest};
 ghost use Rattle.admit_core.specs.declared.need.Need.TheVariants.{Rest};
 ghost use Rattle.tcp_relay.specs.Connections.{IsVisitor};
 ghost use Rattle.tcp_relay.specs.Moments.{HaveCalledAt};
 ghost use Rattle.tcp_relay.specs.Passed.{HasPassedLimits, HavePassedStill, IsOf};
+ghost use Rattle.tcp_relay.specs.Releasing.{GivesBack, OthersStay, held_there, is_ending, is_open_there};
 ghost use Rattle.tcp_relay.specs.Seating.{AreIn, StoreAs};
 ghost use Rattle.tcp_relay.specs.Untracked.{IsUntrackedSince};
 
+use crate::admitted::Admitted;
 use crate::fates::Ended;
-use crate::leaving::{holds, let_go};
 use crate::shared::Shared;
 use crate::width::Width;
 use crate::worker::Worker;
@@ -38,16 +40,16 @@ pub(crate) fn arrive<'a, J: Naming, R, G, W: Width>(
     Conn::new(shared.setup, samples)
 }
 
-/// Has a connection judged by the rules, all at the moment that the clock shows as they begin, and passes it through the gate. Whether it is
-/// admitted: then its source has passed the limit that the rules begin with, by the records that the seats know. Where it holds no
-/// reference to its source, the table was asked for one, and gave none.
+/// Has a connection judged by the rules, all at the moment that the clock shows as they begin, and passes it through the gate. Gives the
+/// sign of it where it is admitted: then its source has passed the limit that the rules begin with, by the records that the seats know.
+/// Where it holds no reference to its source, the table was asked for one, and gave none.
 pub(crate) fn judge_one<'a, T: Table, J: Naming, R: ServeRuntime, G: Gate, W: Width>(
     shared: &Shared<'a, R, G, W>,
     seated: &mut Vec<Seated<'a, T, J, R>>,
     clock: &mut RunningClock<'_, R>,
     number: u64,
     conn: &mut Conn<'a, SharedRef<J>>,
-) -> bool
+) -> Option<Admitted<'a, J>>
     requires count { vec_len seated.old ≡ W.tables }
     requires shards { AreIn (λ one. one.table.shards) W.shards seated.old.items }
     requires current { StoreAs (λ one. one.table.spec) W.current seated.old.items }
@@ -56,21 +58,24 @@ pub(crate) fn judge_one<'a, T: Table, J: Naming, R: ServeRuntime, G: Gate, W: Wi
     ensures shards { AreIn (λ one. one.table.shards) W.shards seated.new.items }
     ensures current { StoreAs (λ one. one.table.spec) W.current seated.new.items }
     ensures connection { IsVisitor W.tables W.shards conn.new }
-    ensures rests { result ≡ true → needed conn.new ≡ Rest }
+    ensures rests { is_some result ≡ true → needed conn.new ≡ Rest }
+    ensures admitted { is_some result ≡ is_rest (needed conn.new) }
+    ensures sign { IfSome result (λ admitted. admitted.conn.value ≡ conn.new) }
     ensures still { HavePassedStill seated.old.items seated.new.items }
     ensures later { clock.old ≤ clock.new }
     ensures moment { (connection : Connection RefState) → Stands conn.old connection → HaveCalledAt clock.new seated.old.items seated.new.items }
 
     // Of one that has just come.
     ensures of { (samples : Samples) → Stands conn.old (arrived shared.now.setup.now samples) → IsOf shared.now.setup.now samples conn.new }
-    ensures passed { (samples : Samples) → Stands conn.old (arrived shared.now.setup.now samples) → result ≡ true → HasPassedLimits shared.now.setup.now samples seated.new.items conn.new }
-    ensures untracked { (samples : Samples) → Stands conn.old (arrived shared.now.setup.now samples) → result ≡ true → IsUntrackedSince seated.old.items seated.new.items shared.now.setup.now samples conn.new }
+    ensures passed { (samples : Samples) → Stands conn.old (arrived shared.now.setup.now samples) → is_some result ≡ true → HasPassedLimits shared.now.setup.now samples seated.new.items conn.new }
+    ensures ending { (samples : Samples) → Stands conn.old (arrived shared.now.setup.now samples) → is_some result ≡ false → is_ending conn.new ≡ true }
+    ensures untracked { (samples : Samples) → Stands conn.old (arrived shared.now.setup.now samples) → is_some result ≡ true → IsUntrackedSince seated.old.items seated.new.items shared.now.setup.now samples conn.new }
 {
     let mut stopped = StoppedClock::at(clock.now());
     let ports = seated.as_mut_slice();
     let is_admitted = judge(shared.alloc, ports, conn, &mut stopped);
     shared.gate.pass(number);
-    is_admitted
+    Admitted::of(conn, is_admitted)
 }
 
 /// Closes an admitted connection, after so many bytes came in and went out.
@@ -83,6 +88,8 @@ fn closed<'a, J: Naming, W: Width>(
     requires rests { needed conn ≡ Rest }
     ensures closed { progress_of result ≡ closed_of (progress_of conn.entry) bytes_in bytes_out }
     ensures connection { IsVisitor W.tables W.shards result }
+    ensures ending { is_ending result ≡ true }
+    ensures held { (progress_of result).held ≡ (progress_of conn.entry).held }
 {
     conn.close(bytes_in, bytes_out);
     conn
@@ -100,6 +107,7 @@ fn leave<'a, T: Table, J: Naming, R: ServeRuntime, G, W: Width>(
     requires shards { AreIn (λ one. one.table.shards) W.shards seated.old.items }
     requires current { StoreAs (λ one. one.table.spec) W.current seated.old.items }
     requires connection { IsVisitor W.tables W.shards conn.old }
+    requires ending { is_ending conn.old ≡ true }
     ensures count { vec_len seated.new ≡ W.tables }
     ensures shards { AreIn (λ one. one.table.shards) W.shards seated.new.items }
     ensures current { StoreAs (λ one. one.table.spec) W.current seated.new.items }
@@ -107,6 +115,7 @@ fn leave<'a, T: Table, J: Naming, R: ServeRuntime, G, W: Width>(
     ensures still { HavePassedStill seated.old.items seated.new.items }
     ensures later { clock.old ≤ clock.new }
     ensures moment { (connection : Connection RefState) → Stands conn.old connection → HaveCalledAt clock.new seated.old.items seated.new.items }
+    ensures back { GivesBack clock.new seated.old.items seated.new.items (progress_of conn.old).held (progress_of conn.new).held }
 {
     let mut stopped = StoppedClock::at(clock.now());
     let ports = seated.as_mut_slice();
@@ -114,7 +123,8 @@ fn leave<'a, T: Table, J: Naming, R: ServeRuntime, G, W: Width>(
     let _rested = finish(shared.alloc, ports, conn, &mut stopped);
 }
 
-/// Ends the connection of a place that is claimed, and counts it. One that still holds references keeps the place.
+/// Ends the connection of a place that is claimed, and counts it. Each reference that it holds is released, or is held in that place
+/// from now on: where a release was refused.
 #[inline(always)]
 pub(crate) fn end_at<'a, T: Table, J: Naming, R: ServeRuntime, G, W: Width>(
     shared: &Shared<'a, R, G, W>,
@@ -125,17 +135,18 @@ pub(crate) fn end_at<'a, T: Table, J: Naming, R: ServeRuntime, G, W: Width>(
     is_admitted: bool,
 )
     requires connection { IsVisitor W.tables W.shards conn }
+    requires ending { is_ending conn ≡ true }
     requires free { slice_get worker.old.places.held.items place ≡ Some None }
+    ensures back { GivesBack clock.new worker.old.seated.items worker.new.seated.items (progress_of conn.entry).held (held_there (λ one. one.conn) (slice_get worker.new.places.held.items place)) }
+    ensures closed { is_open_there (λ one. is_some one.link) (slice_get worker.new.places.held.items place) ≡ false }
+    ensures others { OthersStay place worker.old.places.held.items worker.new.places.held.items }
+    ensures count { length worker.new.places.held.items ≡ length worker.old.places.held.items }
 {
     worker.tally.count(is_admitted);
     leave(shared, &mut worker.seated, clock, &mut conn);
-    if holds(&conn) {
+    if worker.places.part(place, conn) {
         worker.keeps = true;
-        worker.places.put_kept(place, conn);
-        return;
     }
-    let_go(conn);
-    worker.places.free(place);
 }
 
 /// Ends an admitted connection of a place that is claimed, and counts how.
@@ -150,6 +161,10 @@ pub(crate) fn end_admitted<'a, T: Table, J: Naming, R: ServeRuntime, G, W: Width
     requires connection { IsVisitor W.tables W.shards conn }
     requires rests { needed conn ≡ Rest }
     requires free { slice_get worker.old.places.held.items place ≡ Some None }
+    ensures back { GivesBack clock.new worker.old.seated.items worker.new.seated.items (progress_of conn.entry).held (held_there (λ one. one.conn) (slice_get worker.new.places.held.items place)) }
+    ensures closed { is_open_there (λ one. is_some one.link) (slice_get worker.new.places.held.items place) ≡ false }
+    ensures others { OthersStay place worker.old.places.held.items worker.new.places.held.items }
+    ensures count { length worker.new.places.held.items ≡ length worker.old.places.held.items }
 {
     worker.counted.count_end(ended);
     let conn = closed::<J, W>(conn, ended.traffic.bytes_in, ended.traffic.bytes_out);

@@ -1,6 +1,8 @@
 -- What the clients of a socket may do, by its level (HAProxy Configuration Manual 2.6, `level`; Management Guide 2.6, 9.3).
 use Rattle.std.specs.Prelude.{ℕ, Bool, true, false, Option, Some, None, List, codes, if◌then◌else◌}
 use Rattle.std.specs.Str.{bytes_eq}
+use Rattle.table_cli.specs.declared.clear_matching.Deed.{Deed}
+use Rattle.table_cli.specs.declared.clear_matching.Deed.TheVariants.{Remove, Show}
 use Rattle.table_texts.specs.Form as forms
 use Rattle.tcp_stats.specs.CommandForms as commands
 use Rattle.tcp_watch.specs.declared.level.Level.{Level}
@@ -31,6 +33,16 @@ abbrev pub changed_by : Level → Permission
 changed_by User = Nothing
 changed_by Operator = Nothing
 changed_by Admin = All
+
+-- of the entries that several filters mean as much is shown as of those that one does
+abbrev pub shown_by_filters : Level → Permission
+shown_by_filters User = HeaderAlone
+shown_by_filters Operator = All
+shown_by_filters Admin = All
+
+abbrev pub permission_of_filters : Level → Deed → Permission
+permission_of_filters level Show = shown_by_filters level
+permission_of_filters level Remove = changed_by level
 
 abbrev pub request_by : Level → forms.Request → Permission
 request_by level (forms.Show choice) = shown_to level choice

@@ -6,6 +6,7 @@ ghost use Rattle.table_texts.specs.Seen.{seen_choice, seen_request, words_of};
 ghost use Rattle.tcp_stats.specs.SeenCommands.{seen};
 ghost use Rattle.tcp_watch.specs.Levels as spec;
 
+use table_cli::Deed;
 use table_texts::{Choice, Form, Request, read_form};
 use tcp_stats::StatsCommand;
 
@@ -65,6 +66,26 @@ fn changed_by(level: Level) -> Permission
     match level {
         Level::User | Level::Operator => Permission::Nothing,
         Level::Admin => Permission::All,
+    }
+}
+
+/// How much clients of a level are shown of the entries that several filters mean: as much as of those that one does.
+fn shown_by_filters(level: Level) -> Permission
+    ensures { result ≡ spec.shown_by_filters level }
+{
+    match level {
+        Level::User => Permission::HeaderAlone,
+        Level::Operator | Level::Admin => Permission::All,
+    }
+}
+
+/// How much is done for clients of a level with the entries that several filters mean.
+pub fn permission_of_filters(level: Level, deed: Deed) -> Permission
+    ensures { result ≡ spec.permission_of_filters level deed }
+{
+    match deed {
+        Deed::Show => shown_by_filters(level),
+        Deed::Remove => changed_by(level),
     }
 }
 

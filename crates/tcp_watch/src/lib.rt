@@ -2,8 +2,8 @@
 //! from its service manager; `tcp_proxy` and `stickd` call it.
 //!
 //! - `StatsService` and `MetricsService` serve clients, and `LimitedService` those of a command socket below the level of an administrator;
-//!   `permission_of` and `may_ask` say what a `Level` permits. The texts are those of `tcp_stats`, and a command on a table is answered as on the
-//!   command socket, by `table_cli`. `Program` is what is asked of the program itself.
+//!   `permission_of`, `permission_of_filters` and `may_ask` say what a `Level` permits. The texts are those of `tcp_stats`, and a command on
+//!   a table is answered as on the command socket, by `table_cli`. `Program` is what is asked of the program itself.
 //! - Of the service manager what decides is pure: `count_pending` of a status, `read_handed` of the environment, `refusal_of` of what is
 //!   handed over, `NotifyAddress` and the texts of messages, and the `Rhythm` in which something is done. `ProcessStatus`, `Notifier`,
 //!   `look_at`, `take_tcp`, `take_unix` and `read_surroundings` are the thin calls round it.
@@ -37,7 +37,7 @@ pub use handed::{
     FIRST_HANDED, HandedFault, HandedSocket, MOST_HANDED, Purpose, Refusal, SocketFacts,
     first_handed, has_handed, purpose_of, read_handed, refusal_of,
 };
-pub use level::{Level, Permission, level_named, may_ask, permission_of};
+pub use level::{Level, Permission, level_named, may_ask, permission_of, permission_of_filters};
 pub use limited::LimitedService;
 pub use metrics::MetricsService;
 pub use notifier::Notifier;

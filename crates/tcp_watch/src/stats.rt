@@ -5,7 +5,7 @@ ghost use Rattle.tcp_watch.specs.Conversations as spec;
 
 use crate::conversation::{BEGUN, Conversation, READ_BYTES, Stay, is_cut};
 use crate::level::{Level, may_ask};
-use crate::permitted::answer_permitted;
+use crate::permitted::answer_with_filters;
 use crate::program::{Program, Shutdown};
 use crate::teller::{Teller, Told};
 use base_clock::Clock;
@@ -96,7 +96,7 @@ impl<'p, K: Keeper, C: Clock, P: Program> StatsService<'p, K, C, P> {
         }
     }
 
-    /// Answers a command on a table, by the code of the command socket, as far as the level permits.
+    /// Answers a command on a table, as far as the level permits.
     fn ask_table<W: Sink>(
         &mut self,
         command: &[u8],
@@ -110,7 +110,7 @@ impl<'p, K: Keeper, C: Clock, P: Program> StatsService<'p, K, C, P> {
             program: _,
         } = &mut self.teller;
         let tables = tables.as_mut_slice();
-        answer_permitted(*alloc, tables, clock, self.level, command, writer)?;
+        answer_with_filters(*alloc, tables, clock, self.level, command, writer)?;
         write_answer(writer, b"", talk)
     }
 

@@ -1,10 +1,14 @@
 """Trials of a server that refuses: it is tried again as often as was asked, a second apart, and what the client sent isn't lost."""
 import contextlib
+import os
 import socket
+import tempfile
 import threading
 import time
 
-from lib.proxy import PATIENCE, TABLE, TRACK, FarServer, Proxy, closed_after, echoes, end_of, free_port, read_all, reset, wait_for
+from lib.proxy import (PATIENCE, TABLE, TRACK, FarServer, Proxy, Server, closed_after, echoes, end_of, free_port, greets, is_greeted, read_all,
+                       reject_above, reset, wait_for)
+from lib.shims import build_shim
 
 
 def opens_after(seconds, port, serve):
@@ -135,6 +139,36 @@ def a_server_that_accepts_and_resets_is_tried_once():
     assert seen == ['reset'] * 5, seen
 
 
+def no_reference_outlives_its_end():
+    """Once a client has heard of its reset or of its end its table shows no reference of it, however slow the thread that ended it is to
+    go on: of those that are rejected, of those whose server refuses and of one that was silent for too long."""
+    with tempfile.TemporaryDirectory() as room:
+        slow = {**os.environ, 'LD_PRELOAD': build_shim(room, 'slow_close'), 'SLOW_CLOSE': '300'}
+        with Server(greets) as server, Proxy(server.port, [TABLE, TRACK, reject_above(1)], '--timeout-client', '3s', environment=slow) as proxy:
+            with proxy.connect() as held:
+                assert is_greeted(held)
+                for _ in range(5):
+                    assert end_of(proxy.connect()) == 'reset'
+                    assert proxy.rows()['127.0.0.1']['use'] == 1, proxy.rows()
+                assert end_of(held) == 'orderly'
+                assert proxy.rows()['127.0.0.1']['use'] == 0, proxy.rows()
+        with Proxy(free_port(), [TABLE, TRACK, reject_above(1)], environment=slow) as proxy:
+            for _ in range(5):
+                assert end_of(proxy.connect()) == 'orderly'
+                assert proxy.rows()['127.0.0.1']['use'] == 0, proxy.rows()
+
+
+def who_hears_of_an_end_may_come_again():
+    """With a limit of one, a client whose server refuses connects again as soon as it hears of its end, and isn't rejected, however slow
+    the thread that ended it is to go on: its reference was given back before."""
+    with tempfile.TemporaryDirectory() as room:
+        slow = {**os.environ, 'LD_PRELOAD': build_shim(room, 'slow_close'), 'SLOW_CLOSE': '50'}
+        with Proxy(free_port(), [TABLE, TRACK, reject_above(1)], threads=4, environment=slow) as proxy:
+            for turn in range(20):
+                with proxy.connect() as client:
+                    assert end_of(client) == 'orderly', f'client {turn} is rejected'
+
+
 TRIALS = [a_server_that_comes_gets_all, it_is_tried_as_often_as_asked, a_client_that_leaves_is_noticed,
           a_server_that_accepted_is_not_tried_again, a_client_that_sent_and_leaves_is_noticed,
-          a_server_that_accepts_and_resets_is_tried_once]
+          a_server_that_accepts_and_resets_is_tried_once, no_reference_outlives_its_end, who_hears_of_an_end_may_come_again]

@@ -60,6 +60,18 @@ COMMANDS = [
      '# table: six, type: ipv6, size:1024, used:1\n' + NEW.format('::102:304', 'gpc0=1')),
     ('set table bytes key c0000201 data.gpc0 1',
      'Inserting keys into tables of type other than ip, ipv6, string and integer is not supported\n\n', '\n'),
+    ('set table data key 10.0.0.7 data.gpc0 3 data.conn_cnt 4', '\n', '\n'),
+    ('show table data data.gpc0 gt 2 data.conn_cnt gt 3',
+     '# table: data, type: ip, size:1024, used:4\n' + NEW.format('10.0.0.7', 'gpc0=3 conn_cnt=4 conn_rate(10000)=0'),
+     '# table: data, type: ip, size:1024, used:1\n' + NEW.format('10.0.0.7', 'gpc0=3 conn_cnt=4 conn_rate(10000)=0')),
+    ('show table data data.gpc0 gt 2 data.gpc1 gt 3', 'Filter entry #2: Data type not stored in this table\n\n',
+     'Data type not stored in this table.\n\n'),
+    ('show table data data.gpc0 gt 2 data.conn_cnt gt x', 'Filter entry #2: Require a valid integer value to compare against\n\n',
+     'Invalid value.\n\n'),
+    ('show table data' + 5 * ' data.gpc0 gt 0', "Detected extra data in filter, 16th word of input, after '0'\n\n", 'Unknown command.\n\n'),
+    ('clear table data data.gpc0 gt 2 data.conn_cnt gt 3', '\n', '\n'),
+    ('show table data data.gpc0 gt 2 data.conn_cnt gt 3', '# table: data, type: ip, size:1024, used:3\n\n',
+     '# table: data, type: ip, size:1024, used:0\n\n'),
     ('clear table bytes key c0000201', 'Removing keys from tables of type other than ip, ipv6, string and integer is not supported\n\n', '\n'),
 ]
 

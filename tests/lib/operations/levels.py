@@ -28,6 +28,10 @@ ANSWERS = [
 OF_STATS = [
     ('show errors', DENIED, '\n', '\n'),
     ('show table www oldest-first', DENIED, SHOWN, SHOWN),
+    ('show table www data.conn_cnt gt 1 data.conn_cur eq 0', HEADER + HIDDEN + '\n', SHOWN, SHOWN),
+    ('show table www data.conn_cnt gt 1 data.conn_cur gt 0', HEADER + HIDDEN + '\n', HEADER + '\n', HEADER + '\n'),
+    ('clear table www data.conn_cnt gt 1 data.conn_cur gt 0', DENIED, DENIED, '\n'),
+    ('show table none data.conn_cnt gt 1 data.conn_cur gt 0', 'No such table.\n\n', 'No such table.\n\n', 'No such table.\n\n'),
     ('shutdown frontend', DENIED, DENIED, 'A frontend name is expected.\n\n'),
     ('shutdown frontend none', DENIED, DENIED, 'No such frontend.\n\n'),
 ]

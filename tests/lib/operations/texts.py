@@ -64,7 +64,7 @@ RATES = ('rate', 'rate_max', 'conn_rate', 'conn_rate_max')
 
 # The metrics then, by Prometheus' text format 0.0.4, without what is said of each. A star stands for what another run has otherwise.
 METRICS = '''# TYPE stickd_build_info gauge
-stickd_build_info{version="0.1.0"} 1
+stickd_build_info{version="0.2.0"} 1
 # TYPE stickd_connections gauge
 stickd_connections 0
 # TYPE stickd_connections_peak gauge

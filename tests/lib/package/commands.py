@@ -24,8 +24,8 @@ ERRORS = {
 # Programs that are no stickd, or of which the help can't be read.
 PROGRAMS = {
     'silent': 'exit 3',
-    'bare': '[ "$1" = --version ] && echo stickd 0.1.0 || printf "Commands:\\n  help  Help\\n"',
-    'strange': '[ "$1" = --version ] && echo stickd 0.1.0 || printf "Options:\\n  --with\\n"'}
+    'bare': '[ "$1" = --version ] && echo stickd 0.2.0 || printf "Commands:\\n  help  Help\\n"',
+    'strange': '[ "$1" = --version ] && echo stickd 0.2.0 || printf "Options:\\n  --with\\n"'}
 
 
 def errors_are_told():

@@ -1,13 +1,14 @@
-use Rattle.std.proofs.Common.{◌≡◌, true, subst}
+use Rattle.std.proofs.Common.{◌≡◌, true, is_some, ap, subst, Some}
 use Rattle.tcp_relay.specs.Passed.{HasPassedAs}
 use Rattle.tcp_relay.proofs.UntrackedGoes.{untracked_for}
 use Rattle.tcp_relay.proofs.turning.take_in.Goals as goal
 
 pub carry-requires-clause-passed : goal.carry-requires-clause-passed
 carry-requires-clause-passed g c _ _ =
-    let judged = c.judge_one-is_admitted in
+    let judged = c.judge_one-admitted in
     let samples = c.samples-samples.result in
     let stands = c.arrive-conn.ensures.stands in
-    let admitted : judged.result ≡ true = c.if-is_admitted.true in
+    let sign : judged.result ≡ Some c.in-Some.admitted = cc (c.in-Some.is) in
+    let admitted : is_some judged.result ≡ true = ap is_some sign in
     subst (λ came. HasPassedAs g.W.Width.setup came judged.new.seated.items judged.new.conn) c.samples-samples.ensures.told
     (subst (λ setup. HasPassedAs setup samples judged.new.seated.items judged.new.conn) c.args.shared.now.judges (judged.ensures.of samples stands, judged.ensures.passed samples stands admitted, untracked_for c.args.shared.now.setup.now samples c.args.worker.now.seated.items judged.new.seated.items judged.new.conn (judged.ensures.untracked samples stands admitted)))

@@ -2,6 +2,7 @@ use Rattle.std.proofs.Common.{◌∙◌, ◌++◌, drop, length, subst, sym, tak
 use Rattle.std.specs.Vec.{vec_len}
 use Rattle.tcp_relay.specs.Moments.{HaveCalledAt}
 use Rattle.tcp_relay.proofs.ConnectionLemmas.{called_still, each_still, lent_store, passed_still, ports_of, ready, still_passed, stored_still, untracked_still, visitor_still}
+use Rattle.tcp_relay.proofs.EndingGoes.{judged_ends}
 use Rattle.tcp_relay.proofs.MomentGoes.{judged_called}
 use Rattle.tcp_relay.proofs.PassedGoes.{judged_passed}
 use Rattle.tcp_relay.proofs.PassedOf.{judged_of}
@@ -46,14 +47,14 @@ returns-clause-passed g c samples stands admitted =
     let judged = c.judge-is_admitted in
     passed_still g.W.Width.tables g.W.Width.shards c.args.seated.now lent.result.now lent.ensures.value lent.ensures.len c.requires.count c.requires.shards judged.new.ports judged.ensures.parts c.args.shared.now.setup.now samples judged.new.conn
     (judged_passed _ c.args.shared.now.setup.now samples (ports_of lent.result.now) (ports_of judged.new.ports) c.args.conn.now judged.new.conn _ _ g.W.Width.current c.args.shared.now.current
-    (lent_store g.W.Width.tables g.W.Width.shards c.args.seated.now lent.result.now lent.ensures.value lent.ensures.len c.requires.count c.requires.shards g.W.Width.current c.requires.current) stands judged.ensures.gone judged.ensures.judged (judged.ensures.rests admitted))
+    (lent_store g.W.Width.tables g.W.Width.shards c.args.seated.now lent.result.now lent.ensures.value lent.ensures.len c.requires.count c.requires.shards g.W.Width.current c.requires.current) stands judged.ensures.gone judged.ensures.judged (judged.ensures.rests (judged.ensures.admitted ∙ sym c.of.ensures.exact ∙ admitted)))
 
 pub returns-clause-untracked : goal.returns-clause-untracked
 returns-clause-untracked g c samples stands admitted =
     let lent = c.as_mut_slice-ports in
     let judged = c.judge-is_admitted in
     untracked_still g.W.Width.tables g.W.Width.shards c.args.seated.now lent.result.now lent.ensures.value lent.ensures.len c.requires.count c.requires.shards judged.new.ports judged.ensures.parts c.args.shared.now.setup.now samples judged.new.conn
-    (judged_untracked _ c.args.shared.now.setup.now samples (ports_of lent.result.now) (ports_of judged.new.ports) c.args.conn.now judged.new.conn _ _ stands judged.ensures.gone judged.ensures.judged (judged.ensures.rests admitted))
+    (judged_untracked _ c.args.shared.now.setup.now samples (ports_of lent.result.now) (ports_of judged.new.ports) c.args.conn.now judged.new.conn _ _ stands judged.ensures.gone judged.ensures.judged (judged.ensures.rests (judged.ensures.admitted ∙ sym c.of.ensures.exact ∙ admitted)))
 
 pub returns-clause-moment : goal.returns-clause-moment
 returns-clause-moment g c connection stands =
@@ -69,3 +70,9 @@ returns-clause-still g c =
     let judged = c.judge-is_admitted in
     still_passed g.W.Width.tables g.W.Width.shards c.args.seated.now lent.result.now lent.ensures.value lent.ensures.len c.requires.count c.requires.shards judged.new.ports judged.ensures.parts
     (judged_keep _ (ports_of lent.result.now) (ports_of judged.new.ports) c.args.conn.now judged.new.conn _ _ c.requires.connection.living judged.ensures.gone)
+
+pub returns-clause-ending : goal.returns-clause-ending
+returns-clause-ending g c samples stands rejected =
+    let lent = c.as_mut_slice-ports in
+    let judged = c.judge-is_admitted in
+    judged_ends _ c.args.shared.now.setup.now samples (ports_of lent.result.now) (ports_of judged.new.ports) c.args.conn.now judged.new.conn _ _ stands judged.ensures.gone judged.ensures.judged (sym c.of.ensures.exact ∙ rejected)

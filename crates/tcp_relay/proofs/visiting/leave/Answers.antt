@@ -1,9 +1,12 @@
 use Rattle.std.proofs.Common.{◌∙◌, ◌++◌, drop, length, subst, sym, take}
 use Rattle.std.specs.Vec.{vec_len}
 use Rattle.tcp_relay.specs.Moments.{HaveCalledAt}
-use Rattle.tcp_relay.proofs.ConnectionLemmas.{called_still, each_still, lent_store, ports_of, ready, still_passed, stored_still, visitor_still}
+use Rattle.admit_core.specs.Conn.{progress_of}
+use Rattle.tcp_relay.specs.Releasing.{GivesBack}
+use Rattle.tcp_relay.proofs.ConnectionLemmas.{back_still, called_still, each_still, lent_store, ports_of, ready, still_passed, stored_still, visitor_still}
 use Rattle.tcp_relay.proofs.MomentGoes.{rested_called}
 use Rattle.tcp_relay.proofs.PassedStays.{rests_keep, rests_store}
+use Rattle.tcp_relay.proofs.ReleasingGoes.{rested_back}
 use Rattle.tcp_relay.proofs.visiting.leave.Goals as goal
 
 pub finish-rested-requires-clause-ready : goal.finish-rested-requires-clause-ready
@@ -45,3 +48,12 @@ returns-clause-still g c =
     let rested = c.finish-rested in
     still_passed g.W.Width.tables g.W.Width.shards c.args.seated.now lent.result.now lent.ensures.value lent.ensures.len c.requires.count c.requires.shards rested.new.ports rested.ensures.parts
     (rests_keep _ (ports_of lent.result.now) (ports_of rested.new.ports) c.args.conn.now rested.new.conn _ _ rested.result c.requires.connection.living rested.ensures.rested)
+
+pub returns-clause-back : goal.returns-clause-back
+returns-clause-back g c =
+    let lent = c.as_mut_slice-ports in
+    let rested = c.finish-rested in
+    subst (λ now. GivesBack now c.args.seated.now.items (take (vec_len c.args.seated.now) (rested.new.ports ++ drop (length rested.new.ports) c.args.seated.now.items)) (progress_of c.args.conn.now).held (progress_of rested.new.conn).held)
+    (c.at-stopped.ensures ∙ sym c.now.ensures.shows.1)
+    (back_still g.W.Width.tables g.W.Width.shards c.args.seated.now lent.result.now lent.ensures.value lent.ensures.len c.requires.count c.requires.shards rested.new.ports rested.ensures.parts _ _ _
+    (rested_back (ports_of lent.result.now) (ports_of rested.new.ports) c.args.conn.now rested.new.conn _ _ rested.result c.requires.connection.living c.requires.ending c.requires.connection.given rested.ensures.rested))

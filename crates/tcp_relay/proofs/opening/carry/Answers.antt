@@ -1,6 +1,6 @@
 use Rattle.std.proofs.Common.{◌≡◌}
 use Rattle.tcp_relay.specs.Addresses.{samples_of}
-use Rattle.tcp_relay.proofs.turning.carry.Goals as goal
+use Rattle.tcp_relay.proofs.opening.carry.Goals as goal
 
 pub invariant_of-worker-clause-passed : goal.invariant_of-worker-clause-passed
 invariant_of-worker-clause-passed g c =
