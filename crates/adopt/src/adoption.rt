@@ -12,11 +12,10 @@ use crate::command::{HEAD, command_of};
 use crate::fates::{Fate, FateKind, fates_of};
 use crate::lexer::SourceLine;
 use crate::options::{CommandOption, command_options};
-use crate::plan::{PatternFile, Plan, Wishes, pattern_files};
-use crate::reasons::Why;
-use crate::source_lines::read_lines;
-use crate::texts::{copy_text, copy_words, text_of};
-use crate::variables::Variable;
+use crate::plan::{PatternFile, Wishes, pattern_files};
+use crate::reasons::Made;
+use crate::source_lines::{Variable, read_lines};
+use crate::texts::{append, copy_text, copy_words, text_of};
 use crate::written::{Adopted, push_line, push_pieces};
 use base_sequence::NoMemory;
 use std::alloc::Global;
@@ -50,33 +49,26 @@ pub fn wanted_files(
     pattern_files(alloc, lines.as_slice())
 }
 
-/// The first line of a file.
-fn first_raw(lines: &[SourceLine]) -> Option<&[u8]> {
-    match lines.first() {
-        Some(line) => Some(line.raw.as_slice()),
-        None => None,
-    }
-}
-
-/// Whether a file begins with the command line that stands for what it lost.
-fn has_command(lines: &[SourceLine]) -> bool {
-    first_raw(lines).is_some_and(|raw| raw.starts_with(HEAD.as_bytes()))
-}
-
-/// The lines in front of those of the file: the command line as a comment, unless it is there.
-fn heading(alloc: Global, is_there: bool, command: &[u8]) -> Result<Vec<u8>, NoMemory> {
+/// The line in front of those of the file: the command line as a comment.
+fn heading(alloc: Global, command: &[u8]) -> Made<Vec<u8>> {
     let mut text = Vec::new(alloc);
-    if is_there {
-        return Ok(text);
-    }
     let mut line = text_of(alloc, "# ")?;
-    crate::texts::append(&mut line, command)?;
+    append(&mut line, command)?;
     push_line(&mut text, line.as_slice())?;
     Ok(text)
 }
 
-/// A copy of what becomes of a line.
-fn copy_fate(alloc: Global, fate: &Fate) -> Result<Fate, NoMemory> {
+/// A copy of what becomes of a line; of a file that was adopted already nothing is said, and each line is kept.
+fn copy_fate(alloc: Global, fate: Option<&Fate>) -> Made<Fate> {
+    let Some(fate) = fate else {
+        let kind = FateKind::Kept;
+        return Ok(Fate {
+            kind,
+            note: Vec::new(alloc),
+            text: Vec::new(alloc),
+            after: Vec::new(alloc),
+        });
+    };
     Ok(Fate {
         kind: fate.kind,
         note: copy_text(alloc, fate.note.as_slice())?,
@@ -85,30 +77,13 @@ fn copy_fate(alloc: Global, fate: &Fate) -> Result<Fate, NoMemory> {
     })
 }
 
-/// What becomes of the line at a place.
-fn fate_at(alloc: Global, fates: &[Fate], place: usize) -> Result<Fate, NoMemory> {
-    match fates.get(place) {
-        Some(fate) => copy_fate(alloc, fate),
-        None => Ok(Fate {
-            kind: FateKind::Kept,
-            note: Vec::new(alloc),
-            text: Vec::new(alloc),
-            after: Vec::new(alloc),
-        }),
-    }
-}
-
 /// The lines of a file with what becomes of each.
-fn adopted_lines(
-    alloc: Global,
-    lines: &[SourceLine],
-    fates: &[Fate],
-) -> Result<Vec<Adopted>, NoMemory>
+fn adopted_lines(alloc: Global, lines: &[SourceLine], fates: &[Fate]) -> Made<Vec<Adopted>>
     ensures { IfOk result (λ adopted. raws_of adopted.items ≡ own_raws lines.now) }
 {
     let mut adopted = Vec::new(alloc);
     for (place, line) in lines.iter().enumerate() {
-        let fate = fate_at(alloc, fates, place)?;
+        let fate = copy_fate(alloc, fates.get(place))?;
         let raw = copy_text(alloc, line.raw.as_slice())?;
         adopted.push(Adopted { raw, fate })?;
     }
@@ -116,7 +91,7 @@ fn adopted_lines(
 }
 
 /// All that is written, behind these lines.
-fn compose(alloc: Global, head: &[u8], lines: &[Adopted]) -> Result<Vec<u8>, NoMemory>
+fn compose(alloc: Global, head: &[u8], lines: &[Adopted]) -> Made<Vec<u8>>
     ensures { IfOk result (λ text. text.items ≡ head.now ++ composed lines.now) }
 {
     let mut text = copy_text(alloc, head)?;
@@ -124,70 +99,39 @@ fn compose(alloc: Global, head: &[u8], lines: &[Adopted]) -> Result<Vec<u8>, NoM
     Ok(text)
 }
 
-/// A line that is written for a line of the file: the number of that line, and whether it stands in its place.
-#[derive(Clone, Copy)]
-struct Owner {
-    place: usize,
-    /// Which of the lines behind it; None for the one in its place.
-    added: Option<usize>,
-}
-
-/// The line of the file for which the line of this number is written, of which the first has the number `start`.
-fn owner_of(start: u64, fates: &[Fate], number: u64) -> Option<Owner> {
-    let mut next = start;
+/// The line of the file for which a line is written, which is that many after the first: its place, and which of what stands for it,
+/// from 0 for the line in its place.
+fn owner_of(fates: &[Fate], number: u64) -> Option<(usize, usize)> {
+    let mut left = usize::try_from(number).ok()?;
     for (place, fate) in fates.iter().enumerate() {
-        if number == next {
-            return Some(Owner { place, added: None });
+        if left <= fate.after.len() {
+            return Some((place, left));
         }
-        next = next.saturating_add(1);
-        for added in 0..fate.after.len() {
-            if number == next {
-                return Some(Owner {
-                    place,
-                    added: Some(added),
-                });
-            }
-            next = next.saturating_add(1);
-        }
+        left = left.saturating_sub(fate.after.len()).saturating_sub(1);
     }
     None
 }
 
-/// What becomes of a line that stickd doesn't read: it, or one of those behind it, is left out.
-fn lose(
-    alloc: Global,
-    line: &SourceLine,
-    fate: &mut Fate,
-    added: Option<usize>,
-) -> Result<(), NoMemory> {
-    fate.note = text_of(alloc, Why::NotRead.text())?;
-    let Some(added) = added else {
-        fate.kind = FateKind::Lost;
-        return Ok(());
-    };
-    if added < fate.after.len() {
+/// What becomes of a line that stickd doesn't read: it, or one of those after it, is left out.
+fn lose_line(alloc: Global, line: &SourceLine, fate: &mut Fate, which: usize) -> Made<()> {
+    fate.note = text_of(alloc, "stickd doesn't read it")?;
+    let added = which.saturating_sub(1);
+    if which > 0 && added < fate.after.len() {
         let _gone = fate.after.remove(added);
     }
-    match fate.kind {
-        FateKind::Kept => {
-            fate.kind = FateKind::Altered;
-            fate.text = copy_text(alloc, line.raw.as_slice())?;
-        }
-        FateKind::Rewritten | FateKind::Altered => fate.kind = FateKind::Altered,
-        FateKind::Moved | FateKind::Carried | FateKind::Harmless | FateKind::Lost => {
-            fate.kind = FateKind::Lost;
-        }
+    if fate.kind == FateKind::Kept {
+        fate.text = copy_text(alloc, line.raw.as_slice())?;
     }
+    let is_left = matches!(
+        fate.kind,
+        FateKind::Kept | FateKind::Rewritten | FateKind::Altered
+    );
+    fate.kind = if which > 0 && is_left {
+        FateKind::Altered
+    } else {
+        FateKind::Lost
+    };
     Ok(())
-}
-
-/// How many lines are written at most.
-fn most_lines(fates: &[Fate]) -> usize {
-    let mut count = 1usize;
-    for fate in fates {
-        count = count.saturating_add(fate.after.len()).saturating_add(1);
-    }
-    count
 }
 
 /// Leaves out line by line what stickd doesn't read. Answers the lines, and what is written of them behind `head`. None
@@ -197,57 +141,43 @@ fn settle(
     head: &[u8],
     lines: &[SourceLine],
     mut fates: Vec<Fate>,
-) -> Result<Option<(Vec<Adopted>, Vec<u8>)>, NoMemory>
+) -> Made<Option<(Vec<Adopted>, Vec<u8>)>>
     ensures { IfOk result (λ found. IfSome found (λ settled. (raws_of settled.0.items ≡ own_raws lines.now)
         × (settled.1.items ≡ head.now ++ composed settled.0.items) × IsTaken settled.1.items)) }
 {
-    for _ in 0..most_lines(fates.as_slice()) {
+    let start = if head.is_empty() { 1 } else { 2 };
+    let most = fates
+        .iter()
+        .map(|fate| fate.after.len())
+        .fold(fates.len(), |sum, count| sum.saturating_add(count));
+    for _ in 0..most.saturating_add(1) {
         let adopted = adopted_lines(alloc, lines, fates.as_slice())?;
         let text = compose(alloc, head, adopted.as_slice())?;
         let Some(number) = first_fault(alloc, text.as_slice())? else {
             return Ok(Some((adopted, text)));
         };
-        let start = if head.is_empty() { 1 } else { 2 };
-        let Some(owner) = owner_of(start, fates.as_slice(), number) else {
-            return Ok(None);
+        let owner = number
+            .checked_sub(start)
+            .and_then(|number| owner_of(fates.as_slice(), number));
+        let Some((place, which)) = owner else {
+            return Ok(None)
         };
-        if let (Some(fate), Some(line)) = (fates.get_mut(owner.place), lines.get(owner.place)) {
-            lose(alloc, line, fate, owner.added)?;
+        if let (Some(fate), Some(line)) = (fates.get_mut(place), lines.get(place)) {
+            lose_line(alloc, line, fate, which)?;
         }
     }
     Ok(None)
 }
 
-/// Whether a file was adopted already: it begins with the command line, and stickd takes it.
-fn is_adopted(alloc: Global, lines: &[SourceLine], text: &[u8]) -> Result<bool, NoMemory> {
-    if !has_command(lines) {
-        return Ok(false);
+/// The command line with which a file begins that was adopted already, and that stickd takes.
+fn own_command<'a>(alloc: Global, lines: &'a [SourceLine], text: &[u8]) -> Made<Option<&'a [u8]>> {
+    match lines.first() {
+        Some(line)
+            if line.raw.starts_with(HEAD.as_bytes()) && first_fault(alloc, text)?.is_none() => {
+            Ok(line.raw.strip_prefix(b"# "))
+        }
+        _ => Ok(None),
     }
-    Ok(first_fault(alloc, text)?.is_none())
-}
-
-/// What becomes of each line; of a file that was adopted already nothing is said, and each line is kept.
-fn fates_for(
-    alloc: Global,
-    plan: &Plan,
-    options: &[CommandOption],
-    was_adopted: bool,
-) -> Result<Vec<Fate>, NoMemory> {
-    if was_adopted {
-        return Ok(Vec::new(alloc));
-    }
-    fates_of(alloc, plan, options)
-}
-
-/// The command line: that of the first line where the file was adopted already, else one of these options.
-fn command_for(
-    alloc: Global,
-    lines: &[SourceLine],
-    options: &[CommandOption],
-    was_adopted: bool,
-) -> Result<Vec<u8>, NoMemory> {
-    let first = if was_adopted { first_raw(lines) } else { None };
-    command_of(alloc, first, options)
 }
 
 /// Adopts a file, by these variables of the environment, these files of patterns and wishes. None where stickd doesn't
@@ -269,16 +199,23 @@ pub fn adopt(
 {
     let lines = read_lines(alloc, text, environment)?;
     let plan = make_plan(alloc, lines, files, wishes)?;
-    let options = command_options(alloc, &plan)?;
-    let was_adopted = is_adopted(alloc, plan.lines.as_slice(), text)?;
-    let fates = fates_for(alloc, &plan, options.as_slice(), was_adopted)?;
-    let command = command_for(
-        alloc,
-        plan.lines.as_slice(),
-        options.as_slice(),
-        was_adopted,
-    )?;
-    let head = heading(alloc, was_adopted, command.as_slice())?;
+    let options = command_options(&plan)?;
+    let own = own_command(alloc, plan.lines.as_slice(), text)?;
+    let was_adopted = own.is_some();
+    let fates = if was_adopted {
+        Vec::new(alloc)
+    } else {
+        fates_of(&plan, options.as_slice())?
+    };
+    let command = match own {
+        Some(own) => copy_text(alloc, own)?,
+        None => command_of(alloc, options.as_slice())?,
+    };
+    let head = if was_adopted {
+        Vec::new(alloc)
+    } else {
+        heading(alloc, command.as_slice())?
+    };
     let Some((lines, text)) = settle(alloc, head.as_slice(), plan.lines.as_slice(), fates)? else {
         return Ok(None);
     };

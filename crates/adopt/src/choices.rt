@@ -4,23 +4,26 @@ ghost use Rattle.std.specs.Prelude.{◌≡◌, IfOk};
 
 use crate::lexer::SourceLine;
 use crate::masks::shared_mask;
-use crate::plan::{PatternFile, Plan, RuleAt, Track, Wishes, begins};
+use crate::plan::{Kind, PatternFile, Plan, Track, Wishes, has_piece};
+use crate::reasons::Made;
 use crate::rules::{rules_of, track_of};
-use crate::sections::{Kind, Section, read_sections};
-use crate::texts::{is_word, word_at};
-use crate::waits::asks_entry;
-use base_sequence::NoMemory;
+use crate::sections::read_sections;
+use crate::texts::has_name;
 use std::alloc::Global;
 
 /// How much a section speaks for being served: 0 where it can't be.
-fn rank(section: &Section) -> u8 {
-    if !section.has_frontend() || section.is_off || !section.has_bind {
+fn rank(plan: &Plan, place: usize) -> u8 {
+    if !plan.listens(place) {
         return 0;
     }
-    if !section.is_http {
+    if !plan.is_http(place) {
         return 3;
     }
-    if section.kind == Kind::Listen && !section.has_server {
+    let is_listen = plan
+        .sections
+        .get(place)
+        .is_some_and(|section| section.kind == Kind::Listen);
+    if is_listen && !plan.has_line(place, "server") {
         1
     } else {
         2
@@ -28,120 +31,48 @@ fn rank(section: &Section) -> u8 {
 }
 
 /// The frontend that is wanted, or else the first that speaks most for itself.
-fn choose_frontend(sections: &[Section], wanted: Option<&[u8]>) -> Option<usize> {
+fn choose_frontend(plan: &Plan, wanted: Option<&[u8]>) -> Option<usize> {
     let mut best = 0u8;
     let mut chosen = None;
-    for (place, section) in sections.iter().enumerate() {
-        if let Some(name) = wanted
-            && section.name.as_slice() != name
-        {
-            continue;
-        }
-        if rank(section) > best {
-            best = rank(section);
+    for place in 0..plan.sections.len() {
+        let is_wanted = wanted.is_none_or(|name| plan.has_name(place, name));
+        if is_wanted && rank(plan, place) > best {
+            best = rank(plan, place);
             chosen = Some(place);
         }
     }
     chosen
 }
 
-/// The section of this name with a backend.
-fn backend_named(sections: &[Section], name: &[u8]) -> Option<usize> {
-    for (place, section) in sections.iter().enumerate() {
-        if section.has_backend() && section.name.as_slice() == name {
-            return Some(place);
-        }
+/// The line that names the section whose server the frontend has, if it has none itself: its first `use_backend` without a condition,
+/// else its `default_backend`.
+fn naming_line(plan: &Plan) -> Option<&SourceLine> {
+    let frontend = plan.frontend?;
+    if plan.has_line(frontend, "server") {
+        return None;
     }
-    None
-}
-
-/// The first `use_backend` without a condition in a section.
-fn unconditional_use(plan: &Plan, place: usize) -> Option<usize> {
-    let section = plan.section(place)?;
-    for number in section.first..section.end {
-        let words = plan.words(number);
-        if begins(words, "use_backend", "") && words.len() == 2 {
-            return Some(number);
-        }
-    }
-    None
-}
-
-/// The line that names a frontend's backend.
-fn naming_line(plan: &Plan, frontend: usize) -> Option<usize> {
-    match unconditional_use(plan, frontend) {
+    match plan.front().iter().find(|line| line.begins("use_backend", "") && line.words.len() == 2) {
         Some(line) => Some(line),
         None => plan.effective(frontend, "default_backend", ""),
     }
 }
 
-/// Whether a section has a server.
-fn has_server(plan: &Plan, place: usize) -> bool {
-    match plan.section(place) {
-        Some(section) => section.has_server,
-        None => false,
-    }
+/// The section whose server the frontend has, which this line names.
+fn choose_backend(plan: &Plan, line: Option<usize>) -> Option<usize> {
+    let Some(line) = line.and_then(|line| plan.lines.get(line)) else {
+        return plan.frontend;
+    };
+    plan.sections.iter().position(|section| section.has_backend()
+        && section.name.as_slice() == line.word(1))
 }
 
-/// The line that names the section whose server a frontend has, if it has none itself.
-fn names_backend(plan: &Plan, frontend: Option<usize>) -> Option<usize> {
-    let frontend = frontend?;
-    if has_server(plan, frontend) {
-        return None;
-    }
-    naming_line(plan, frontend)
-}
-
-/// The section whose server a frontend has, which this line names.
-fn choose_backend(plan: &Plan, frontend: Option<usize>, line: Option<usize>) -> Option<usize> {
-    match line {
-        Some(line) => backend_named(plan.sections.as_slice(), word_at(plan.words(line), 1)),
-        None => frontend,
-    }
-}
-
-/// Whether a table stores `gpc_rate`.
-fn stores_rates(lines: &[SourceLine]) -> bool {
-    for line in lines {
-        if !begins(line.words.as_slice(), "stick-table", "") {
-            continue;
-        }
-        for word in &line.words {
-            if has_rate(word.as_slice()) {
-                return true;
-            }
-        }
-    }
-    false
-}
-
-/// Whether `gpc_rate(` stands in a word.
-fn has_rate(word: &[u8]) -> bool {
-    word.windows(9).any(|window| is_word(window, "gpc_rate("))
-}
-
-/// The rules that run for the frontend.
-fn find_rules(alloc: Global, plan: &Plan) -> Result<Vec<RuleAt>, NoMemory> {
-    match plan.frontend {
-        Some(frontend) => rules_of(
-            alloc,
-            plan.lines.as_slice(),
-            plan.sections.as_slice(),
-            frontend,
-            plan.backend,
-        ),
-        None => Ok(Vec::new(alloc)),
-    }
-}
-
-/// What rules track.
-fn find_tracks(alloc: Global, plan: &Plan, rules: &[RuleAt]) -> Result<Vec<Track>, NoMemory> {
-    let mut tracks = Vec::new(alloc);
+/// What the rules track.
+fn find_tracks(plan: &Plan) -> Made<Vec<Track>> {
+    let mut tracks = Vec::new(plan.alloc);
     let mut is_late = false;
-    for rule in rules {
-        let words = plan.words(rule.line);
-        is_late = is_late || asks_entry(plan.lines.as_slice(), words);
-        if let Some(track) = track_of(plan.sections.as_slice(), words, rule.origin) {
+    for rule in &plan.rules {
+        is_late = is_late || asks_entry(plan, plan.words(rule.line));
+        if let Some(track) = track_of(plan, rule) {
             let is_sure = track.is_sure && !is_late;
             tracks.push(Track { is_sure, ..track })?;
         }
@@ -149,42 +80,39 @@ fn find_tracks(alloc: Global, plan: &Plan, rules: &[RuleAt]) -> Result<Vec<Track
     Ok(tracks)
 }
 
-/// The slot by which all connections are counted together, where a rule asks for that.
-fn slot_for_all(plan: &Plan, tracks: &[Track]) -> Option<u8> {
-    if asks_all(plan, plan.frontend?) {
-        return free_slot(tracks);
-    }
-    None
+/// Whether these words ask by a slot's key in a table, or count by the source: what is read here as the source's own entry, or counted
+/// by a slot.
+fn asks_by_key(words: &[Vec<u8>]) -> bool {
+    words.iter().any(|word| {
+        let has = |text: &[u8]| crate::texts::has_text(word.as_slice(), text);
+        has(b"src_inc_")
+            || has(b"src_clr_")
+            || ((has(b"sc0_") || has(b"sc1_") || has(b"sc2_")) && has(b"("))
+            || (has(b"sc_") && has(b","))
+    })
 }
 
-/// Whether a word asks how many connections a frontend has.
-fn asks_of_frontend(word: &[u8]) -> bool {
-    word.starts_with(b"fe_conn".as_slice()) || word.starts_with(b"fe_sess_rate".as_slice())
+/// Whether a rule asks so, itself or by an ACL, which says other things before a slot tracks than after it.
+fn asks_entry(plan: &Plan, words: &[Vec<u8>]) -> bool {
+    asks_by_key(words)
+        || plan.lines.iter().any(|line| line.begins("acl", "")
+            && asks_by_key(line.words.as_slice())
+            && has_name(words, line.word(1)))
 }
 
 /// Whether a rule or an ACL of the frontend asks how many connections it has.
-fn asks_all(plan: &Plan, frontend: usize) -> bool {
-    let Some(section) = plan.section(frontend) else {
-        return false;
-    };
-    for number in section.first..section.end {
-        let words = plan.words(number);
-        let is_asking = begins(words, "acl", "") || begins(words, "tcp-request", "");
-        if is_asking && words.iter().any(|word| asks_of_frontend(word.as_slice())) {
-            return true;
-        }
-    }
-    false
+fn asks_all(plan: &Plan) -> bool {
+    plan.front().iter().any(|line| line.asks()
+        && line.words.iter().any(|word| word.starts_with(b"fe_conn")
+            || word.starts_with(b"fe_sess_rate")))
 }
 
-/// A slot that no rule tracks with, the last first.
-fn free_slot(tracks: &[Track]) -> Option<u8> {
-    for slot in [2u8, 1, 0] {
-        if !tracks.iter().any(|track| track.slot == slot) {
-            return Some(slot);
-        }
+/// The slot by which all connections are counted together, where a rule asks for that: one that no rule tracks with, the last first.
+fn slot_for_all(plan: &Plan) -> Option<u8> {
+    if !asks_all(plan) {
+        return None;
     }
-    None
+    [b'2', b'1', b'0'].into_iter().find(|slot| !plan.tracks.iter().any(|track| track.slot == *slot))
 }
 
 /// What is served of a file, as is wished.
@@ -193,42 +121,48 @@ pub(crate) fn make_plan(
     lines: Vec<SourceLine>,
     files: Vec<PatternFile>,
     wishes: &Wishes,
-) -> Result<Plan, NoMemory>
+) -> Made<Plan>
     // The plan has the lines of the file, and no others.
     ensures { IfOk result (λ plan. plan.lines ≡ lines) }
 {
     let sections = read_sections(alloc, lines.as_slice())?;
-    let wanted = match &wishes.frontend {
-        Some(name) => Some(name.as_slice()),
-        None => None,
-    };
-    let frontend = choose_frontend(sections.as_slice(), wanted);
-    let stores_rates = stores_rates(lines.as_slice());
     let mut plan = Plan {
+        alloc,
         lines,
         sections,
-        frontend,
+        frontend: None,
         backend: None,
         names_backend: None,
         rules: Vec::new(alloc),
         tracks: Vec::new(alloc),
         mask: None,
-        stores_rates,
+        stores_rates: false,
         counts_all: None,
         first_server: wishes.first_server,
         files,
     };
-    let line = names_backend(&plan, frontend);
-    let backend = choose_backend(&plan, frontend, line);
+    let wanted = wishes.frontend.as_ref().map(|name| name.as_slice());
+    let frontend = choose_frontend(&plan, wanted);
+    plan.frontend = frontend;
+    let line = naming_line(&plan).map(|line| line.number);
     plan.names_backend = line;
+    let backend = choose_backend(&plan, line);
     plan.backend = backend;
-    let rules = find_rules(alloc, &plan)?;
-    let tracks = find_tracks(alloc, &plan, rules.as_slice())?;
-    let mask = shared_mask(alloc, &plan, rules.as_slice())?;
-    let slot = slot_for_all(&plan, tracks.as_slice());
+    let rules = rules_of(&plan)?;
     plan.rules = rules;
+    let tracks = find_tracks(&plan)?;
     plan.tracks = tracks;
+    let mask = shared_mask(&plan);
     plan.mask = mask;
+    let slot = slot_for_all(&plan);
     plan.counts_all = slot;
+    let stores_rates = stores_rates(&plan);
+    plan.stores_rates = stores_rates;
     Ok(plan)
+}
+
+/// Whether a table stores `gpc_rate`.
+fn stores_rates(plan: &Plan) -> bool {
+    plan.lines.iter().any(|line| line.begins("stick-table", "")
+        && has_piece(line.words.as_slice(), b"gpc_rate("))
 }

@@ -4,8 +4,8 @@ ghost use Rattle.std.specs.Prelude.{◌≡◌, OnOk};
 ghost use Rattle.adopt.specs.StartWords as spec;
 
 use crate::options::CommandOption;
-use crate::texts::{append, append_str, copy_text, text_of};
-use base_sequence::NoMemory;
+use crate::reasons::Made;
+use crate::texts::{append, append_str, text_of};
 use std::alloc::Global;
 
 /// What the command line begins with: the configuration's name and the socket are for whoever runs it to change.
@@ -25,24 +25,11 @@ const USUAL_THREADS: &str = "1";
 /// What a file begins with that was adopted already.
 pub(crate) const HEAD: &str = "# stickd run ";
 
-/// Whether a value is read by a shell as it stands.
-fn is_bare(value: &[u8]) -> bool {
-    for byte in value {
-        let is_known = matches!(
-            *byte,
-            b'-' | b'_' | b'.' | b':' | b'/' | b'@' | b',' | b'+' | b'%' | b'='
-        );
-        if !byte.is_ascii_alphanumeric() && !is_known {
-            return false;
-        }
-    }
-    true
-}
-
 /// Adds a value, in apostrophes where a shell would change it.
-fn add_value(text: &mut Vec<u8>, value: &[u8]) -> Result<(), NoMemory> {
+fn add_value(text: &mut Vec<u8>, value: &[u8]) -> Made<()> {
+    let is_bare = |byte: &u8| byte.is_ascii_alphanumeric() || b"-_.:/@,+%=".contains(byte);
     append_str(text, " ")?;
-    if is_bare(value) {
+    if value.iter().all(is_bare) {
         return append(text, value);
     }
     append_str(text, "'")?;
@@ -57,12 +44,10 @@ fn add_value(text: &mut Vec<u8>, value: &[u8]) -> Result<(), NoMemory> {
 }
 
 /// The command line of these options.
-fn from_options(alloc: Global, options: &[CommandOption]) -> Result<Vec<u8>, NoMemory> {
-    let mut text = copy_text(alloc, START.as_bytes())?;
-    let has_threads = options.iter().any(|option| option.flag == THREADS);
-    if !has_threads {
-        append_str(&mut text, " --threads ")?;
-        append_str(&mut text, USUAL_THREADS)?;
+pub(crate) fn command_of(alloc: Global, options: &[CommandOption]) -> Made<Vec<u8>> {
+    let mut text = text_of(alloc, START)?;
+    if !has(options, THREADS) {
+        append_str(&mut text, " --threads 1")?;
     }
     for option in options {
         append_str(&mut text, " ")?;
@@ -70,21 +55,6 @@ fn from_options(alloc: Global, options: &[CommandOption]) -> Result<Vec<u8>, NoM
         add_value(&mut text, option.value.as_slice())?;
     }
     Ok(text)
-}
-
-/// The command line: that of this first line of a file, else one of these options.
-pub(crate) fn command_of(
-    alloc: Global,
-    first: Option<&[u8]>,
-    options: &[CommandOption],
-) -> Result<Vec<u8>, NoMemory> {
-    if let Some(raw) = first
-        && raw.starts_with(HEAD.as_bytes())
-        && let Some(command) = raw.strip_prefix(b"# ".as_slice())
-    {
-        return copy_text(alloc, command);
-    }
-    from_options(alloc, options)
 }
 
 /// Whether an option is there.
@@ -105,7 +75,7 @@ fn add_unless(
     options: &mut Vec<CommandOption>,
     flag: &'static str,
     value: &str,
-) -> Result<(), NoMemory>
+) -> Made<()>
     ensures { OnOk result (spec.shown options.new.items ≡ spec.with_unless (spec.shown options.old.items) flag.now value.now) }
 {
     if has(options.as_slice(), flag) {
@@ -120,7 +90,7 @@ fn add_unless(
 }
 
 /// Adds the options without which the program doesn't run, where they aren't there.
-pub(crate) fn add_usual(alloc: Global, options: &mut Vec<CommandOption>) -> Result<(), NoMemory>
+pub(crate) fn add_usual(alloc: Global, options: &mut Vec<CommandOption>) -> Made<()>
     ensures { OnOk result (spec.shown options.new.items ≡ spec.with_usual (spec.shown options.old.items)) }
 {
     add_unless(alloc, options, SOCKET, USUAL_SOCKET)?;

@@ -6,10 +6,10 @@ ghost use Rattle.adopt.specs.Checked.{IsTaken};
 use crate::adoption::{Adoption, adopt, wanted_files};
 use crate::command::add_usual;
 use crate::plan::{PatternFile, Wishes};
-use crate::report::{Wanted, changes_of, report_of};
+use crate::report::{changes_of, report_of};
+use crate::source_lines::{Variable, copy_variable};
 use crate::status::SAME;
-use crate::texts::{append, append_str, copy_text};
-use crate::variables::Variable;
+use crate::texts::{copy_text, text};
 use base_sequence::NoMemory;
 use std::alloc::Global;
 use std::env::VarError;
@@ -40,23 +40,18 @@ fn environment<R: Env + AllocGlobal>(rt: &R) -> Result<Vec<Variable>, NoMemory> 
         Err(VarError::NotPresent | VarError::NotUnicode) => return Ok(variables),
     };
     for (name, value) in all {
-        variables.push(Variable {
-            name: copy_text(rt.alloc(), name.as_str().as_bytes())?,
-            value: copy_text(rt.alloc(), value.as_str().as_bytes())?,
-        })?;
+        let (name, value) = (name.as_str(), value.as_str());
+        variables.push(copy_variable(rt.alloc(), name.as_bytes(), value.as_bytes())?)?;
     }
     Ok(variables)
 }
 
 /// A name beside another file.
 fn beside(alloc: Global, path: &str, name: &[u8]) -> Result<Vec<u8>, NoMemory> {
-    let mut text = Vec::new(alloc);
-    if let Some((folder, _)) = path.rsplit_once('/') {
-        append_str(&mut text, folder)?;
-        append_str(&mut text, "/")?;
+    match path.rsplit_once('/') {
+        Some((folder, _)) => text(alloc, &[folder.as_bytes(), b"/", name]),
+        None => copy_text(alloc, name),
     }
-    append(&mut text, name)?;
-    Ok(text)
 }
 
 /// The text of a file. None where it can't be read for another reason than want of memory.
@@ -144,6 +139,12 @@ fn lacks_frontend<R: Eprint>(
     Ok(true)
 }
 
+/// Says that there is no memory, and answers the status.
+fn lacks_memory<R: Eprint>(rt: &R) -> io::Result<u8> {
+    eprintln!(rt; "stickd: out of memory")?;
+    Ok(UNREADABLE)
+}
+
 /// Writes what became of a file, and answers the status.
 fn show_adoption<R: Print + Eprint + AllocGlobal>(
     rt: &R,
@@ -151,13 +152,8 @@ fn show_adoption<R: Print + Eprint + AllocGlobal>(
     asked: &Asked,
 ) -> io::Result<u8> {
     let shown = adoption.status == SAME || asked.anyway;
-    let wanted = Wanted {
-        verbose: asked.verbose,
-        shown,
-    };
-    let Ok(report) = report_of(rt.alloc(), adoption, wanted) else {
-        eprintln!(rt; "stickd: out of memory")?;
-        return Ok(UNREADABLE);
+    let Ok(report) = report_of(rt.alloc(), adoption, asked.verbose, shown) else {
+        return lacks_memory(rt);
     };
     tell(rt, report.as_slice())?;
     if !shown {
@@ -189,8 +185,7 @@ fn read_adoption<R: Files + Env + Eprint + AllocGlobal>(
         }
     };
     let Ok(adopted) = adopt_text(rt, path, text.as_slice(), wishes) else {
-        eprintln!(rt; "stickd: out of memory")?;
-        return Ok(Err(UNREADABLE));
+        return Ok(Err(lacks_memory(rt)?));
     };
     let Some(adoption) = adopted else {
         eprintln!(rt; "stickd: {path} can't be adopted")?;
@@ -216,16 +211,6 @@ pub fn adopt_file<R: Files + Env + Print + Eprint + AllocGlobal>(
     }
 }
 
-/// Says what a start loses of a file. False where there was no memory for it, which is then said.
-fn tell_changes<R: Eprint + AllocGlobal>(rt: &R, adoption: &Adoption) -> io::Result<bool> {
-    let Ok(changes) = changes_of(rt.alloc(), adoption) else {
-        eprintln!(rt; "stickd: out of memory")?;
-        return Ok(false);
-    };
-    tell(rt, changes.as_slice())?;
-    Ok(true)
-}
-
 /// Adopts the file of this name for a start: says of each line whose loss changes what is served, and how many lines have which fate.
 /// Where it isn't to be run the reason is said, and the status answered: 3 where something that matters was lost, unless it is to be run
 /// anyway, and 1 where the file can't be read, was adopted already, or has no such frontend as is asked for.
@@ -249,9 +234,10 @@ pub fn take_file<R: Files + Env + Eprint + AllocGlobal>(
         )?;
         return Ok(Err(UNREADABLE));
     }
-    if !tell_changes(rt, &adoption)? {
-        return Ok(Err(UNREADABLE));
-    }
+    let Ok(changes) = changes_of(rt.alloc(), &adoption) else {
+        return Ok(Err(lacks_memory(rt)?));
+    };
+    tell(rt, changes.as_slice())?;
     if adoption.status != SAME && !anyway {
         eprintln!(rt;
             "stickd: {path} isn't run, as what is served would change: --anyway runs it"
@@ -259,8 +245,7 @@ pub fn take_file<R: Files + Env + Eprint + AllocGlobal>(
         return Ok(Err(adoption.status));
     }
     if add_usual(rt.alloc(), &mut adoption.options).is_err() {
-        eprintln!(rt; "stickd: out of memory")?;
-        return Ok(Err(UNREADABLE));
+        return Ok(Err(lacks_memory(rt)?));
     }
     Ok(Ok(adoption))
 }

@@ -1,16 +1,12 @@
-//! What becomes of a line by its keyword, and of an option by its word, where no other code says it; `fates`, `proxy_lines`,
-//! `servers`, `listeners`, `actions` and `tables` ask it. The keywords stand in `manual`.
+//! What becomes of a line by its keyword, and of an option by its word, where no other code says it; `fates`, `listeners`, `actions` and
+//! `tables` ask it. The keywords stand in `manual`.
 
-ghost use Rattle.std.specs.Prelude.{◌≡◌, ◌↔◌, IsTrue, map};
-ghost use Rattle.std.specs.List.{list_any};
-ghost use Rattle.std.specs.Str.{bytes_eq};
-ghost use Rattle.base_lines.specs.Parts.{parts, is_byte};
+ghost use Rattle.std.specs.Prelude.{◌≡◌, map};
 ghost use Rattle.adopt.specs.Keywords as spec;
-ghost use Rattle.adopt.specs.Keywords.{has_keyword, says, said_of};
+ghost use Rattle.adopt.specs.Keywords.{has_keyword, is_change, said_of, shown};
 
 use crate::manual::Row;
-use crate::reasons::Why;
-use crate::texts::is_word;
+use crate::reasons::{Try, UNKNOWN_KEYWORD, Why, leave, lose};
 use base_lines::Parts;
 
 /// The fate of a keyword.
@@ -34,6 +30,15 @@ pub(crate) struct Told {
     pub matters: bool,
 }
 
+/// A line of which nothing but this is said.
+pub(crate) fn of_told<T>(told: Told) -> Try<T> {
+    if told.matters {
+        lose(told.why)
+    } else {
+        leave(told.why)
+    }
+}
+
 /// Whether one of these keywords, which blanks part, is this word.
 fn has_word(keywords: &[u8], word: &[u8]) -> bool
     ensures { result ≡ has_keyword word.now keywords.now }
@@ -47,26 +52,26 @@ fn has_word(keywords: &[u8], word: &[u8]) -> bool
     false
 }
 
-/// What a keyword of this fate says of its line.
-fn told_by(sort: Sort, why: Why) -> Told
-    ensures { result ≡ says sort why }
+/// Whether a keyword of this fate changes what is served.
+fn matters(sort: Sort) -> bool
+    ensures { result ≡ is_change sort }
 {
     match sort {
-        Sort::Kept | Sort::Change => Told { why, matters: true },
-        Sort::Carried | Sort::Harmless => Told {
-            why,
-            matters: false,
-        },
+        Sort::Kept | Sort::Change => true,
+        Sort::Carried | Sort::Harmless => false,
     }
 }
 
 /// What a table says of a word. None where no row has it.
 pub(crate) fn told_of(word: &[u8], rows: &[Row]) -> Option<Told>
-    ensures { result ≡ said_of word.now (map (λ row. (row.2.now, says row.0 row.1)) rows.now) }
+    ensures { shown result ≡ said_of word.now (map (λ row. (row.2.now, (row.1.now, is_change row.0))) rows.now) }
 {
     for (sort, why, keywords) in rows {
         if has_word(keywords.as_bytes(), word) {
-            return Some(told_by(*sort, *why));
+            return Some(Told {
+                why: *why,
+                matters: matters(*sort),
+            });
         }
     }
     None
@@ -74,12 +79,12 @@ pub(crate) fn told_of(word: &[u8], rows: &[Row]) -> Option<Told>
 
 /// What becomes of a word by a table. What the table lacks is a change of what is served.
 pub(crate) fn left_of(word: &[u8], rows: &[Row]) -> Told
-    ensures { result ≡ spec.left_of word.now (map (λ row. (row.2.now, says row.0 row.1)) rows.now) }
+    ensures { spec.of_told result ≡ spec.left_of word.now (map (λ row. (row.2.now, (row.1.now, is_change row.0))) rows.now) }
 {
     match told_of(word, rows) {
         Some(told) => told,
         None => Told {
-            why: Why::UnknownKeyword,
+            why: UNKNOWN_KEYWORD,
             matters: true,
         },
     }
@@ -94,7 +99,6 @@ pub(crate) fn options_loss(
     flags: &[Row],
 ) -> Option<Why> {
     let mut skips = false;
-    let mut loss = None;
     for (place, word) in words.iter().enumerate() {
         if place < from || skips {
             skips = false;
@@ -103,19 +107,9 @@ pub(crate) fn options_loss(
         let value = told_of(word.as_slice(), valued);
         skips = value.is_some();
         let told = value.unwrap_or(left_of(word.as_slice(), flags));
-        if told.matters && loss.is_none() {
-            loss = Some(told.why);
+        if told.matters {
+            return Some(told.why);
         }
     }
-    loss
-}
-
-/// Whether a word is one of these.
-pub(crate) fn is_one_of(word: &[u8], texts: &[&str]) -> bool {
-    for text in texts {
-        if is_word(word, text) {
-            return true;
-        }
-    }
-    false
+    None
 }

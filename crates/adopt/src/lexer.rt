@@ -4,15 +4,17 @@
 
 ghost use Rattle.std.specs.Prelude.{◌≡◌, IfOk};
 
+use crate::reasons::Made;
+use crate::source_lines::{Variable, value_of};
 use crate::texts::{Words, copy_text};
-use crate::variables::{Variable, value_of};
-use base_sequence::NoMemory;
 use std::alloc::Global;
 use std::mem;
 
 /// A line of a file.
 #[derive(Drop)]
 pub struct SourceLine {
+    /// How many lines stand before it.
+    pub number: usize,
     /// The line without its end.
     pub raw: Vec<u8>,
     /// Its words, without quotes, escapes and variables.
@@ -25,35 +27,24 @@ pub struct SourceLine {
     pub is_whole: bool,
 }
 
-/// What the byte in hand stands in.
-#[derive(Clone, Copy)]
-enum Quoting {
-    Unquoted,
-    Double,
-    Single,
-}
-
 /// A line that is being read.
 #[derive(Drop)]
-struct Lexer {
+struct Lexer<'a> {
+    alloc: Global,
+    line: &'a [u8],
+    variables: &'a [Variable],
     words: Words,
     word: Vec<u8>,
     /// Whether a word has begun, which an empty pair of quotes does too.
     has_word: bool,
-    quoting: Quoting,
+    /// The quote in which the byte in hand stands, if any.
+    quote: Option<u8>,
     is_plain: bool,
     comment: Vec<u8>,
 }
 
 fn is_blank(byte: u8) -> bool {
     byte == b' ' || byte == b'\t'
-}
-
-fn byte_at(line: &[u8], place: usize) -> u8 {
-    match line.get(place) {
-        Some(byte) => *byte,
-        None => 0,
-    }
 }
 
 /// The value of a hexadecimal digit.
@@ -73,7 +64,7 @@ fn hex_byte(first: u8, second: u8) -> Option<u8> {
     Some(high.wrapping_mul(16).wrapping_add(low))
 }
 
-/// The byte that stands for itself, or for another, behind a backslash.
+/// The byte that stands for itself, or for another, after a backslash.
 fn escaped(byte: u8) -> Option<u8> {
     match byte {
         b'n' => Some(b'\n'),
@@ -84,75 +75,55 @@ fn escaped(byte: u8) -> Option<u8> {
     }
 }
 
-/// Where the name of a variable ends that begins here.
-fn name_end(line: &[u8], start: usize) -> usize {
-    for (place, byte) in line.iter().enumerate() {
-        let in_name = byte.is_ascii_alphanumeric() || *byte == b'_' || *byte == b'.';
-        if place >= start && !in_name {
-            return place;
-        }
-    }
-    line.len()
-}
-
-/// Where a byte stands next.
-fn next_place(line: &[u8], start: usize, wanted: u8) -> Option<usize> {
-    for (place, byte) in line.iter().enumerate() {
-        if place >= start && *byte == wanted {
-            return Some(place);
-        }
-    }
-    None
-}
-
-/// The part of a line from a place up to another.
-fn part_of(line: &[u8], start: usize, end: usize) -> &[u8] {
-    if start <= end && end <= line.len() {
-        &line[start..end]
-    } else {
-        b""
-    }
-}
-
-impl Lexer {
-    fn new(alloc: Global) -> Lexer {
-        Lexer {
-            words: Vec::new(alloc),
-            word: Vec::new(alloc),
-            has_word: false,
-            quoting: Quoting::Unquoted,
-            is_plain: true,
-            comment: Vec::new(alloc),
+impl<'a> Lexer<'a> {
+    fn byte_at(&self, place: usize) -> u8 {
+        match self.line.get(place) {
+            Some(byte) => *byte,
+            None => 0,
         }
     }
 
-    fn push(&mut self, byte: u8) -> Result<(), NoMemory> {
+    /// The part of the line from a place up to another.
+    fn part(&self, start: usize, end: usize) -> &'a [u8] {
+        self.line.get(start..end).unwrap_or(b"")
+    }
+
+    /// Where the name of a variable ends that begins here.
+    fn name_end(&self, start: usize) -> usize {
+        let rest = self.part(start, self.line.len());
+        let is_over = |byte: &u8| !(byte.is_ascii_alphanumeric() || b"_.".contains(byte));
+        match rest.iter().position(is_over) {
+            Some(length) => start.saturating_add(length),
+            None => self.line.len(),
+        }
+    }
+
+    fn push(&mut self, byte: u8) -> Made<()> {
         self.has_word = true;
         self.word.push(byte)?;
         Ok(())
     }
 
-    fn end_word(&mut self, alloc: Global) -> Result<(), NoMemory> {
-        if !self.has_word {
-            return Ok(());
+    fn end_word(&mut self) -> Made<()> {
+        if self.has_word {
+            self.has_word = false;
+            let word = mem::replace(&mut self.word, Vec::new(self.alloc));
+            self.words.push(word)?;
         }
-        self.has_word = false;
-        let word = mem::replace(&mut self.word, Vec::new(alloc));
-        self.words.push(word)?;
         Ok(())
     }
 
-    /// Reads an escape, and answers the place behind it.
-    fn read_escape(&mut self, line: &[u8], place: usize) -> Result<usize, NoMemory> {
+    /// Reads an escape, and answers the place after it.
+    fn read_escape(&mut self, place: usize) -> Made<usize> {
         self.is_plain = false;
-        let next = byte_at(line, place.saturating_add(1));
-        if next == b'x' {
-            let first = byte_at(line, place.saturating_add(2));
-            let second = byte_at(line, place.saturating_add(3));
-            if let Some(byte) = hex_byte(first, second) {
-                self.push(byte)?;
-                return Ok(place.saturating_add(4));
-            }
+        let next = self.byte_at(place.saturating_add(1));
+        let first = self.byte_at(place.saturating_add(2));
+        let second = self.byte_at(place.saturating_add(3));
+        if next == b'x'
+            && let Some(byte) = hex_byte(first, second)
+        {
+            self.push(byte)?;
+            return Ok(place.saturating_add(4));
         }
         if let Some(byte) = escaped(next) {
             self.push(byte)?;
@@ -163,10 +134,10 @@ impl Lexer {
     }
 
     /// Puts a variable's value in. `several` makes each of its words a word.
-    fn push_value(&mut self, alloc: Global, value: &[u8], several: bool) -> Result<(), NoMemory> {
+    fn push_value(&mut self, value: &[u8], several: bool) -> Made<()> {
         for byte in value {
             if several && is_blank(*byte) {
-                self.end_word(alloc)?;
+                self.end_word()?;
             } else {
                 self.push(*byte)?;
             }
@@ -174,148 +145,119 @@ impl Lexer {
         Ok(())
     }
 
-    /// Reads a variable, and answers the place behind it.
-    fn read_variable(
-        &mut self,
-        alloc: Global,
-        line: &[u8],
-        place: usize,
-        variables: &[Variable],
-    ) -> Result<usize, NoMemory> {
+    /// Reads a variable, and answers the place after it.
+    fn read_variable(&mut self, place: usize) -> Made<usize> {
         self.is_plain = false;
-        let behind = place.saturating_add(1);
-        if byte_at(line, behind) != b'{' {
-            let end = name_end(line, behind);
-            let name = part_of(line, behind, end);
-            self.push_value(alloc, value_of(variables, name).unwrap_or(b""), false)?;
+        let start = place.saturating_add(1);
+        if self.byte_at(start) != b'{' {
+            let end = self.name_end(start);
+            let value = value_of(self.variables, self.part(start, end)).unwrap_or(b"");
+            self.push_value(value, false)?;
             return Ok(end);
         }
-        let start = behind.saturating_add(1);
-        let Some(closing) = next_place(line, start, b'}') else {
-            return Ok(line.len());
+        let start = start.saturating_add(1);
+        let rest = self.part(start, self.line.len());
+        let Some(length) = rest.iter().position(|byte| *byte == b'}') else {
+            return Ok(self.line.len());
         };
-        let end = name_end(line, start);
-        let name = part_of(line, start, end);
-        let rest = part_of(line, end, closing);
-        let several = rest == b"[*]".as_slice();
-        let fallback = match rest.split_first() {
-            Some((first, other)) if *first == b'-' => other,
-            _ => b"".as_slice(),
-        };
-        self.push_value(
-            alloc,
-            value_of(variables, name).unwrap_or(fallback),
-            several,
-        )?;
+        let closing = start.saturating_add(length);
+        let end = self.name_end(start);
+        let after = self.part(end, closing);
+        let fallback = after.strip_prefix(b"-").unwrap_or(b"");
+        let value = value_of(self.variables, self.part(start, end)).unwrap_or(fallback);
+        self.push_value(value, after == b"[*]".as_slice())?;
         Ok(closing.saturating_add(1))
     }
 
-    /// Reads what stands outside of quotes, and answers the place behind it.
-    fn read_unquoted(
-        &mut self,
-        alloc: Global,
-        line: &[u8],
-        place: usize,
-    ) -> Result<usize, NoMemory> {
-        let byte = byte_at(line, place);
+    /// Reads the byte at a place, with what belongs to it, and answers the place after that.
+    fn read(&mut self, place: usize) -> Made<usize> {
+        let byte = self.byte_at(place);
+        let next = place.saturating_add(1);
+        if byte == b'\\' && self.quote != Some(b'\'') {
+            return self.read_escape(place);
+        }
+        if byte == b'$' && self.quote == Some(b'"') {
+            return self.read_variable(place);
+        }
+        if self.quote == Some(byte) {
+            self.quote = None;
+            return Ok(next);
+        }
+        if self.quote.is_some() {
+            self.push(byte)?;
+            return Ok(next);
+        }
+        self.read_unquoted(place, byte)
+    }
+
+    /// Reads what stands outside of quotes and is no escape, and answers the place after it.
+    fn read_unquoted(&mut self, place: usize, byte: u8) -> Made<usize> {
+        let next = place.saturating_add(1);
         if byte == b'#' {
-            self.comment = copy_text(alloc, part_of(line, place, line.len()))?;
-            return Ok(line.len());
-        }
-        if byte == b'"' || byte == b'\'' {
-            self.is_plain = false;
-            self.has_word = true;
-            self.quoting = if byte == b'"' {
-                Quoting::Double
-            } else {
-                Quoting::Single
-            };
-            return Ok(place.saturating_add(1));
-        }
-        if byte == b'\\' {
-            return self.read_escape(line, place);
-        }
-        if byte == b'$' {
-            self.is_plain = false;
+            self.comment = copy_text(self.alloc, self.part(place, self.line.len()))?;
+            return Ok(self.line.len());
         }
         if is_blank(byte) {
-            self.end_word(alloc)?;
-            return Ok(place.saturating_add(1));
+            self.end_word()?;
+            return Ok(next);
+        }
+        self.is_plain = self.is_plain && !b"\"'$".contains(&byte);
+        if byte == b'"' || byte == b'\'' {
+            self.has_word = true;
+            self.quote = Some(byte);
+            return Ok(next);
         }
         self.push(byte)?;
-        Ok(place.saturating_add(1))
+        Ok(next)
     }
 
-    /// Reads the byte at a place, with what belongs to it, and answers the place behind.
-    fn read(
-        &mut self,
-        alloc: Global,
-        line: &[u8],
-        place: usize,
-        variables: &[Variable],
-    ) -> Result<usize, NoMemory> {
-        let byte = byte_at(line, place);
-        match self.quoting {
-            Quoting::Unquoted => return self.read_unquoted(alloc, line, place),
-            Quoting::Single => {
-                if byte == b'\'' {
-                    self.quoting = Quoting::Unquoted;
-                    return Ok(place.saturating_add(1));
-                }
-            }
-            Quoting::Double => {
-                if byte == b'"' {
-                    self.quoting = Quoting::Unquoted;
-                    return Ok(place.saturating_add(1));
-                }
-                if byte == b'\\' {
-                    return self.read_escape(line, place);
-                }
-                if byte == b'$' {
-                    return self.read_variable(alloc, line, place, variables);
-                }
-            }
-        }
-        self.push(byte)?;
-        Ok(place.saturating_add(1))
-    }
-
-    fn finish(mut self, alloc: Global, raw: Vec<u8>) -> Result<SourceLine, NoMemory>
+    fn finish(mut self, number: usize, raw: Vec<u8>) -> Made<SourceLine>
         ensures { IfOk result (λ line. line.raw ≡ raw) }
     {
-        self.end_word(alloc)?;
+        self.end_word()?;
         let Lexer {
             words,
-            word: _,
-            has_word: _,
-            quoting,
+            quote,
             is_plain,
             comment,
+            ..
         } = self;
         Ok(SourceLine {
+            number,
             raw,
             words,
             comment,
             is_plain,
-            is_whole: matches!(quoting, Quoting::Unquoted),
+            is_whole: quote.is_none(),
         })
     }
 }
 
-/// The words of a line.
+/// The words of a line, which this many stand before.
 pub(crate) fn read_line(
     alloc: Global,
     line: &[u8],
+    number: usize,
     variables: &[Variable],
-) -> Result<SourceLine, NoMemory>
+) -> Made<SourceLine>
     ensures { IfOk result (λ read. read.raw.items ≡ line.now) }
 {
-    let mut lexer = Lexer::new(alloc);
+    let mut lexer = Lexer {
+        alloc,
+        line,
+        variables,
+        words: Vec::new(alloc),
+        word: Vec::new(alloc),
+        has_word: false,
+        quote: None,
+        is_plain: true,
+        comment: Vec::new(alloc),
+    };
     let mut next = 0;
     for place in 0..line.len() {
         if place >= next {
-            next = lexer.read(alloc, line, place, variables)?;
+            next = lexer.read(place)?;
         }
     }
-    lexer.finish(alloc, copy_text(alloc, line)?)
+    lexer.finish(number, copy_text(alloc, line)?)
 }

@@ -1,36 +1,43 @@
-//! Lines `bind`, where the frontend listens, in stickd's spelling; `proxy_lines` converts by it, and `options` and `servers` ask
-//! it.
+//! Lines `bind`, where the frontend listens, and lines `server`, where accepted connections go, in stickd's spelling; `fates` converts by
+//! it, and `options` asks which are kept.
 
-use crate::addresses::{endpoints_of, port_of, without_family};
+use crate::addresses::{endpoints_of, port_of, server_endpoint, without_family};
 use crate::keywords::options_loss;
-use crate::manual::{BIND_FLAGS, BIND_VALUES};
-use crate::plan::{Plan, begins};
-use crate::reasons::{Refusal, Why};
-use crate::rules::Converted;
-use crate::texts::{Words, copy_text, is_word, text_of, word_at};
-use base_sequence::NoMemory;
-use std::alloc::Global;
+use crate::lexer::SourceLine;
+use crate::manual::{BIND_FLAGS, BIND_VALUES, SERVER_FLAGS, SERVER_VALUES};
+use crate::plan::Plan;
+use crate::reasons::{
+    Converted, LISTENER_PLACES, MANY_LISTENERS, Made, SERVER_WORDS, SOCKET_ADDRESS, Try, Why, had,
+    lose_if, written,
+};
+use crate::texts::{has_word, is_one_of, is_word, line_of, word_at};
 
 /// How often `--bind` may be given.
 const MOST_BINDS: usize = 16;
 
-/// The first line `bind` of the frontend that has a TCP address; where none has one, the first.
-pub(crate) fn first_bind(plan: &Plan) -> Option<usize> {
-    let section = plan.section(plan.frontend?)?;
-    let mut first = None;
-    for number in section.first..section.end {
-        let words = plan.words(number);
-        if !begins(words, "bind", "") {
-            continue;
-        }
-        if without_family(word_at(words, 1)).is_ok() {
-            return Some(number);
-        }
-        if first.is_none() {
-            first = Some(number);
+/// The value after an option of a line.
+pub(crate) fn option_value<'a>(line: &'a SourceLine, name: &str) -> Option<&'a [u8]> {
+    for (place, word) in line.words.iter().enumerate() {
+        if place >= 2 && is_word(word.as_slice(), name) {
+            return Some(line.word(place.saturating_add(1)));
         }
     }
-    first
+    None
+}
+
+/// The first line `bind` of the frontend that has a TCP address; where none has one, the first.
+pub(crate) fn first_bind(plan: &Plan) -> Option<&SourceLine> {
+    let lines = plan.front();
+    let is_bind = |line: &SourceLine| line.begins("bind", "");
+    lines
+        .iter()
+        .find(|line| is_bind(line) && without_family(line.word(1)).is_ok())
+        .or(lines.iter().find(|line| is_bind(line)))
+}
+
+/// Whether a line is the first `bind`.
+fn is_first(plan: &Plan, line: &SourceLine) -> bool {
+    first_bind(plan).is_some_and(|first| first.number == line.number)
 }
 
 /// An address at which the frontend listens besides its first one, and the line that says so.
@@ -40,18 +47,33 @@ pub(crate) struct FurtherBind {
     pub(crate) endpoint: Vec<u8>,
 }
 
+/// The addresses at which the frontend listens besides its first one: of each line all or none. None are those of a line whose
+/// options change what is served, or with which there would be more than the program takes.
+pub(crate) fn further_binds(plan: &Plan) -> Made<Vec<FurtherBind>> {
+    let mut binds = Vec::new(plan.alloc);
+    for line in plan.front() {
+        let is_first = is_first(plan, line);
+        let loss = if is_first {
+            bind_loss(line)
+        } else {
+            further_loss(line)
+        };
+        if line.begins("bind", "") && loss.is_none() {
+            add_binds(plan, line, usize::from(is_first), &mut binds)?;
+        }
+    }
+    Ok(binds)
+}
+
 /// Adds the addresses of a line from one on, unless there would be more than the program takes.
 fn add_binds(
-    alloc: Global,
-    words: &[Vec<u8>],
-    line: usize,
+    plan: &Plan,
+    line: &SourceLine,
     from: usize,
     binds: &mut Vec<FurtherBind>,
-) -> Result<(), NoMemory> {
-    let endpoints = match endpoints_of(alloc, word_at(words, 1)) {
-        Ok(endpoints) => endpoints,
-        Err(Refusal::OutOfMemory) => return Err(NoMemory),
-        Err(Refusal::Lost(_)) => return Ok(()),
+) -> Made<()> {
+    let Some(endpoints) = had(endpoints_of(plan.alloc, line.word(1)))? else {
+        return Ok(())
     };
     let count = endpoints.len().saturating_sub(from);
     if binds.len().saturating_add(count) > MOST_BINDS {
@@ -59,123 +81,125 @@ fn add_binds(
     }
     for (place, endpoint) in endpoints.into_iter().enumerate() {
         if place >= from {
-            binds.push(FurtherBind { line, endpoint })?;
+            binds.push(FurtherBind {
+                line: line.number,
+                endpoint,
+            })?;
         }
     }
     Ok(())
 }
 
-/// The addresses at which the frontend listens besides its first one: of each line all or none. None are those of a line whose
-/// options change what is served, or with which there would be more than the program takes.
-pub(crate) fn further_binds(alloc: Global, plan: &Plan) -> Result<Vec<FurtherBind>, NoMemory> {
-    let mut binds = Vec::new(alloc);
-    let Some(section) = plan.frontend.and_then(|place| plan.section(place)) else {
-        return Ok(binds);
-    };
-    let first = first_bind(plan);
-    for number in section.first..section.end {
-        let words = plan.words(number);
-        let is_first = first == Some(number);
-        let loss = if is_first {
-            bind_loss(words)
-        } else {
-            further_loss(words)
-        };
-        if begins(words, "bind", "") && loss.is_none() {
-            let from = usize::from(is_first);
-            add_binds(alloc, words, number, from, &mut binds)?;
-        }
-    }
-    Ok(binds)
-}
-
-/// Whether the frontend listens on another port too than that of its first address.
-pub(crate) fn has_other_port(alloc: Global, plan: &Plan) -> Result<bool, NoMemory> {
-    let port = listener_port(alloc, plan);
-    for bind in &further_binds(alloc, plan)? {
-        if port_of(bind.endpoint.as_slice()) != port {
-            return Ok(true);
-        }
-    }
-    Ok(false)
-}
-
 /// The port on which the frontend listens, that of its first line.
-pub(crate) fn listener_port(alloc: Global, plan: &Plan) -> Option<u64> {
-    let line = first_bind(plan)?;
-    match endpoints_of(alloc, word_at(plan.words(line), 1)) {
-        Ok(endpoints) => port_of(word_at(endpoints.as_slice(), 0)),
-        Err(_) => None,
-    }
+fn listener_port(plan: &Plan) -> Option<u64> {
+    let endpoints = endpoints_of(plan.alloc, first_bind(plan)?.word(1)).ok()?;
+    port_of(word_at(endpoints.as_slice(), 0))
 }
 
 /// Whether a line limits the connections of its own listeners alone.
-fn has_own_limit(words: &[Vec<u8>]) -> bool {
-    option_value(words, "maxconn").is_some_and(|most| !is_word(most, "0"))
-}
-
-/// How many lines `bind` the frontend has.
-fn count_binds(plan: &Plan) -> usize {
-    let Some(section) = plan.frontend.and_then(|place| plan.section(place)) else {
-        return 0;
-    };
-    let mut count = 0usize;
-    for number in section.first..section.end {
-        if begins(plan.words(number), "bind", "") {
-            count = count.saturating_add(1);
-        }
-    }
-    count
+fn has_own_limit(line: &SourceLine) -> bool {
+    option_value(line, "maxconn").is_some_and(|most| !is_word(most, "0"))
 }
 
 /// Why a line `bind` that isn't the first is left out, where options don't stand for it.
-pub(crate) fn further_loss(words: &[Vec<u8>]) -> Option<Why> {
-    if has_own_limit(words) {
-        return Some(Why::ListenerPlaces);
+fn further_loss(line: &SourceLine) -> Option<Why> {
+    if has_own_limit(line) {
+        Some(LISTENER_PLACES)
+    } else {
+        bind_loss(line)
     }
-    bind_loss(words)
 }
 
 /// What the options of a listener lose that changes what is served.
-pub(crate) fn bind_loss(words: &[Vec<u8>]) -> Option<Why> {
-    options_loss(words, 2, &BIND_VALUES, &BIND_FLAGS)
+fn bind_loss(line: &SourceLine) -> Option<Why> {
+    options_loss(line.words.as_slice(), 2, &BIND_VALUES, &BIND_FLAGS)
 }
 
-/// The value behind an option of a line.
-pub(crate) fn option_value<'a>(words: &'a [Vec<u8>], name: &str) -> Option<&'a [u8]> {
-    for (place, word) in words.iter().enumerate() {
-        if place >= 2 && is_word(word.as_slice(), name) {
-            return Some(word_at(words, place.saturating_add(1)));
-        }
-    }
-    None
-}
-
-/// The first line `bind` in stickd's spelling: its first address alone. Of so many of its others options take care.
-pub(crate) fn convert_bind(
-    alloc: Global,
-    plan: &Plan,
-    words: &[Vec<u8>],
-    others: usize,
-) -> Result<Converted, Refusal> {
-    let endpoints = endpoints_of(alloc, word_at(words, 1))?;
+/// What becomes of a line `bind`: the first one keeps its first address, and options take care of the others. Where they stand for a
+/// line, they are told in place of this.
+pub(crate) fn of_bind(plan: &Plan, line: &SourceLine) -> Try<Converted> {
+    let endpoints = endpoints_of(plan.alloc, line.word(1))?;
+    lose_if(
+        !is_first(plan, line),
+        further_loss(line).unwrap_or(MANY_LISTENERS),
+    )?;
     let first = word_at(endpoints.as_slice(), 0);
-    if first.is_empty() {
-        return Err(Refusal::Lost(Why::SocketAddress));
+    lose_if(first.is_empty(), SOCKET_ADDRESS)?;
+    let binds = further_binds(plan)?;
+    let others = binds.iter().filter(|bind| bind.line == line.number).count();
+    let lines = plan
+        .front()
+        .iter()
+        .filter(|line| line.begins("bind", ""))
+        .count();
+    let altered = match bind_loss(line) {
+        Some(why) => Some(why),
+        None if endpoints.len() > others.saturating_add(1) => Some(MANY_LISTENERS),
+        None if has_own_limit(line) && (endpoints.len() > 1 || lines > 1) => Some(LISTENER_PLACES),
+        None => None,
+    };
+    written(line_of(plan.alloc, &[b"bind", first])?, altered)
+}
+
+/// Whether a line is of a server that HAProxy uses.
+fn is_server(line: &SourceLine) -> bool {
+    line.begins("server", "") && !has_word(line.words.as_slice(), "disabled")
+}
+
+/// How many servers the served backend has.
+pub(crate) fn server_count(plan: &Plan) -> usize {
+    plan.back().iter().filter(|line| is_server(line)).count()
+}
+
+/// The line of the server that is kept: the only one, or where that is wished the one that comes first, which is the first that is no
+/// backup.
+pub(crate) fn kept_server(plan: &Plan) -> Option<&SourceLine> {
+    if server_count(plan) > 1 && !plan.first_server {
+        return None;
     }
-    let mut written: Words = Vec::new(alloc);
-    written.push(text_of(alloc, "bind")?)?;
-    written.push(copy_text(alloc, first)?)?;
-    let is_alone = endpoints.len() == 1 && count_binds(plan) == 1;
-    let mut altered = bind_loss(words);
-    if altered.is_none() && endpoints.len() > others.saturating_add(1) {
-        altered = Some(Why::ManyListeners);
+    let lines = plan.back();
+    lines
+        .iter()
+        .find(|line| is_server(line) && !has_word(line.words.as_slice(), "backup"))
+        .or(lines.iter().find(|line| is_server(line)))
+}
+
+/// Whether a line of the file limits a server's connections, so that HAProxy lets others wait.
+pub(crate) fn has_queue(plan: &Plan) -> bool {
+    plan.lines.iter().any(|line| is_one_of(line.word(0), &["server", "default-server"])
+        && line
+            .words
+            .iter()
+            .any(|word| is_one_of(word.as_slice(), &["maxconn", "minconn"])))
+}
+
+/// What the options of a server from a place on lose that changes what is served. HAProxy sends nobody to one whose weight is 0.
+pub(crate) fn server_loss(line: &SourceLine, from: usize) -> Option<Why> {
+    if option_value(line, "weight").is_some_and(|weight| is_word(weight, "0")) {
+        return Some(SERVER_WORDS);
     }
-    if altered.is_none() && has_own_limit(words) && !is_alone {
-        altered = Some(Why::ListenerPlaces);
+    options_loss(line.words.as_slice(), from, &SERVER_VALUES, &SERVER_FLAGS)
+}
+
+/// A server's line in stickd's spelling: `server NAME ADDRESS`, or `dispatch ADDRESS`.
+pub(crate) fn convert_server(plan: &Plan, line: &SourceLine) -> Try<Converted> {
+    let at = if line.begins("dispatch", "") {
+        1usize
+    } else {
+        2
+    };
+    let name = line.word(at.saturating_sub(1));
+    let port = listener_port(plan);
+    let endpoint = server_endpoint(plan.alloc, line.word(at), port)?;
+    let has_own_port = had(server_endpoint(plan.alloc, line.word(at), None))?.is_some();
+    let mut altered = server_loss(line, at.saturating_add(1));
+    if altered.is_none()
+        && !has_own_port
+        && further_binds(plan)?
+            .iter()
+            .any(|bind| port_of(bind.endpoint.as_slice()) != port)
+    {
+        altered = Some("the server is reached on one port, whatever port a client came to");
     }
-    Ok(Converted {
-        words: written,
-        altered,
-    })
+    written(line_of(plan.alloc, &[b"server", name, &endpoint])?, altered)
 }

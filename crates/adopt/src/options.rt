@@ -1,70 +1,41 @@
 //! Options of the command line that stand for lines; `adoption` makes them, and `command` and `fates` go by them.
 
-use crate::keywords::is_one_of;
-use crate::listeners::{FurtherBind, first_bind, further_binds, option_value};
-use crate::plan::{Plan, begins};
-use crate::sections::Kind;
-use crate::servers::kept_server;
-use crate::texts::{append, append_str, copy_text, is_word, text_of, word_at};
+use crate::lexer::SourceLine;
+use crate::listeners::{first_bind, further_binds, kept_server, option_value};
+use crate::plan::Plan;
+use crate::reasons::Made;
+use crate::texts::{append, append_str, copy_text, is_one_of, text, text_of};
 use base_lines::{push_decimal, read_number};
-use base_sequence::NoMemory;
 use rule_words::read_time;
-use std::alloc::Global;
-
-// The options of `stickd run`, as they are spelled.
-const CONNECTIONS: &str = "--connections";
-
-const THREADS: &str = "--threads";
-
-const TIMEOUT_CONNECT: &str = "--timeout-connect";
-
-const TIMEOUT_CLIENT: &str = "--timeout-client";
-
-const TIMEOUT_SERVER: &str = "--timeout-server";
-
-const TIMEOUT_FIN: &str = "--timeout-fin";
-
-const KEEPALIVE: &str = "--keepalive";
-
-const BACKLOG: &str = "--backlog";
-
-const BIND: &str = "--bind";
-
-const RETRIES: &str = "--retries";
-
-const IPV4_PREFIX: &str = "--ipv4-prefix";
-
-const IPV6_PREFIX: &str = "--ipv6-prefix";
-
-const STATS_SOCKET: &str = "--stats-socket";
-
-const DRAIN: &str = "--drain";
-
-const USER_TIMEOUT: &str = "--tcp-user-timeout";
-
-/// How often HAProxy tries a server again where no line says it.
-const USUAL_RETRIES: &str = "3";
-
-/// What HAProxy's tools may do on a stats socket where its line says no level.
-const USUAL_LEVEL: &[u8] = b"operator";
 
 /// How many bytes a socket's path may have (unix(7)).
 const LONGEST_PATH: usize = 107;
 
-/// The most connections that can be asked for.
-const MOST_CONNECTIONS: u64 = 0xffff_ffff;
-
-/// How often a server can be asked to be tried again.
-const MOST_RETRIES: u64 = 1_000;
+/// The most threads of the program.
+const MOST_THREADS: u64 = 64;
 
 /// The longest backlog that can be asked for.
 const MOST_BACKLOG: u64 = 0x7fff_ffff;
 
-/// After how long systems ask a silent peer, unless they are told.
-const USUAL_KEEPALIVE: &str = "2h";
+/// The options for times, the words after `timeout` for which they stand, and whether the backend's lines count, or the frontend's. In
+/// mode tcp a tunnel begins at once, and its timeout takes the place of both.
+const TIMES: [(&str, &str, bool); 7] = [
+    ("--timeout-connect", "connect", true),
+    ("--timeout-client", "tunnel", true),
+    ("--timeout-server", "tunnel", true),
+    ("--timeout-client", "client", false),
+    ("--timeout-server", "server", true),
+    ("--timeout-fin", "client-fin", false),
+    ("--timeout-fin", "server-fin", true),
+];
 
-/// The most threads of the program.
-const MOST_THREADS: u64 = 64;
+/// The options that ask for keepalive, and whether the backend's lines count, or the frontend's.
+const KEEPALIVES: [(&str, bool); 4] = [
+    ("tcpka", false),
+    ("clitcpka", false),
+    ("tcpka", true),
+    ("srvtcpka", true),
+];
 
 /// An option of the command line, and the line for which it stands: none where the file doesn't say it.
 #[derive(Drop)]
@@ -74,14 +45,16 @@ pub struct CommandOption {
     pub line: Option<usize>,
 }
 
-/// The options that were found.
+/// The options that were found, for a frontend and its backend.
 #[derive(Drop)]
-struct Found {
+struct Found<'a> {
+    plan: &'a Plan,
+    frontend: usize,
     options: Vec<CommandOption>,
 }
 
-impl Found {
-    fn add(&mut self, flag: &'static str, value: Vec<u8>, line: usize) -> Result<(), NoMemory> {
+impl<'a> Found<'a> {
+    fn add(&mut self, flag: &'static str, value: Vec<u8>, line: usize) -> Made<()> {
         self.options.push(CommandOption {
             flag,
             value,
@@ -91,190 +64,213 @@ impl Found {
     }
 
     fn has(&self, flag: &str) -> bool {
-        for option in &self.options {
-            if option.flag == flag {
-                return true;
-            }
-        }
-        false
+        self.options.iter().any(|option| option.flag == flag)
     }
 
-    /// Adds a time, unless it has no end.
-    fn add_time(
-        &mut self,
-        alloc: Global,
-        plan: &Plan,
-        flag: &'static str,
-        line: Option<usize>,
-    ) -> Result<(), NoMemory> {
-        match line {
-            Some(line) => self.add_word(alloc, flag, word_at(plan.words(line), 2), line),
-            None => Ok(()),
-        }
+    /// The line that counts in the frontend, or in its backend.
+    fn line(&self, is_backs: bool, keyword: &str, second: &str) -> Option<&'a SourceLine> {
+        let backend = self.plan.backend.unwrap_or(self.frontend);
+        let place = if is_backs { backend } else { self.frontend };
+        self.plan.effective(place, keyword, second)
     }
 
     /// Adds a time, unless it has no end, or there is one.
-    fn add_word(
-        &mut self,
-        alloc: Global,
-        flag: &'static str,
-        time: &[u8],
-        line: usize,
-    ) -> Result<(), NoMemory> {
+    fn add_time(&mut self, flag: &'static str, time: &[u8], line: usize) -> Made<()> {
         if self.has(flag) || read_time(time).is_err() {
             return Ok(());
         }
-        self.add(flag, copy_text(alloc, time)?, line)
+        self.add(flag, copy_text(self.plan.alloc, time)?, line)
     }
 
-    /// Adds a number, but no more than `most`.
+    /// Adds a number, but no more than `most`, unless it is none, or 0, or there is one.
     fn add_number(
         &mut self,
-        alloc: Global,
         flag: &'static str,
         most: u64,
         number: Option<u64>,
         line: usize,
-    ) -> Result<(), NoMemory> {
-        match number {
-            Some(number) if number > 0 && !self.has(flag) => {
-                let mut value = Vec::new(alloc);
-                push_decimal(&mut value, number.min(most))?;
-                self.add(flag, value, line)
+    ) -> Made<()> {
+        let number = number.unwrap_or(0).min(most);
+        if number == 0 || self.has(flag) {
+            return Ok(());
+        }
+        let mut value = Vec::new(self.plan.alloc);
+        push_decimal(&mut value, number)?;
+        self.add(flag, value, line)
+    }
+
+    /// Adds what lines of `global` say.
+    fn add_global(&mut self) -> Made<()> {
+        let plan = self.plan;
+        for line in &plan.lines {
+            if !plan.is_global(line) {
+                continue;
             }
-            _ => Ok(()),
+            if line.begins("stats", "socket") {
+                self.add_stats_socket(line)?;
+            } else if line.begins("hard-stop-after", "") {
+                self.add_time("--drain", line.word(1), line.number)?;
+            } else if line.begins("nbthread", "") {
+                let threads = read_number(line.word(1)).filter(|count| *count <= MOST_THREADS);
+                self.add_number("--threads", MOST_THREADS, threads, line.number)?;
+            }
+        }
+        Ok(())
+    }
+
+    /// Adds the first stats socket that has a path: it, its mode and its group where they are said, and what its clients may do.
+    fn add_stats_socket(&mut self, line: &SourceLine) -> Made<()> {
+        let path = line.word(2);
+        if self.has("--stats-socket") || !is_socket_path(path) {
+            return Ok(());
+        }
+        let mut value = copy_text(self.plan.alloc, path)?;
+        if let Some(mode) = option_value(line, "mode")
+            && is_mode(mode)
+        {
+            append_str(&mut value, ",mode=")?;
+            append(&mut value, mode)?;
+        }
+        if let Some(group) = option_value(line, "group")
+            && !group.is_empty()
+            && !group.contains(&b',')
+        {
+            append_str(&mut value, ",group=")?;
+            append(&mut value, group)?;
+        }
+        append_str(&mut value, ",level=")?;
+        append(&mut value, stats_level(line))?;
+        self.add("--stats-socket", value, line.number)
+    }
+
+    /// Adds the smallest limit of connections.
+    fn add_limit(&mut self) -> Made<()> {
+        let mut limit = None;
+        let plan = self.plan;
+        for line in &plan.lines {
+            if plan.is_global(line) && line.begins("maxconn", "") {
+                limit = smaller(limit, Some(line.word(1)), line);
+            }
+        }
+        if let Some(line) = self.line(false, "maxconn", "") {
+            limit = smaller(limit, Some(line.word(1)), line);
+        }
+        for line in [kept_server(self.plan), first_bind(self.plan)] {
+            if let Some(line) = line {
+                limit = smaller(limit, option_value(line, "maxconn"), line);
+            }
+        }
+        match limit {
+            Some((most, line)) => self.add_number("--connections", 0xffff_ffff, Some(most), line),
+            None => Ok(()),
         }
     }
-}
 
-/// The timeouts of the frontend and the backend.
-fn add_times(
-    alloc: Global,
-    plan: &Plan,
-    found: &mut Found,
-    frontend: usize,
-) -> Result<(), NoMemory> {
-    let backend = plan.backend.unwrap_or(frontend);
-    found.add_time(
-        alloc,
-        plan,
-        TIMEOUT_CONNECT,
-        plan.effective(backend, "timeout", "connect"),
-    )?;
-    // In mode tcp a tunnel begins at once, and its timeout takes the place of both.
-    let tunnel = plan.effective(backend, "timeout", "tunnel");
-    found.add_time(alloc, plan, TIMEOUT_CLIENT, tunnel)?;
-    found.add_time(alloc, plan, TIMEOUT_SERVER, tunnel)?;
-    found.add_time(
-        alloc,
-        plan,
-        TIMEOUT_CLIENT,
-        plan.effective(frontend, "timeout", "client"),
-    )?;
-    found.add_time(
-        alloc,
-        plan,
-        TIMEOUT_SERVER,
-        plan.effective(backend, "timeout", "server"),
-    )?;
-    found.add_time(
-        alloc,
-        plan,
-        TIMEOUT_FIN,
-        plan.effective(frontend, "timeout", "client-fin"),
-    )?;
-    found.add_time(
-        alloc,
-        plan,
-        TIMEOUT_FIN,
-        plan.effective(backend, "timeout", "server-fin"),
-    )
-}
-
-/// A limit of connections, and its line.
-#[derive(Clone, Copy)]
-struct Limit {
-    most: u64,
-    line: usize,
-}
-
-/// The smaller of two limits; one of 0 is none.
-fn smaller(limit: Option<Limit>, word: &[u8], line: usize) -> Option<Limit> {
-    let Some(most) = read_number(word) else {
-        return limit;
-    };
-    if most == 0 {
-        return limit;
+    /// Adds the timeouts of the frontend and the backend.
+    fn add_times(&mut self) -> Made<()> {
+        for (flag, name, is_backs) in TIMES {
+            if let Some(line) = self.line(is_backs, "timeout", name) {
+                self.add_time(flag, line.word(2), line.number)?;
+            }
+        }
+        Ok(())
     }
+
+    /// Adds how often a server is tried again: 3 times where no line says it, and then the backend's first line stands for it.
+    fn add_retries(&mut self) -> Made<()> {
+        let Some(first) = self.plan.back().first() else {
+            return Ok(())
+        };
+        match self.line(true, "retries", "") {
+            Some(line) => self.add_number(
+                "--retries",
+                1_000,
+                read_number(line.word(1)),
+                line.number,
+            ),
+            None => self.add_number("--retries", 1_000, Some(3), first.number),
+        }
+    }
+
+    /// After how long a silent peer is asked, as a line says, where a number alone is one of seconds; else as systems do.
+    fn keepalive_time(&self) -> Made<Vec<u8>> {
+        let alloc = self.plan.alloc;
+        let usual = text_of(alloc, "2h")?;
+        let front = self.line(false, "clitcpka-idle", "");
+        let Some(line) = front.or(self.line(true, "srvtcpka-idle", "")) else {
+            return Ok(usual)
+        };
+        let word = line.word(1);
+        let unit = if read_number(word).is_some() {
+            b"s".as_slice()
+        } else {
+            b""
+        };
+        let time = text(alloc, &[word, unit])?;
+        Ok(if read_time(time.as_slice()).is_ok() {
+            time
+        } else {
+            usual
+        })
+    }
+
+    /// Adds keepalive, how long a peer may acknowledge nothing, and the backlog.
+    fn add_sockets(&mut self) -> Made<()> {
+        for (name, is_backs) in KEEPALIVES {
+            if let Some(line) = self.line(is_backs, "option", name)
+                && !self.has("--keepalive")
+            {
+                let time = self.keepalive_time()?;
+                self.add("--keepalive", time, line.number)?;
+            }
+        }
+        let bind = first_bind(self.plan);
+        for line in [bind, kept_server(self.plan)] {
+            if let Some(line) = line
+                && let Some(time) = option_value(line, "tcp-ut")
+            {
+                self.add_time("--tcp-user-timeout", time, line.number)?;
+            }
+        }
+        if let Some(line) = self.line(false, "backlog", "") {
+            self.add_number(
+                "--backlog",
+                MOST_BACKLOG,
+                read_number(line.word(1)),
+                line.number,
+            )?;
+        }
+        if let Some(line) = bind
+            && let Some(value) = option_value(line, "backlog")
+        {
+            self.add_number("--backlog", MOST_BACKLOG, read_number(value), line.number)?;
+        }
+        Ok(())
+    }
+
+    /// Adds how much of a source counts in the keys of rules. The line is the frontend's first, as the rules' own lines stand.
+    fn add_prefixes(&mut self) -> Made<()> {
+        let (Some(mask), Some(first)) = (self.plan.mask, self.plan.front().first()) else {
+            return Ok(())
+        };
+        let v4 = Some(mask.v4).filter(|bits| *bits != 32);
+        let v6 = mask.v6.filter(|bits| *bits != 128);
+        self.add_number("--ipv4-prefix", 32, v4, first.number)?;
+        self.add_number("--ipv6-prefix", 128, v6, first.number)
+    }
+}
+
+/// The smaller of a limit and that of a word, with its line; one of 0 is none.
+fn smaller(
+    limit: Option<(u64, usize)>,
+    word: Option<&[u8]>,
+    line: &SourceLine,
+) -> Option<(u64, usize)> {
+    let most = word.and_then(|word| read_number(word)).unwrap_or(0);
     match limit {
-        Some(other) if other.most <= most => limit,
-        _ => Some(Limit { most, line }),
-    }
-}
-
-/// The smallest limit of connections.
-fn connection_limit(plan: &Plan, frontend: usize) -> Option<Limit> {
-    let mut limit = None;
-    for section in &plan.sections {
-        if section.kind == Kind::Global {
-            for number in section.first..section.end {
-                let words = plan.words(number);
-                if begins(words, "maxconn", "") {
-                    limit = smaller(limit, word_at(words, 1), number);
-                }
-            }
-        }
-    }
-    if let Some(line) = plan.effective(frontend, "maxconn", "") {
-        limit = smaller(limit, word_at(plan.words(line), 1), line);
-    }
-    if let Some(line) = kept_server(plan)
-        && let Some(value) = option_value(plan.words(line), "maxconn")
-    {
-        limit = smaller(limit, value, line);
-    }
-    if let Some(line) = first_bind(plan)
-        && let Some(value) = option_value(plan.words(line), "maxconn")
-    {
-        limit = smaller(limit, value, line);
-    }
-    limit
-}
-
-/// What lines of `global` say.
-fn add_global(alloc: Global, plan: &Plan, found: &mut Found) -> Result<(), NoMemory> {
-    for section in &plan.sections {
-        if section.kind != Kind::Global {
-            continue;
-        }
-        for number in section.first..section.end {
-            add_global_line(alloc, plan.words(number), number, found)?;
-        }
-    }
-    Ok(())
-}
-
-/// What a line of `global` says.
-fn add_global_line(
-    alloc: Global,
-    words: &[Vec<u8>],
-    line: usize,
-    found: &mut Found,
-) -> Result<(), NoMemory> {
-    if begins(words, "stats", "socket") {
-        return add_stats_socket(alloc, words, line, found);
-    }
-    if begins(words, "hard-stop-after", "") {
-        return found.add_word(alloc, DRAIN, word_at(words, 1), line);
-    }
-    if !begins(words, "nbthread", "") {
-        return Ok(());
-    }
-    match read_number(word_at(words, 1)) {
-        Some(threads) if threads <= MOST_THREADS => {
-            found.add_number(alloc, THREADS, MOST_THREADS, Some(threads), line)
-        }
-        _ => Ok(()),
+        Some((other, _)) if other <= most => limit,
+        _ if most == 0 => limit,
+        _ => Some((most, line.number)),
     }
 }
 
@@ -290,169 +286,32 @@ fn is_socket_path(word: &[u8]) -> bool {
 }
 
 /// What clients of a stats socket may do, by its line. An operator may change nothing here, so nobody may do more than in HAProxy.
-fn stats_level(words: &[Vec<u8>]) -> &[u8] {
-    match option_value(words, "level") {
+fn stats_level(line: &SourceLine) -> &[u8] {
+    match option_value(line, "level") {
         Some(level) if is_one_of(level, &["user", "operator", "admin"]) => level,
         Some(_) => b"user",
-        None => USUAL_LEVEL,
-    }
-}
-
-/// Whether a word is a group's name that can stand in the option.
-fn is_group(word: &[u8]) -> bool {
-    !word.is_empty() && !word.contains(&b',')
-}
-
-/// The first stats socket that has a path: it, its mode and its group where they are said, and what its clients may do.
-fn add_stats_socket(
-    alloc: Global,
-    words: &[Vec<u8>],
-    line: usize,
-    found: &mut Found,
-) -> Result<(), NoMemory> {
-    let path = word_at(words, 2);
-    if found.has(STATS_SOCKET) || !is_socket_path(path) {
-        return Ok(());
-    }
-    let mut value = copy_text(alloc, path)?;
-    if let Some(mode) = option_value(words, "mode")
-        && is_mode(mode)
-    {
-        append_str(&mut value, ",mode=")?;
-        append(&mut value, mode)?;
-    }
-    if let Some(group) = option_value(words, "group")
-        && is_group(group)
-    {
-        append_str(&mut value, ",group=")?;
-        append(&mut value, group)?;
-    }
-    append_str(&mut value, ",level=")?;
-    append(&mut value, stats_level(words))?;
-    found.add(STATS_SOCKET, value, line)
-}
-
-/// The line that asks for keepalive of connections, if any.
-fn keepalive_line(plan: &Plan, frontend: usize) -> Option<usize> {
-    let backend = plan.backend.unwrap_or(frontend);
-    for (place, name) in [
-        (frontend, "tcpka"),
-        (frontend, "clitcpka"),
-        (backend, "tcpka"),
-        (backend, "srvtcpka"),
-    ] {
-        if let Some(line) = plan.effective(place, "option", name) {
-            return Some(line);
-        }
-    }
-    None
-}
-
-/// After how long a silent peer is asked, as a line says, where a number alone is one of seconds; else as systems do.
-fn keepalive_time(alloc: Global, plan: &Plan, frontend: usize) -> Result<Vec<u8>, NoMemory> {
-    let backend = plan.backend.unwrap_or(frontend);
-    let line = match plan.effective(frontend, "clitcpka-idle", "") {
-        Some(line) => Some(line),
-        None => plan.effective(backend, "srvtcpka-idle", ""),
-    };
-    let Some(line) = line else {
-        return text_of(alloc, USUAL_KEEPALIVE);
-    };
-    let mut time = copy_text(alloc, word_at(plan.words(line), 1))?;
-    if read_number(time.as_slice()).is_some() {
-        time.push(b's')?;
-    }
-    if read_time(time.as_slice()).is_err() {
-        return text_of(alloc, USUAL_KEEPALIVE);
-    }
-    Ok(time)
-}
-
-/// Keepalive, how long a peer may acknowledge nothing, and the backlog.
-fn add_sockets(
-    alloc: Global,
-    plan: &Plan,
-    found: &mut Found,
-    frontend: usize,
-) -> Result<(), NoMemory> {
-    if let Some(line) = keepalive_line(plan, frontend) {
-        found.add(KEEPALIVE, keepalive_time(alloc, plan, frontend)?, line)?;
-    }
-    for line in [first_bind(plan), kept_server(plan)] {
-        if let Some(line) = line
-            && let Some(time) = option_value(plan.words(line), "tcp-ut")
-        {
-            found.add_word(alloc, USER_TIMEOUT, time, line)?;
-        }
-    }
-    if let Some(line) = plan.effective(frontend, "backlog", "") {
-        let number = read_number(word_at(plan.words(line), 1));
-        found.add_number(alloc, BACKLOG, MOST_BACKLOG, number, line)?;
-    }
-    if let Some(line) = first_bind(plan)
-        && let Some(value) = option_value(plan.words(line), "backlog")
-    {
-        found.add_number(alloc, BACKLOG, MOST_BACKLOG, read_number(value), line)?;
-    }
-    Ok(())
-}
-
-/// How much of a source counts in the keys of rules. The line is the frontend's first, as the rules' own lines stand.
-fn add_prefixes(
-    alloc: Global,
-    plan: &Plan,
-    found: &mut Found,
-    frontend: usize,
-) -> Result<(), NoMemory> {
-    let (Some(mask), Some(section)) = (plan.mask, plan.section(frontend)) else {
-        return Ok(());
-    };
-    if mask.v4 != 32 {
-        found.add_number(alloc, IPV4_PREFIX, 32, Some(mask.v4), section.first)?;
-    }
-    match mask.v6 {
-        Some(v6) if v6 != 128 => {
-            found.add_number(alloc, IPV6_PREFIX, 128, Some(v6), section.first)
-        }
-        _ => Ok(()),
-    }
-}
-
-/// How often a server is tried again. Where no line says it, the backend's first line stands for it.
-fn add_retries(alloc: Global, plan: &Plan, found: &mut Found) -> Result<(), NoMemory> {
-    let Some(backend) = plan.backend else {
-        return Ok(());
-    };
-    if let Some(line) = plan.effective(backend, "retries", "") {
-        let number = read_number(word_at(plan.words(line), 1));
-        return found.add_number(alloc, RETRIES, MOST_RETRIES, number, line);
-    }
-    match plan.section(backend) {
-        Some(section) => found.add(RETRIES, text_of(alloc, USUAL_RETRIES)?, section.first),
-        None => Ok(()),
+        None => b"operator",
     }
 }
 
 /// The options that stand for lines of a file.
-pub(crate) fn command_options(alloc: Global, plan: &Plan) -> Result<Vec<CommandOption>, NoMemory> {
+pub(crate) fn command_options(plan: &Plan) -> Made<Vec<CommandOption>> {
     let mut found = Found {
-        options: Vec::new(alloc),
+        plan,
+        frontend: plan.frontend.unwrap_or(0),
+        options: Vec::new(plan.alloc),
     };
-    add_global(alloc, plan, &mut found)?;
-    let Some(frontend) = plan.frontend else {
-        return Ok(found.options);
-    };
-    if let Some(limit) = connection_limit(plan, frontend) {
-        let most = Some(limit.most);
-        found.add_number(alloc, CONNECTIONS, MOST_CONNECTIONS, most, limit.line)?;
+    found.add_global()?;
+    if plan.frontend.is_some() {
+        found.add_limit()?;
+        for bind in further_binds(plan)? {
+            found.add("--bind", bind.endpoint, bind.line)?;
+        }
+        found.add_times()?;
+        found.add_retries()?;
+        found.add_sockets()?;
+        found.add_prefixes()?;
     }
-    for FurtherBind { line, endpoint } in further_binds(alloc, plan)? {
-        found.add(BIND, endpoint, line)?;
-    }
-    add_times(alloc, plan, &mut found, frontend)?;
-    add_retries(alloc, plan, &mut found)?;
-    add_sockets(alloc, plan, &mut found, frontend)?;
-    add_prefixes(alloc, plan, &mut found, frontend)?;
-    let Found { options } = found;
+    let Found { options, .. } = found;
     Ok(options)
 }

@@ -1,9 +1,8 @@
 //! A file, what is served of it, and what its rules track; `choices` makes it, and the conversions read it.
 
 use crate::lexer::SourceLine;
-use crate::sections::Section;
-use crate::texts::{copy_text, is_word, word_at};
-use base_sequence::NoMemory;
+use crate::reasons::Made;
+use crate::texts::{Words, copy_text, has_text, is_one_of, is_word, word_at};
 use std::alloc::Global;
 
 /// A file of patterns that `-f` names. None where it can't be read.
@@ -22,9 +21,48 @@ pub struct Wishes {
     pub first_server: bool,
 }
 
+/// What a section is.
+#[derive(Clone, Copy, PartialEq, Eq)]
+pub enum Kind {
+    Global,
+    Defaults,
+    Frontend,
+    Backend,
+    Listen,
+    Other,
+}
+
+/// A section.
+#[derive(Drop)]
+pub struct Section {
+    pub kind: Kind,
+    pub name: Vec<u8>,
+    /// Its name in what is written.
+    pub new_name: Vec<u8>,
+    /// The line that begins it.
+    pub first: usize,
+    /// The line after its last one.
+    pub end: usize,
+    /// The section `defaults` that it has.
+    pub defaults: Option<usize>,
+}
+
+impl Section {
+    /// Whether it is a frontend, or a listen section.
+    pub(crate) fn has_frontend(&self) -> bool {
+        matches!(self.kind, Kind::Frontend | Kind::Listen)
+    }
+
+    /// Whether it is a backend, or a listen section.
+    pub(crate) fn has_backend(&self) -> bool {
+        matches!(self.kind, Kind::Backend | Kind::Listen)
+    }
+}
+
 /// What a rule tracks.
 #[derive(Drop)]
 pub struct Track {
+    /// The slot's digit.
     pub slot: u8,
     /// The section whose table it is.
     pub table: Option<usize>,
@@ -42,7 +80,7 @@ pub struct RuleAt {
     pub origin: usize,
     /// 1 for `connection`, 2 for `session`, 3 for the frontend's `content`, 4 for the backend's.
     pub phase: u8,
-    /// The line behind which it has to stand: its own where it may stay.
+    /// The line after which it has to stand: its own where it may stay.
     pub place: usize,
 }
 
@@ -57,6 +95,7 @@ pub struct SharedMask {
 /// A file, and what is served of it.
 #[derive(Drop)]
 pub struct Plan {
+    pub alloc: Global,
     pub lines: Vec<SourceLine>,
     pub sections: Vec<Section>,
     /// The frontend that is served.
@@ -72,21 +111,30 @@ pub struct Plan {
     pub mask: Option<SharedMask>,
     /// Whether a table stores `gpc_rate`.
     pub stores_rates: bool,
-    /// The slot by which all connections of the frontend are counted together, where a rule asks how many there are.
+    /// The digit of the slot by which all connections of the frontend are counted together, where a rule asks how many there are.
     pub counts_all: Option<u8>,
     pub first_server: bool,
     pub files: Vec<PatternFile>,
 }
 
-impl Plan {
-    /// The name of the frontend that is served.
-    pub(crate) fn frontend_name(&self) -> &[u8] {
-        match self.frontend {
-            Some(place) => self.new_name(place),
-            None => b"",
-        }
+impl SourceLine {
+    /// The word at a place, which is empty where there is none.
+    pub(crate) fn word(&self, place: usize) -> &[u8] {
+        word_at(self.words.as_slice(), place)
     }
 
+    /// Whether it begins with these two words; any second word where that is empty.
+    pub(crate) fn begins(&self, keyword: &str, second: &str) -> bool {
+        is_word(self.word(0), keyword) && (second.is_empty() || is_word(self.word(1), second))
+    }
+
+    /// Whether it is an ACL, or a rule.
+    pub(crate) fn asks(&self) -> bool {
+        is_one_of(self.word(0), &["acl", "tcp-request"])
+    }
+}
+
+impl Plan {
     /// The words of a line.
     pub(crate) fn words(&self, line: usize) -> &[Vec<u8>] {
         match self.lines.get(line) {
@@ -95,9 +143,35 @@ impl Plan {
         }
     }
 
-    /// The section at a place.
-    pub(crate) fn section(&self, place: usize) -> Option<&Section> {
-        self.sections.get(place)
+    /// The lines of a section, with its first one.
+    pub(crate) fn body(&self, place: usize) -> &[SourceLine] {
+        match self.sections.get(place) {
+            Some(section) => self.lines.get(section.first..section.end).unwrap_or(&[]),
+            None => &[],
+        }
+    }
+
+    /// The lines of the frontend that is served.
+    pub(crate) fn front(&self) -> &[SourceLine] {
+        match self.frontend {
+            Some(place) => self.body(place),
+            None => &[],
+        }
+    }
+
+    /// The lines of the section whose server it has.
+    pub(crate) fn back(&self) -> &[SourceLine] {
+        match self.backend {
+            Some(place) => self.body(place),
+            None => &[],
+        }
+    }
+
+    /// The section in which a line stands.
+    pub(crate) fn section_at(&self, line: usize) -> Option<usize> {
+        self.sections
+            .iter()
+            .rposition(|section| section.first <= line)
     }
 
     /// The name that a section has in what is written.
@@ -108,70 +182,94 @@ impl Plan {
         }
     }
 
-    /// Whether the section at a place is the frontend that is served.
-    pub(crate) fn is_frontend(&self, place: usize) -> bool {
-        self.frontend == Some(place)
+    /// The name of the frontend that is served.
+    pub(crate) fn frontend_name(&self) -> &[u8] {
+        match self.frontend {
+            Some(place) => self.new_name(place),
+            None => b"",
+        }
     }
 
-    /// Whether the section at a place is the one whose server it has.
-    pub(crate) fn is_backend(&self, place: usize) -> bool {
-        self.backend == Some(place)
+    /// Whether a section has a line with this keyword.
+    pub(crate) fn has_line(&self, place: usize, keyword: &str) -> bool {
+        self.body(place).iter().any(|line| line.begins(keyword, ""))
+    }
+
+    /// Whether a section could be served as a frontend: it has a listener, and isn't switched off.
+    pub(crate) fn listens(&self, place: usize) -> bool {
+        self.sections
+            .get(place)
+            .is_some_and(|section| section.has_frontend())
+            && self.has_line(place, "bind")
+            && !self.has_line(place, "disabled")
+    }
+
+    /// Whether a section, or the defaults that it has, says last that HTTP is spoken.
+    pub(crate) fn is_http(&self, place: usize) -> bool {
+        self.effective(place, "mode", "")
+            .is_some_and(|line| is_word(line.word(1), "http"))
     }
 
     /// The section of this name that has a table.
     pub(crate) fn table_section(&self, name: &[u8]) -> Option<usize> {
-        for (place, section) in self.sections.iter().enumerate() {
-            if section.has_table && section.name.as_slice() == name {
-                return Some(place);
-            }
-        }
-        None
+        (0..self.sections.len()).find(|place| self.has_name(*place, name)
+            && self.has_line(*place, "stick-table"))
     }
 
-    /// The last line of a section, or of the defaults that it has, which begins with these words; any second word
-    /// where that is empty.
-    pub(crate) fn effective(&self, place: usize, keyword: &str, second: &str) -> Option<usize> {
-        let mut at = Some(place);
+    /// Whether a section has this name.
+    pub(crate) fn has_name(&self, place: usize, name: &[u8]) -> bool {
+        self.sections
+            .get(place)
+            .is_some_and(|section| section.name.as_slice() == name)
+    }
+
+    /// The last line of a section, or of the defaults that it has, which begins with these words; any second word where that is empty.
+    pub(crate) fn effective(
+        &self,
+        place: usize,
+        keyword: &str,
+        second: &str,
+    ) -> Option<&SourceLine> {
+        let mut at = place;
         for _ in 0..self.sections.len() {
-            let here = at?;
-            if let Some(line) = self.last_line(here, keyword, second) {
+            if let Some(line) = self
+                .body(at)
+                .iter()
+                .rfind(|line| line.begins(keyword, second))
+            {
                 return Some(line);
             }
-            at = self.sections.get(here)?.defaults;
+            at = self.sections.get(at)?.defaults?;
         }
         None
     }
 
-    fn last_line(&self, place: usize, keyword: &str, second: &str) -> Option<usize> {
-        let section = self.sections.get(place)?;
-        let mut last = None;
-        for (number, line) in self.lines.iter().enumerate() {
-            if number > section.first
-                && number < section.end
-                && begins(line.words.as_slice(), keyword, second)
-            {
-                last = Some(number);
-            }
-        }
-        last
+    /// The lines of `global`.
+    pub(crate) fn is_global(&self, line: &SourceLine) -> bool {
+        self.section_at(line.number)
+            .and_then(|place| self.sections.get(place))
+            .is_some_and(|section| section.kind == Kind::Global)
+    }
+
+    /// Whether a rule or an ACL of the file has this text in a word.
+    pub(crate) fn is_asked(&self, text: &[u8]) -> bool {
+        self.lines.iter().any(|line| line.asks() && has_piece(line.words.as_slice(), text))
     }
 }
 
-/// Whether words begin with these two; any second word where that is empty.
-pub(crate) fn begins(words: &[Vec<u8>], keyword: &str, second: &str) -> bool {
-    is_word(word_at(words, 0), keyword) && (second.is_empty() || is_word(word_at(words, 1), second))
+/// Whether a text stands in one of these words.
+pub(crate) fn has_piece(words: &[Vec<u8>], text: &[u8]) -> bool {
+    words.iter().any(|word| has_text(word.as_slice(), text))
 }
 
 /// The names of the files of patterns that a file's lines name by `-f`.
-pub(crate) fn pattern_files(alloc: Global, lines: &[SourceLine]) -> Result<Vec<Vec<u8>>, NoMemory> {
+pub(crate) fn pattern_files(alloc: Global, lines: &[SourceLine]) -> Made<Words> {
     let mut names = Vec::new(alloc);
     for line in lines {
-        let mut is_next = false;
-        for word in &line.words {
-            if is_next {
-                names.push(copy_text(alloc, word.as_slice())?)?;
+        for (place, word) in line.words.iter().enumerate() {
+            if is_word(word.as_slice(), "-f") && place.saturating_add(1) < line.words.len() {
+                names.push(copy_text(alloc, line.word(place.saturating_add(1)))?)?;
             }
-            is_next = is_word(word.as_slice(), "-f");
         }
     }
     Ok(names)

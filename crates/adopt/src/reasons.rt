@@ -1,190 +1,163 @@
 //! Why a line is left out, or what it loses; the conversions answer it, and the report prints it.
 
+use crate::fates::FateKind;
 use base_sequence::NoMemory;
 use std::alloc::AllocFailed;
 
-/// Why a line is left out, or what it loses.
-#[derive(Clone, Copy)]
-pub enum Why {
-    NoLogs,
-    NoChecks,
-    OneServer,
-    NoStatistics,
-    NeedsHttp,
-    ProcessSetting,
-    SectionHeader,
-    NotServed,
-    TableOnly,
-    OtherSection,
-    Overruled,
-    LargerLimit,
-    NoTimeout,
-    NothingToSay,
-    AclOfLostRule,
-    DecidesNothing,
-    InspectDelay,
-    NoOption,
-    HttpMode,
-    OtherFrontend,
-    OtherServer,
-    UnknownKeyword,
-    UnreadableLine,
-    ServerChoice,
-    Filter,
-    RateLimit,
-    Transparent,
-    SourceAddress,
-    Responses,
-    Conditional,
-    Peers,
-    ServerWords,
-    ProxyProtocol,
-    Tls,
-    BindWords,
-    HostName,
-    SocketAddress,
-    SilentDrop,
-    UnknownAction,
-    Payload,
-    UnknownFetch,
-    Converter,
-    UnknownValue,
-    MissingFile,
-    UnknownAcl,
-    OtherTable,
-    UntrackedCount,
-    MoreSlots,
-    TrackedKey,
-    OddCharacters,
-    BadCondition,
-    PartOfCondition,
-    AcceptBefore,
-    NotRead,
-    MovedBelow,
-    SpreadAccept,
-    HttpColumns,
-    OtherMask,
-    ManyListeners,
-    OnePort,
-    NoRetries,
-    OwnSocket,
-    NeverEnds,
-    ServerPlaces,
-    NoQueue,
-    ListenerPlaces,
-    NobodyWaits,
-    UncountedSessions,
-    DrainTime,
-    Descriptors,
-    Resolved,
-    NoTls,
-    OtherFiles,
-    Environment,
-    Lua,
-    OtherProcesses,
-    OtherFailures,
-    OneSilence,
-    OtherUnit,
-    BytesAtEnd,
-}
+/// Why a line is left out, or what it loses, in the words of the report.
+pub(crate) type Why = &'static str;
 
-impl Why {
-    /// What is said of it.
-    pub(crate) fn text(self) -> &'static str {
-        match self {
-            Why::NoLogs => "no log lines are written",
-            Why::NoChecks => "the server isn't checked",
-            Why::OneServer => "it chooses between servers, and one is served",
-            Why::NoStatistics => "there is no page of statistics",
-            Why::NeedsHttp => "it does nothing in mode tcp",
-            Why::ProcessSetting => "it is a matter of HAProxy's process",
-            Why::SectionHeader => "what matters of the section stands elsewhere",
-            Why::NotServed => "its section isn't served",
-            Why::TableOnly => "only the section's table is used",
-            Why::OtherSection => "stickd has no such section",
-            Why::Overruled => "another line overrules it",
-            Why::LargerLimit => "a smaller limit stands for it",
-            Why::NoTimeout => "stickd has no such timeout",
-            Why::NothingToSay => "it says nothing that stickd asks",
-            Why::AclOfLostRule => "stickd can't ask it, and no rule that is left does",
-            Why::DecidesNothing => "what it lets pass is let pass anyway",
-            Why::InspectDelay => "rules don't wait for bytes",
-            Why::NoOption => "stickd does without it",
-            Why::HttpMode => "HTTP isn't read: its bytes are relayed as they are",
-            Why::OtherFrontend =>
-                "one frontend is served, and it is another: --frontend NAME chooses",
-            Why::OtherServer => "there are several servers: --first-server keeps the first",
-            Why::UnknownKeyword => "stickd has nothing like it",
-            Why::UnreadableLine => "a quote isn't closed",
-            Why::ServerChoice => "all connections go to one server",
-            Why::Filter => "bytes aren't filtered",
-            Why::RateLimit => "the rate of all connections together isn't limited",
-            Why::Transparent => "connections go to the server alone",
-            Why::SourceAddress => "the server sees an address that the system picks",
-            Why::Responses => "what a server sends isn't judged",
-            Why::Conditional => "a block under a condition can't be decided here",
-            Why::Peers => "tables aren't shared with peers",
-            Why::ServerWords => "an option of the server is lost",
-            Why::ProxyProtocol => "the PROXY protocol isn't spoken",
-            Why::Tls => "TLS isn't spoken",
-            Why::BindWords => "an option of the listener is lost",
-            Why::HostName => "its name isn't resolved: write its address",
-            Why::SocketAddress => "only TCP addresses are served",
-            Why::SilentDrop => "the connection is reset and not dropped silently",
-            Why::UnknownAction => "rules can't do this",
-            Why::Payload => "rules don't see what a client sends",
-            Why::UnknownFetch => "rules can't ask this",
-            Why::Converter => "rules can't convert what they ask",
-            Why::UnknownValue => "rules can't compare with this value",
-            Why::MissingFile => "its file can't be read",
-            Why::UnknownAcl => "its ACL can't be had",
-            Why::OtherTable => "it looks up the tracked key in another table",
-            Why::UntrackedCount => "it counts an address that no slot tracks in that table",
-            Why::MoreSlots => "there are three slots, sc0 to sc2",
-            Why::TrackedKey => "this key can't be tracked",
-            Why::OddCharacters => "its characters can't be written",
-            Why::BadCondition => "its condition can't be read",
-            Why::PartOfCondition => "a part of its condition is lost",
-            Why::AcceptBefore => "an accept of an earlier kind would end these rules too",
-            Why::NotRead => "stickd doesn't read it",
-            Why::SpreadAccept => "its condition stands, negated, with the rules that it keeps off",
-            Why::MovedBelow => "it stands where HAProxy runs it",
-            Why::HttpColumns => "what HTTP or peers count isn't stored",
-            Why::OtherMask => "addresses are counted one by one, and not by this mask",
-            Why::ManyListeners => "connections are accepted at 17 addresses at most",
-            Why::OnePort => "the server is reached on one port, whatever port a client came to",
-            Why::NoRetries => "a server that refuses isn't tried again",
-            Why::NeverEnds => "no connection ends by it",
-            Why::ServerPlaces =>
-                "connections wait unjudged: HAProxy judges them, and then they wait for a place",
-            Why::NoQueue => "no connection waits for a place at the server",
-            Why::ListenerPlaces =>
-                "connections are limited at all addresses together, and not at this one",
-            Why::NobodyWaits => "nobody is held until the delay is over",
-            Why::UncountedSessions =>
-                "HAProxy has counted the session by then, and stickd counts what isn't rejected",
-            Why::DrainTime => "the time can't be read, and connections may go on for 30s",
-            Why::Descriptors => "HAProxy takes no more connections than these descriptors allow",
-            Why::Resolved => "its value stands where it is used",
-            Why::NoTls => "it says nothing where TLS isn't spoken",
-            Why::OtherFiles => "files are looked for here, and beside the configuration",
-            Why::Environment => "variables stay as they are",
-            Why::Lua => "Lua isn't run",
-            Why::OtherProcesses => "one process serves, with one set of tables",
-            Why::OtherFailures => "which failures are tried again can't be chosen",
-            Why::OneSilence => "a connection in which one side speaks isn't silent",
-            Why::OtherUnit => "bytes are counted one by one",
-            Why::BytesAtEnd => "bytes are counted as their connection ends",
-            Why::OwnSocket => "commands are answered on the socket that --socket names",
-        }
-    }
-}
+// Those that several places say.
+pub(crate) const ACCEPT_BEFORE: Why = "an accept of an earlier kind would end these rules too";
 
-/// Why words couldn't be carried over.
+pub(crate) const BAD_CONDITION: Why = "its condition can't be read";
+
+pub(crate) const DECIDES_NOTHING: Why = "what it lets pass is let pass anyway";
+
+pub(crate) const HOST_NAME: Why = "its name isn't resolved: write its address";
+
+pub(crate) const HTTP_MODE: Why = "HTTP isn't read: its bytes are relayed as they are";
+
+pub(crate) const INSPECT_DELAY: Why = "rules don't wait for bytes";
+
+pub(crate) const LARGER_LIMIT: Why = "a smaller limit stands for it";
+
+pub(crate) const LISTENER_PLACES: Why =
+    "connections are limited at all addresses together, and not at this one";
+
+pub(crate) const LOST_ACL: Why = "stickd can't ask it, and no rule that is left does";
+
+pub(crate) const MANY_LISTENERS: Why = "connections are accepted at 17 addresses at most";
+
+pub(crate) const MORE_SLOTS: Why = "there are three slots, sc0 to sc2";
+
+pub(crate) const MOVED_BELOW: Why = "it stands where HAProxy runs it";
+
+pub(crate) const NEEDS_HTTP: Why = "it does nothing in mode tcp";
+
+pub(crate) const NOTHING_TO_SAY: Why = "it says nothing that stickd asks";
+
+pub(crate) const NOT_SERVED: Why = "its section isn't served";
+
+pub(crate) const NO_CHECKS: Why = "the server isn't checked";
+
+pub(crate) const NO_LOGS: Why = "no log lines are written";
+
+pub(crate) const NO_QUEUE: Why = "no connection waits for a place at the server";
+
+pub(crate) const NO_TLS: Why = "it says nothing where TLS isn't spoken";
+
+pub(crate) const ONE_SERVER: Why = "it chooses between servers, and one is served";
+
+pub(crate) const OTHER_FRONTEND: Why =
+    "one frontend is served, and it is another: --frontend NAME chooses";
+
+pub(crate) const OTHER_SERVER: Why = "there are several servers: --first-server keeps the first";
+
+pub(crate) const OTHER_TABLE: Why = "it looks up the tracked key in another table";
+
+pub(crate) const OVERRULED: Why = "another line overrules it";
+
+pub(crate) const PAYLOAD: Why = "rules don't see what a client sends";
+
+pub(crate) const PROCESS_SETTING: Why = "it is a matter of HAProxy's process";
+
+pub(crate) const PROXY_PROTOCOL: Why = "the PROXY protocol isn't spoken";
+
+pub(crate) const SECTION_HEADER: Why = "what matters of the section stands elsewhere";
+
+pub(crate) const SERVER_CHOICE: Why = "all connections go to one server";
+
+pub(crate) const SERVER_PLACES: Why =
+    "connections wait unjudged: HAProxy judges them, and then they wait for a place";
+
+pub(crate) const SERVER_WORDS: Why = "an option of the server is lost";
+
+pub(crate) const SILENT_DROP: Why = "the connection is reset and not dropped silently";
+
+pub(crate) const SOCKET_ADDRESS: Why = "only TCP addresses are served";
+
+pub(crate) const TLS: Why = "TLS isn't spoken";
+
+pub(crate) const TRACKED_KEY: Why = "this key can't be tracked";
+
+pub(crate) const UNKNOWN_ACTION: Why = "rules can't do this";
+
+pub(crate) const UNKNOWN_FETCH: Why = "rules can't ask this";
+
+pub(crate) const UNKNOWN_KEYWORD: Why = "stickd has nothing like it";
+
+pub(crate) const UNKNOWN_VALUE: Why = "rules can't compare with this value";
+
+pub(crate) const UNREADABLE_LINE: Why = "a quote isn't closed";
+
+/// Why nothing stands for a line: what becomes of it, and the reason.
 #[derive(Clone, Copy)]
-pub enum Refusal {
+pub(crate) enum Refusal {
     OutOfMemory,
-    Lost(Why),
+    Left(FateKind, Why),
+}
+
+/// What is made, unless there is no memory.
+pub(crate) type Made<T> = Result<T, NoMemory>;
+
+/// What is made, unless it can't be.
+pub(crate) type Try<T> = Result<T, Refusal>;
+
+/// What stands for a line: its words with a blank between any two, and what is lost by it, if anything.
+#[derive(Drop)]
+pub(crate) struct Converted {
+    pub text: Vec<u8>,
+    pub altered: Option<Why>,
+}
+
+/// What stands for a line with nothing lost.
+pub(crate) fn same(text: Vec<u8>) -> Try<Converted> {
+    written(text, None)
+}
+
+pub(crate) fn written(text: Vec<u8>, altered: Option<Why>) -> Try<Converted> {
+    Ok(Converted { text, altered })
+}
+
+/// Why a line is left out with a change of what is served.
+pub(crate) fn lost(why: Why) -> Refusal {
+    Refusal::Left(FateKind::Lost, why)
+}
+
+/// Why a line is left out without harm.
+pub(crate) fn harmless(why: Why) -> Refusal {
+    Refusal::Left(FateKind::Harmless, why)
+}
+
+pub(crate) fn lose<T>(why: Why) -> Try<T> {
+    Err(lost(why))
+}
+
+pub(crate) fn leave<T>(why: Why) -> Try<T> {
+    Err(harmless(why))
+}
+
+pub(crate) fn lose_if(is_so: bool, why: Why) -> Try<()> {
+    if is_so { lose(why) } else { Ok(()) }
+}
+
+pub(crate) fn leave_if(is_so: bool, why: Why) -> Try<()> {
+    if is_so { leave(why) } else { Ok(()) }
+}
+
+/// A line that stands elsewhere.
+pub(crate) fn moved<T>(why: Why) -> Try<T> {
+    Err(Refusal::Left(FateKind::Moved, why))
+}
+
+/// What was made, or None where it can't be. An `Err` only for want of memory.
+pub(crate) fn had<T: Drop>(made: Try<T>) -> Made<Option<T>> {
+    match made {
+        Ok(made) => Ok(Some(made)),
+        Err(Refusal::OutOfMemory) => Err(NoMemory),
+        Err(Refusal::Left(_, _)) => Ok(None),
+    }
 }
 
 impl From<NoMemory> for Refusal {

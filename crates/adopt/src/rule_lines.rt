@@ -1,148 +1,92 @@
-//! What becomes of lines with rules; `fates` and `proxy_lines` call it, and `headings` asks what is written of a rule.
+//! What becomes of lines with rules; `fates` calls it, and `headings` asks what is written of a rule.
 
 use crate::actions::is_idle;
-use crate::fates::{Fate, FateKind, left, stands};
-use crate::guards::is_spread;
+use crate::fates::added;
+use crate::guards::spread_terms;
 use crate::lexer::SourceLine;
-use crate::plan::Plan;
-use crate::reasons::{Refusal, Why};
-use crate::rules::{AcceptRole, Converted, accept_role, accepts, convert_rule, rule_place};
-use crate::standing::{added, of_converted, written};
-use crate::texts::{Words, word_at};
-use crate::waits::waits;
-use base_sequence::NoMemory;
-use std::alloc::Global;
+use crate::plan::{Plan, RuleAt};
+use crate::reasons::{
+    ACCEPT_BEFORE, Converted, DECIDES_NOTHING, MOVED_BELOW, Made, NOT_SERVED, NOTHING_TO_SAY, Try,
+    had, harmless, leave, leave_if, lose, moved, written,
+};
+use crate::rules::{AcceptRole, accept_role, accepts, convert_rule, rule_of};
+use crate::texts::{Words, has_name, is_word, is_writable, word_at};
 
-/// The rule at a place as it is written. None where it isn't.
-pub(crate) fn written_rule(
-    alloc: Global,
-    plan: &Plan,
-    place: usize,
-) -> Result<Option<Converted>, NoMemory> {
-    let Some(line) = plan
-        .rules
-        .get(place)
-        .and_then(|rule| plan.lines.get(rule.line))
-    else {
-        return Ok(None);
-    };
-    let fate = rule_fate(alloc, plan, place, line)?;
-    if !stands(fate.kind) {
-        return Ok(None);
-    }
-    match convert_rule(alloc, plan, place) {
-        Ok(converted) => Ok(Some(converted)),
-        Err(Refusal::OutOfMemory) => Err(NoMemory),
-        Err(Refusal::Lost(_)) => Ok(None),
-    }
+/// Whether one of these words asks whether the delay is over.
+fn asks_end(words: &[Vec<u8>]) -> bool {
+    has_name(words, b"WAIT_END") || has_name(words, b"wait_end")
 }
 
-/// What becomes of a rule that holds a connection until a delay is over: it stands, and decides at once.
-fn of_waiting(
-    alloc: Global,
-    plan: &Plan,
-    place: usize,
-    line: &SourceLine,
-) -> Result<Fate, NoMemory> {
-    match convert_rule(alloc, plan, place) {
-        Ok(converted) => written(
-            alloc,
-            line,
-            converted.words.as_slice(),
-            Some(Why::NobodyWaits),
-        ),
-        Err(refusal) => of_converted(alloc, line, Err(refusal)),
-    }
+/// Whether a rule holds a connection until a delay is over: it asks for that, itself or by an ACL.
+fn waits(plan: &Plan, rule: &RuleAt) -> bool {
+    let words = plan.words(rule.line);
+    let by_name = |line: &SourceLine| line.begins("acl", "")
+        && asks_end(line.words.as_slice())
+        && has_name(words, line.word(1));
+    rule.phase >= 3
+        && (asks_end(words) || plan.lines.iter().any(by_name))
+        && plan
+            .effective(rule.origin, "tcp-request", "inspect-delay")
+            .is_some_and(|line| !is_word(line.word(2), "0"))
 }
 
-/// What becomes of the rule at a place.
-fn rule_fate(
-    alloc: Global,
-    plan: &Plan,
-    place: usize,
-    line: &SourceLine,
-) -> Result<Fate, NoMemory> {
-    let Some(rule) = plan.rules.get(place) else {
-        return left(alloc, FateKind::Harmless, Why::NotServed);
-    };
-    if is_idle(word_at(plan.words(rule.line), 2)) {
-        return left(alloc, FateKind::Harmless, Why::NothingToSay);
-    }
+/// What stands for the rule at a place, wherever it stands.
+fn rule_text(plan: &Plan, place: usize, rule: &RuleAt) -> Try<Converted> {
+    leave_if(is_idle(word_at(plan.words(rule.line), 2)), NOTHING_TO_SAY)?;
     if waits(plan, rule) {
-        return of_waiting(alloc, plan, place, line);
+        let text = convert_rule(plan, place, rule)?.text;
+        return written(text, Some("nobody is held until the delay is over"));
     }
-    let given = convert_rule(alloc, plan, place);
     if !accepts(plan, rule) {
-        return of_converted(alloc, line, given);
+        return convert_rule(plan, place, rule);
     }
-    if is_spread(alloc, plan, place)? {
-        return left(alloc, FateKind::Moved, Why::SpreadAccept);
+    if spread_terms(plan, place, rule)?.is_some() {
+        return moved("its condition stands, negated, with the rules that it keeps off");
     }
     match accept_role(plan, place) {
-        AcceptRole::Ends => of_converted(alloc, line, given),
-        AcceptRole::Passes => left(alloc, FateKind::Harmless, Why::DecidesNothing),
-        AcceptRole::Splits => match given {
-            Ok(converted) => written(
-                alloc,
-                line,
-                converted.words.as_slice(),
-                Some(Why::AcceptBefore),
-            ),
-            Err(refusal) => of_converted(alloc, line, Err(refusal)),
+        AcceptRole::Ends => convert_rule(plan, place, rule),
+        AcceptRole::Splits => {
+            let text = convert_rule(plan, place, rule)?.text;
+            written(text, Some(ACCEPT_BEFORE))
+        }
+        AcceptRole::Idle if rule.phase == 1 => match had(convert_rule(plan, place, rule))? {
+            Some(converted) => Ok(converted),
+            None => leave(DECIDES_NOTHING),
         },
-        AcceptRole::Idle if rule.phase > 1 => left(alloc, FateKind::Harmless, Why::DecidesNothing),
-        AcceptRole::Idle => match given {
-            Ok(converted) => written(alloc, line, converted.words.as_slice(), converted.altered),
-            Err(Refusal::OutOfMemory) => Err(NoMemory),
-            Err(Refusal::Lost(_)) => left(alloc, FateKind::Harmless, Why::DecidesNothing),
-        },
+        AcceptRole::Idle | AcceptRole::Passes => leave(DECIDES_NOTHING),
     }
 }
 
-/// Adds the rules that have to stand behind a line.
-pub(crate) fn add_rules(
-    alloc: Global,
-    plan: &Plan,
-    number: usize,
-    lines: &mut Words,
-) -> Result<(), NoMemory> {
+/// The rule at a place as it is written. None where it isn't.
+pub(crate) fn written_rule(plan: &Plan, place: usize, rule: &RuleAt) -> Made<Option<Vec<u8>>> {
+    match had(rule_text(plan, place, rule))? {
+        Some(converted) if is_writable(converted.text.as_slice()) => Ok(Some(converted.text)),
+        _ => Ok(None),
+    }
+}
+
+/// Adds the rules that have to stand after a line.
+pub(crate) fn add_rules(plan: &Plan, number: usize, lines: &mut Words) -> Made<()> {
     for (place, rule) in plan.rules.iter().enumerate() {
-        if rule.place != number || rule.line == number {
-            continue;
-        }
-        if let Some(converted) = written_rule(alloc, plan, place)? {
-            lines.push(added(alloc, converted.words.as_slice())?)?;
+        if rule.place == number
+            && rule.line != number
+            && let Some(text) = written_rule(plan, place, rule)?
+        {
+            lines.push(added(plan.alloc, text.as_slice())?)?;
         }
     }
     Ok(())
 }
 
-/// What becomes of a line with a rule.
-pub(crate) fn of_rule(
-    alloc: Global,
-    plan: &Plan,
-    number: usize,
-    line: &SourceLine,
-) -> Result<Fate, NoMemory> {
-    let Some(place) = rule_place(plan, number) else {
-        return left(alloc, FateKind::Harmless, Why::NotServed);
-    };
-    let stays = match plan.rules.get(place) {
-        Some(rule) => rule.place == number,
-        None => true,
-    };
-    let fate = rule_fate(alloc, plan, place, line)?;
-    if stays || !stands(fate.kind) {
-        return Ok(fate);
+/// What stands for a line with a rule. Where that stands elsewhere and means less, the loss is said here.
+pub(crate) fn of_rule(plan: &Plan, line: &SourceLine) -> Try<Converted> {
+    let (place, rule) = rule_of(plan, line).ok_or(harmless(NOT_SERVED))?;
+    let converted = rule_text(plan, place, rule)?;
+    if rule.place == line.number || !is_writable(converted.text.as_slice()) {
+        return Ok(converted);
     }
-    if fate.kind == FateKind::Altered {
-        // What stands elsewhere means less, so the loss is said here.
-        return Ok(Fate {
-            kind: FateKind::Lost,
-            note: fate.note,
-            text: Vec::new(alloc),
-            after: Vec::new(alloc),
-        });
+    match converted.altered {
+        Some(why) => lose(why),
+        None => moved(MOVED_BELOW),
     }
-    left(alloc, FateKind::Moved, Why::MovedBelow)
 }

@@ -1,87 +1,52 @@
 //! Rules in stickd's spelling, and the order in which they run; `rule_lines` converts by it, and `choices` plans by it.
 
-use crate::actions::{add_words, condition_place, convert_action, is_idle, tracked_slot};
-use crate::calls::slot_of;
+use crate::actions::{condition_place, convert_action, is_idle, is_track, tracked_slot};
 use crate::conditions::{Condition, Term, add_condition, convert_condition};
-use crate::criteria::behind_two;
 use crate::guards::{guarded, guards_of};
 use crate::lexer::SourceLine;
-use crate::plan::{Plan, RuleAt, Track, begins};
-use crate::reasons::{Refusal, Why};
-use crate::sections::{Kind, Section};
-use crate::texts::{Words, is_word, text_of, word_at};
-use crate::waits::misses_count;
-use base_sequence::NoMemory;
+use crate::masks::tracked_section;
+use crate::plan::{Kind, Plan, RuleAt, Track};
+use crate::reasons::{Converted, Made, Try, UNKNOWN_ACTION, lose, lose_if, written};
+use crate::texts::{add_word, is_word, text, word_at, words_from};
 use std::alloc::Global;
 
 /// The phase of the backend's rules `content`.
 const LAST_PHASE: u8 = 4;
 
-/// A rule in stickd's spelling.
-#[derive(Drop)]
-pub(crate) struct Converted {
-    pub words: Words,
-    /// What is lost by it, if anything.
-    pub altered: Option<Why>,
-}
+/// The kinds of rules, in the order of their phases.
+const KINDS: [(&str, u8); 3] = [("connection", 1), ("session", 2), ("content", 3)];
 
 /// The phase of a rule: 1 for `connection`, 2 for `session`, 3 for `content`. None for other lines.
-pub(crate) fn phase_of(words: &[Vec<u8>]) -> Option<u8> {
-    if !is_word(word_at(words, 0), "tcp-request") {
-        return None;
-    }
-    let kind = word_at(words, 1);
-    if is_word(kind, "connection") {
-        return Some(1);
-    }
-    if is_word(kind, "session") {
-        return Some(2);
-    }
-    if is_word(kind, "content") {
-        return Some(3);
+pub(crate) fn phase_of(line: &SourceLine) -> Option<u8> {
+    for (kind, phase) in KINDS {
+        if line.begins("tcp-request", kind) {
+            return Some(phase);
+        }
     }
     None
 }
 
-/// The words of a rule without its condition.
-fn start_rule(alloc: Global, action: &[Vec<u8>]) -> Result<Words, NoMemory> {
-    let mut words = Vec::new(alloc);
-    words.push(text_of(alloc, "tcp-request")?)?;
-    words.push(text_of(alloc, "connection")?)?;
-    add_words(alloc, &mut words, action)?;
-    Ok(words)
-}
-
-/// A condition that can stand: an alternative that is lost takes `unless` with it.
-fn usable(condition: Condition, unless: bool) -> Result<Condition, Refusal> {
-    if let Some(why) = condition.lost
-        && (unless || condition.alternatives.is_empty())
-    {
-        return Err(Refusal::Lost(why));
-    }
-    Ok(condition)
-}
-
-/// A rule's condition: the words behind `if` or `unless`, or nothing.
+/// A rule's condition, and whether it stands behind `unless`. None where it has none. An alternative that is lost takes `unless` with
+/// it.
 fn condition_of(
-    alloc: Global,
     plan: &Plan,
     rule: &RuleAt,
-    given: &[Vec<u8>],
-    used: usize,
-) -> Result<Option<(bool, Condition)>, Refusal> {
-    if given.len() <= used {
+    words: &[Vec<u8>],
+    place: usize,
+) -> Try<Option<(bool, Condition)>> {
+    if place >= words.len() {
         return Ok(None);
     }
-    let Some((keyword, rest)) = rest_of(given, used) else {
-        return Err(Refusal::Lost(Why::UnknownAction));
-    };
-    let unless = is_word(keyword, "unless");
-    if !unless && !is_word(keyword, "if") {
-        return Err(Refusal::Lost(Why::UnknownAction));
+    let unless = is_word(word_at(words, place), "unless");
+    lose_if(
+        !unless && !is_word(word_at(words, place), "if"),
+        UNKNOWN_ACTION,
+    )?;
+    let condition = convert_condition(plan, rule, words_from(words, place.saturating_add(1)))?;
+    match condition.lost {
+        Some(why) if unless || condition.alternatives.is_empty() => lose(why),
+        _ => Ok(Some((unless, condition))),
     }
-    let condition = usable(convert_condition(alloc, plan, rule, rest)?, unless)?;
-    Ok(Some((unless, condition)))
 }
 
 /// A condition with the terms that it needs besides.
@@ -89,61 +54,58 @@ fn with_guards(
     alloc: Global,
     guards: Vec<Term>,
     given: Option<(bool, Condition)>,
-) -> Result<Option<(bool, Condition)>, Refusal> {
+) -> Try<Option<(bool, Condition)>> {
     if guards.is_empty() {
         return Ok(given);
     }
-    let Some((unless, condition)) = given else {
-        let mut alternatives = Vec::new(alloc);
-        alternatives.push(guards)?;
-        return Ok(Some((
-            false,
-            Condition {
-                alternatives,
-                lost: None,
-            },
-        )));
-    };
-    Ok(Some((false, guarded(alloc, guards.as_slice(), condition, unless)?)))
+    if let Some((unless, condition)) = given {
+        return Ok(Some((false, guarded(alloc, guards.as_slice(), condition, unless)?)));
+    }
+    let mut alternatives = Vec::new(alloc);
+    alternatives.push(guards)?;
+    Ok(Some((
+        false,
+        Condition {
+            alternatives,
+            lost: None,
+        },
+    )))
 }
 
-/// A rule in stickd's spelling.
-pub(crate) fn convert_rule(alloc: Global, plan: &Plan, place: usize) -> Result<Converted, Refusal> {
-    let Some(rule) = plan.rules.get(place) else {
-        return Err(Refusal::Lost(Why::NotServed));
-    };
-    let given = behind_two(plan.words(rule.line));
-    let action = convert_action(alloc, plan, rule, given)?;
-    let mut words = start_rule(alloc, action.words.as_slice())?;
+/// The rule at a place in stickd's spelling.
+pub(crate) fn convert_rule(plan: &Plan, place: usize, rule: &RuleAt) -> Try<Converted> {
+    let words = plan.words(rule.line);
+    let action = convert_action(plan, rule, words)?;
+    let mut line = text(plan.alloc, &[b"tcp-request connection ", &action.text])?;
     let lost = if misses_count(plan, rule) {
-        Some(Why::UncountedSessions)
+        Some("HAProxy has counted the session by then, and stickd counts what isn't rejected")
     } else {
         action.altered
     };
-    let own = condition_of(alloc, plan, rule, given, action.used)?;
-    let Some((unless, condition)) = with_guards(alloc, guards_of(alloc, plan, place)?, own)? else {
-        return Ok(Converted {
-            words,
-            altered: lost,
-        });
+    let own = condition_of(plan, rule, words, action.used.saturating_add(2))?;
+    let Some((unless, condition)) = with_guards(plan.alloc, guards_of(plan, place, rule)?, own)?
+    else {
+        return written(line, lost);
     };
-    words.push(text_of(alloc, if unless { "unless" } else { "if" })?)?;
-    add_condition(alloc, &condition, &mut words)?;
-    let altered = match condition.lost {
-        Some(_) => Some(Why::PartOfCondition),
-        None => lost,
-    };
-    Ok(Converted { words, altered })
+    add_word(&mut line, if unless { b"unless" } else { b"if" })?;
+    add_condition(&condition, &mut line)?;
+    let is_part = condition.lost.is_some();
+    written(
+        line,
+        if is_part {
+            Some("a part of its condition is lost")
+        } else {
+            lost
+        },
+    )
 }
 
-/// The word at a place, and those behind it.
-fn rest_of(words: &[Vec<u8>], place: usize) -> Option<(&[u8], &[Vec<u8>])> {
-    if place >= words.len() {
-        return None;
-    }
-    let (_, rest) = words.split_at(place);
-    let (first, others) = rest.split_first()?;
-    Some((first.as_slice(), others))
+/// Whether a rule runs once HAProxy has counted the connection as a session, and a rule asks for that count. stickd counts one that
+/// no rule rejected. A frontend's sessions are counted before its rules `session`, those of an entry before rules `content`, and
+/// those of an entry that a rule `content` tracks never.
+fn misses_count(plan: &Plan, rule: &RuleAt) -> bool {
+    (rule.phase >= 2 && plan.is_asked(b"fe_sess_rate"))
+        || (rule.phase >= 3 && (plan.is_asked(b"sess_rate") || plan.is_asked(b"sess_cnt")))
 }
 
 /// What a rule's place among the others makes of an `accept`.
@@ -172,19 +134,15 @@ fn acts(plan: &Plan, rule: &RuleAt) -> bool {
 /// What the rule at this place makes of an `accept`.
 pub(crate) fn accept_role(plan: &Plan, place: usize) -> AcceptRole {
     let Some(rule) = plan.rules.get(place) else {
-        return AcceptRole::Ends;
+        return AcceptRole::Ends
     };
-    let mut same = false;
-    let mut later = false;
-    for (number, other) in plan.rules.iter().enumerate() {
-        if number > place && acts(plan, other) {
-            if other.phase == rule.phase {
-                same = true;
-            } else {
-                later = true;
-            }
-        }
-    }
+    let rest = plan.rules.get(place.saturating_add(1)..).unwrap_or(&[]);
+    let same = rest
+        .iter()
+        .any(|other| acts(plan, other) && other.phase == rule.phase);
+    let later = rest
+        .iter()
+        .any(|other| acts(plan, other) && other.phase != rule.phase);
     match (same, later) {
         (false, false) => AcceptRole::Idle,
         (false, true) => AcceptRole::Passes,
@@ -193,144 +151,89 @@ pub(crate) fn accept_role(plan: &Plan, place: usize) -> AcceptRole {
     }
 }
 
-/// The last line of a section with a rule of a phase before this one, or its first line.
-fn place_for(lines: &[SourceLine], section: &Section, phase: u8) -> usize {
-    let mut place = section.first;
-    for (number, line) in lines.iter().enumerate() {
-        if number > section.first
-            && number < section.end
-            && phase_of(line.words.as_slice()).is_some_and(|other| other < phase)
-        {
-            place = number;
-        }
-    }
-    place
-}
-
-/// Where the rules of a section stand.
-#[derive(Clone, Copy)]
-struct Source {
-    section: usize,
-    /// Whether it is the frontend itself.
-    is_own: bool,
-}
-
-/// Adds the rules of this phase of a section.
-fn add_rules(
-    lines: &[SourceLine],
-    sections: &[Section],
-    frontend: &Section,
-    source: Source,
-    phase: u8,
-    rules: &mut Vec<RuleAt>,
-) -> Result<(), NoMemory> {
-    let Some(section) = sections.get(source.section) else {
-        return Ok(());
+/// Adds the rules of this phase of a section. Those of the backend run once those of the frontend are over, whichever of these accepts.
+fn add_rules(plan: &Plan, origin: usize, phase: u8, rules: &mut Vec<RuleAt>) -> Made<()> {
+    let is_own = plan.frontend == Some(origin);
+    let is_defaults = plan
+        .sections
+        .get(origin)
+        .is_some_and(|section| section.kind == Kind::Defaults);
+    let turn = if is_own || is_defaults {
+        phase
+    } else {
+        LAST_PHASE
     };
-    // Rules of the backend run once those of the frontend are over, whichever of these accepts.
-    let is_later = !source.is_own && section.kind != Kind::Defaults;
-    let turn = if is_later { LAST_PHASE } else { phase };
-    let place = place_for(lines, frontend, turn);
-    for (number, line) in lines.iter().enumerate() {
-        if number <= section.first
-            || number >= section.end
-            || phase_of(line.words.as_slice()) != Some(phase)
-        {
-            continue;
+    // The last line of the frontend with a rule of a phase before this one, or its first line.
+    let comes_before = |line: &SourceLine| phase_of(line).is_some_and(|other| other < turn);
+    let front = plan.front();
+    let Some(last) = front
+        .iter()
+        .rfind(|line| comes_before(line))
+        .or(front.first())
+    else {
+        return Ok(())
+    };
+    for line in plan.body(origin) {
+        if phase_of(line) == Some(phase) {
+            let stays = is_own && line.number > last.number;
+            let place = if stays { line.number } else { last.number };
+            rules.push(RuleAt {
+                line: line.number,
+                origin,
+                phase: turn,
+                place,
+            })?;
         }
-        let stays = source.is_own && number > place;
-        rules.push(RuleAt {
-            line: number,
-            origin: source.section,
-            phase: turn,
-            place: if stays { number } else { place },
-        })?;
     }
     Ok(())
 }
 
-/// The rules that run for a frontend and its backend, in their order.
-pub(crate) fn rules_of(
-    alloc: Global,
-    lines: &[SourceLine],
-    sections: &[Section],
-    frontend: usize,
-    backend: Option<usize>,
-) -> Result<Vec<RuleAt>, NoMemory> {
-    let mut rules = Vec::new(alloc);
-    let Some(section) = sections.get(frontend) else {
-        return Ok(rules);
+/// The rules that run for the frontend and its backend, in their order.
+pub(crate) fn rules_of(plan: &Plan) -> Made<Vec<RuleAt>> {
+    let mut rules = Vec::new(plan.alloc);
+    let Some(frontend) = plan.frontend else {
+        return Ok(rules)
     };
     for phase in 1..4u8 {
-        if let Some(defaults) = section.defaults {
-            let source = Source {
-                section: defaults,
-                is_own: false,
-            };
-            add_rules(lines, sections, section, source, phase, &mut rules)?;
+        if let Some(defaults) = plan
+            .sections
+            .get(frontend)
+            .and_then(|section| section.defaults)
+        {
+            add_rules(plan, defaults, phase, &mut rules)?;
         }
-        let source = Source {
-            section: frontend,
-            is_own: true,
-        };
-        add_rules(lines, sections, section, source, phase, &mut rules)?;
+        add_rules(plan, frontend, phase, &mut rules)?;
     }
-    let Some(backend) = backend else {
-        return Ok(rules);
-    };
-    if backend != frontend {
-        let source = Source {
-            section: backend,
-            is_own: false,
-        };
-        add_rules(lines, sections, section, source, 3, &mut rules)?;
+    if let Some(backend) = plan.backend
+        && backend != frontend
+    {
+        add_rules(plan, backend, 3, &mut rules)?;
     }
     Ok(rules)
 }
 
-/// The section of this name that has a table.
-fn table_place(sections: &[Section], name: &[u8]) -> Option<usize> {
-    for (place, section) in sections.iter().enumerate() {
-        if section.has_table && section.name.as_slice() == name {
-            return Some(place);
-        }
+/// What a rule tracks, if anything.
+pub(crate) fn track_of(plan: &Plan, rule: &RuleAt) -> Option<Track> {
+    let given = words_from(plan.words(rule.line), 2);
+    if !is_track(word_at(given, 0)) {
+        return None;
     }
-    None
-}
-
-/// What a rule's words track, if anything.
-pub(crate) fn track_of(sections: &[Section], words: &[Vec<u8>], origin: usize) -> Option<Track> {
-    let given = behind_two(words);
-    let slot = match slot_of(tracked_slot(word_at(given, 0))?) {
-        Ok(slot) => slot,
-        Err(_) => return None,
-    };
     let key = word_at(given, 1);
-    let table = if is_word(word_at(given, 2), "table") {
-        sections.iter().position(|section| section.has_table
-            && section.name.as_slice() == word_at(given, 3))
-    } else {
-        Some(origin)
-    };
     Some(Track {
-        slot,
-        table,
-        is_source: is_word(key, "src") || key.starts_with(b"src,".as_slice()),
+        slot: tracked_slot(word_at(given, 0)).ok()?,
+        table: tracked_section(plan, rule),
+        is_source: is_word(key, "src") || key.starts_with(b"src,"),
         is_sure: condition_place(given) == given.len(),
     })
 }
 
-/// Whether a line of a section is a rule of what is served.
-pub(crate) fn rule_place(plan: &Plan, line: usize) -> Option<usize> {
-    for (place, rule) in plan.rules.iter().enumerate() {
-        if rule.line == line {
-            return Some(place);
-        }
-    }
-    None
+/// The rule of a line, and its place among those that run.
+pub(crate) fn rule_of<'a>(plan: &'a Plan, line: &SourceLine) -> Option<(usize, &'a RuleAt)> {
+    let place = plan.rules.iter().position(|rule| rule.line == line.number)?;
+    Some((place, plan.rules.get(place)?))
 }
 
-/// Whether a line begins with a rule that only waits.
-pub(crate) fn is_waiting(words: &[Vec<u8>]) -> bool {
-    begins(words, "tcp-request", "inspect-delay") || begins(words, "tcp-response", "inspect-delay")
+/// Whether a line only says how long rules wait.
+pub(crate) fn is_waiting(line: &SourceLine) -> bool {
+    line.begins("tcp-request", "inspect-delay") || line.begins("tcp-response", "inspect-delay")
 }

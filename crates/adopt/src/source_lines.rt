@@ -5,33 +5,41 @@ ghost use Rattle.adopt.specs.Lines as spec;
 ghost use Rattle.adopt.specs.Lines.{own_lines, own_raws, texts_of};
 
 use crate::lexer::{SourceLine, read_line};
+use crate::reasons::Made;
 use crate::texts::copy_text;
-use crate::variables::{Variable, copy_variables, value_of};
 use base_lines::{Parts, without_cr};
-use base_sequence::NoMemory;
 use std::alloc::Global;
 
+/// A variable of the environment, which double quotes resolve.
+#[derive(Drop)]
+pub struct Variable {
+    pub name: Vec<u8>,
+    pub value: Vec<u8>,
+}
+
+/// The value of a variable.
+pub(crate) fn value_of<'a>(variables: &'a [Variable], name: &[u8]) -> Option<&'a [u8]> {
+    variables
+        .iter()
+        .find(|variable| variable.name.as_slice() == name)
+        .map(|variable| variable.value.as_slice())
+}
+
+/// A variable with copies of its name and its value.
+pub(crate) fn copy_variable(alloc: Global, name: &[u8], value: &[u8]) -> Made<Variable> {
+    Ok(Variable {
+        name: copy_text(alloc, name)?,
+        value: copy_text(alloc, value)?,
+    })
+}
+
 /// Notes a variable that a line of `global` sets.
-fn note_variable(
-    alloc: Global,
-    line: &SourceLine,
-    variables: &mut Vec<Variable>,
-) -> Result<(), NoMemory> {
-    let [keyword, name, value] = line.words.as_slice() else {
-        return Ok(());
-    };
-    let presets = keyword.as_slice() == b"presetenv".as_slice();
-    if keyword.as_slice() != b"setenv".as_slice() && !presets {
-        return Ok(());
+fn note_variable(alloc: Global, line: &SourceLine, variables: &mut Vec<Variable>) -> Made<()> {
+    let is_there = value_of(variables.as_slice(), line.word(1)).is_some();
+    let sets = line.begins("setenv", "") || (line.begins("presetenv", "") && !is_there);
+    if sets && line.words.len() == 3 {
+        variables.insert(0, copy_variable(alloc, line.word(1), line.word(2))?)?;
     }
-    if value_of(variables.as_slice(), name.as_slice()).is_some() && presets {
-        return Ok(());
-    }
-    let variable = Variable {
-        name: copy_text(alloc, name.as_slice())?,
-        value: copy_text(alloc, value.as_slice())?,
-    };
-    variables.insert(0, variable)?;
     Ok(())
 }
 
@@ -43,7 +51,7 @@ fn is_end(part: &[u8], parts: &Parts<'_>) -> bool
 }
 
 /// The lines of a text, without their ends.
-fn split_lines(alloc: Global, text: &[u8]) -> Result<Vec<Vec<u8>>, NoMemory>
+fn split_lines(alloc: Global, text: &[u8]) -> Made<Vec<Vec<u8>>>
     ensures { IfOk result (λ lines. texts_of lines.items ≡ own_lines text.now) }
 {
     let mut parts = Parts::new(text, b'\n');
@@ -62,14 +70,17 @@ pub(crate) fn read_lines(
     alloc: Global,
     text: &[u8],
     environment: &[Variable],
-) -> Result<Vec<SourceLine>, NoMemory>
+) -> Made<Vec<SourceLine>>
     ensures { IfOk result (λ lines. own_raws lines.items ≡ own_lines text.now) }
 {
-    let mut variables = copy_variables(alloc, environment)?;
+    let mut variables = Vec::new(alloc);
+    for given in environment {
+        variables.push(copy_variable(alloc, given.name.as_slice(), given.value.as_slice())?)?;
+    }
     let raws = split_lines(alloc, text)?;
     let mut lines = Vec::new(alloc);
-    for raw in &raws {
-        let line = read_line(alloc, raw.as_slice(), variables.as_slice())?;
+    for (number, raw) in raws.iter().enumerate() {
+        let line = read_line(alloc, raw.as_slice(), number, variables.as_slice())?;
         note_variable(alloc, &line, &mut variables)?;
         lines.push(line)?;
     }

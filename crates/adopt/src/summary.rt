@@ -1,35 +1,10 @@
-//! The end of a report: how many lines have which fate, what becomes of limits, and how what was written is run; `report` adds it.
-
-ghost use Rattle.std.specs.Prelude.{◌≡◌, length};
-ghost use Rattle.std.specs.List.{filter};
-ghost use Rattle.adopt.specs.Report as spec;
+//! What is missing of what was made of a file: a server, whoever is accepted, or a limit; `report` tells it.
 
 use crate::adoption::Adoption;
 use crate::fates::FateKind;
-use crate::report::is_told;
-use crate::texts::{append, append_str};
-use crate::written::Adopted;
-use base_lines::{Blanks, Parts, Words, push_decimal};
-use base_sequence::NoMemory;
+use base_lines::{Blanks, Parts, Words};
 
-/// What the command line begins with, in place of which a unit has paths.
-const BARE: &[u8] = b"stickd run stickd.cfg";
-
-/// Whether something is said of a line, and it has a fate of this kind.
-fn is_of(line: &Adopted, kind: FateKind) -> bool
-    ensures { result ≡ spec.is_of kind line.now }
-{
-    line.fate.kind == kind && is_told(line)
-}
-
-/// Of how many lines a fate of this kind is said.
-fn count_of(lines: &[Adopted], kind: FateKind) -> usize
-    ensures { result ≡ length (filter (spec.is_of kind) lines.now) }
-{
-    lines.iter().filter(|line| is_of(line, kind)).count()
-}
-
-/// What a rule does, by its third word, and whether it has a condition. None for other lines.
+/// What a rule of a configuration does, by its third word, and whether it has a condition. None for other lines.
 fn action_of(line: &[u8]) -> Option<(&[u8], bool)> {
     let mut words = Words::new(line, Blanks::SpacesAndTabs);
     if words.next()? != b"tcp-request".as_slice() {
@@ -42,151 +17,58 @@ fn action_of(line: &[u8]) -> Option<(&[u8], bool)> {
 
 /// Whether a line is a rule that refuses connections.
 fn is_limit(line: &[u8]) -> bool {
-    match action_of(line) {
-        Some((action, _)) => {
-            action == b"reject".as_slice() || action == b"silent-drop".as_slice()
-        }
-        None => false,
-    }
+    action_of(line).is_some_and(|(action, _)| action == b"reject".as_slice()
+        || action == b"silent-drop".as_slice())
 }
 
-/// The first line of the file with a limit that is gone, from 1.
-fn lost_limit(lines: &[Adopted]) -> Option<usize> {
-    for (place, line) in lines.iter().enumerate() {
-        if line.fate.kind == FateKind::Lost && is_limit(line.raw.as_slice()) {
-            return Some(place.saturating_add(1));
-        }
-    }
-    None
+/// What the lines of a configuration say.
+#[derive(Clone, Copy)]
+struct Says {
+    has_server: bool,
+    /// Whether a rule refuses connections.
+    limits: bool,
+    /// Whether the rules accept nobody: one without a condition refuses, and none before it accepts. None where that isn't decided.
+    refuses_all: Option<bool>,
 }
 
-/// Whether a rule of a configuration refuses connections.
-fn limits(text: &[u8]) -> bool {
-    let mut lines = Parts::new(text, b'\n');
-    while let Some(line) = lines.next() {
-        if is_limit(line) {
-            return true;
-        }
-    }
-    false
-}
-
-/// Whether a line of a configuration is a server.
-fn has_server(text: &[u8]) -> bool {
-    let mut lines = Parts::new(text, b'\n');
-    while let Some(line) = lines.next() {
-        let mut words = Words::new(line, Blanks::SpacesAndTabs);
-        if words
-            .next()
-            .is_some_and(|word| word == b"server".as_slice())
-        {
-            return true;
-        }
-    }
-    false
-}
-
-/// Whether the rules of a configuration accept nobody: one without a condition refuses, and none before it accepts.
-fn refuses_all(text: &[u8]) -> bool {
-    let mut lines = Parts::new(text, b'\n');
-    while let Some(line) = lines.next() {
-        if let Some((action, has_condition)) = action_of(line) {
-            if action == b"accept".as_slice() {
-                return false;
-            }
-            if action == b"reject".as_slice() && !has_condition {
-                return true;
-            }
-        }
-    }
-    false
-}
-
-/// Adds a number and what it counts, behind others.
-fn add_count(text: &mut Vec<u8>, count: usize, what: &str) -> Result<(), NoMemory> {
-    push_decimal(text, count as u64)?;
-    append_str(text, what)
-}
-
-/// Adds how many lines have which fate.
-fn add_counts(text: &mut Vec<u8>, lines: &[Adopted]) -> Result<(), NoMemory> {
-    let rewritten = count_of(lines, FateKind::Rewritten);
-    let moved = count_of(lines, FateKind::Moved);
-    append_str(text, "stickd: ")?;
-    add_count(text, count_of(lines, FateKind::Kept), " kept, ")?;
-    add_count(text, rewritten.saturating_add(moved), " rewritten, ")?;
-    add_count(
-        text,
-        count_of(lines, FateKind::Carried),
-        " carried by options, ",
-    )?;
-    add_count(
-        text,
-        count_of(lines, FateKind::Harmless),
-        " lost without harm, ",
-    )?;
-    add_count(text, count_of(lines, FateKind::Altered), " changed, ")?;
-    add_count(text, count_of(lines, FateKind::Lost), " lost")
-}
-
-/// Adds what is missing: a server, whoever is accepted, or a limit.
-fn add_limits(text: &mut Vec<u8>, adoption: &Adoption) -> Result<(), NoMemory> {
-    if adoption.serves && !has_server(adoption.text.as_slice()) {
-        return append_str(text, ": no server is left, and a start wants one");
-    }
-    if refuses_all(adoption.text.as_slice()) {
-        return append_str(text, ": everybody is refused");
-    }
-    let Some(line) = lost_limit(adoption.lines.as_slice()) else {
-        return Ok(());
+/// What the lines of a configuration say.
+fn read_lines(text: &[u8]) -> Says {
+    let mut says = Says {
+        has_server: false,
+        limits: false,
+        refuses_all: None,
     };
-    if !limits(adoption.text.as_slice()) {
-        return append_str(text, ": no rule limits any more");
+    let mut lines = Parts::new(text, b'\n');
+    while let Some(line) = lines.next() {
+        let first = Words::new(line, Blanks::SpacesAndTabs).next();
+        says.has_server = says.has_server || first.is_some_and(|word| word == b"server".as_slice());
+        says.limits = says.limits || is_limit(line);
+        if says.refuses_all.is_none()
+            && let Some((action, has_condition)) = action_of(line)
+        {
+            let accepts = action == b"accept".as_slice();
+            if accepts || (action == b"reject".as_slice() && !has_condition) {
+                says.refuses_all = Some(!accepts);
+            }
+        }
     }
-    append_str(text, ": the limit of line ")?;
-    push_decimal(text, line as u64)?;
-    append_str(text, " is gone")
+    says
 }
 
-/// Adds how what was written is run: by a command line, and as a service.
-fn add_running(text: &mut Vec<u8>, command: &[u8]) -> Result<(), NoMemory> {
-    append_str(text, "stickd: run it by\n    ")?;
-    append(text, command)?;
-    append_str(
-        text,
-        "\nstickd: or as a service, by `systemctl edit stickd` with\n    [Service]\n    ExecStart=\n",
-    )?;
-    append_str(
-        text,
-        "    ExecStart=/usr/local/bin/stickd run /etc/stickd/stickd.cfg",
-    )?;
-    match command.strip_prefix(BARE) {
-        Some(options) => append(text, options)?,
-        None => append_str(text, " (and the options of that command)")?,
+/// What is missing, in the words of the report; and where that is a limit, its line from 1.
+pub(crate) fn missing(adoption: &Adoption) -> (&'static str, Option<usize>) {
+    let says = read_lines(adoption.text.as_slice());
+    if adoption.serves && !says.has_server {
+        return (": no server is left, and a start wants one", None);
     }
-    append_str(text, "\n")
-}
-
-/// Adds how many lines have which fate, and what is missing.
-pub(crate) fn add_result(text: &mut Vec<u8>, adoption: &Adoption) -> Result<(), NoMemory> {
-    add_counts(text, adoption.lines.as_slice())?;
-    add_limits(text, adoption)?;
-    append_str(text, "\n")
-}
-
-/// Adds the summary. What is written is run only where it is shown.
-pub(crate) fn add_summary(
-    text: &mut Vec<u8>,
-    adoption: &Adoption,
-    shown: bool,
-) -> Result<(), NoMemory> {
-    add_result(text, adoption)?;
-    append_str(
-        text,
-        "stickd: of any file, a rejected client sees an end where HAProxy resets, and sess_cnt counts what no rule rejected\n",
-    )?;
-    if shown && adoption.serves {
-        add_running(text, adoption.command.as_slice())?;
+    if says.refuses_all == Some(true) {
+        return (": everybody is refused", None);
     }
-    Ok(())
+    let lost = adoption.lines.iter().position(|line| line.fate.kind == FateKind::Lost
+        && is_limit(line.raw.as_slice()));
+    match lost {
+        Some(_) if !says.limits => (": no rule limits any more", None),
+        Some(place) => (": the limit of line ", Some(place.saturating_add(1))),
+        None => ("", None),
+    }
 }

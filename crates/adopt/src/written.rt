@@ -6,7 +6,7 @@ ghost use Rattle.adopt.specs.Written as spec;
 ghost use Rattle.adopt.specs.Written.{line_of, comment_of, piece_of, added_lines, composed};
 
 use crate::fates::{Fate, FateKind};
-use base_sequence::NoMemory;
+use crate::reasons::Made;
 use rule_words::is_text;
 
 /// A line of the file, and what becomes of it.
@@ -25,7 +25,7 @@ fn to_ascii(byte: u8) -> u8
 }
 
 /// Adds a text, with question marks for what is no ASCII.
-fn push_ascii(text: &mut Vec<u8>, more: &[u8]) -> Result<(), NoMemory>
+fn push_ascii(text: &mut Vec<u8>, more: &[u8]) -> Made<()>
     ensures { OnOk result (text.new.items ≡ text.old.items ++ map spec.ascii more.now) }
 {
     for byte in more {
@@ -35,7 +35,7 @@ fn push_ascii(text: &mut Vec<u8>, more: &[u8]) -> Result<(), NoMemory>
 }
 
 /// Adds a text so that the whole stays UTF-8.
-fn push_readable(text: &mut Vec<u8>, more: &[u8]) -> Result<(), NoMemory>
+fn push_readable(text: &mut Vec<u8>, more: &[u8]) -> Made<()>
     ensures { OnOk result (text.new.items ≡ text.old.items ++ spec.readable more.now) }
 {
     if !is_text(more) {
@@ -46,7 +46,7 @@ fn push_readable(text: &mut Vec<u8>, more: &[u8]) -> Result<(), NoMemory>
 }
 
 /// Adds a line.
-pub(crate) fn push_line(text: &mut Vec<u8>, line: &[u8]) -> Result<(), NoMemory>
+pub(crate) fn push_line(text: &mut Vec<u8>, line: &[u8]) -> Made<()>
     ensures { OnOk result (text.new.items ≡ text.old.items ++ line_of line.now) }
 {
     push_readable(text, line)?;
@@ -55,7 +55,7 @@ pub(crate) fn push_line(text: &mut Vec<u8>, line: &[u8]) -> Result<(), NoMemory>
 }
 
 /// Adds a line that is left out, as a comment with the reason.
-fn push_comment(text: &mut Vec<u8>, raw: &[u8], reason: &[u8]) -> Result<(), NoMemory>
+fn push_comment(text: &mut Vec<u8>, raw: &[u8], reason: &[u8]) -> Made<()>
     ensures { OnOk result (text.new.items ≡ text.old.items ++ comment_of raw.now reason.now) }
 {
     let mut line = Vec::new(*text.allocator());
@@ -67,7 +67,7 @@ fn push_comment(text: &mut Vec<u8>, raw: &[u8], reason: &[u8]) -> Result<(), NoM
 }
 
 /// Adds what stands in a line's place.
-fn push_in_place(text: &mut Vec<u8>, raw: &[u8], fate: &Fate) -> Result<(), NoMemory>
+fn push_in_place(text: &mut Vec<u8>, raw: &[u8], fate: &Fate) -> Made<()>
     ensures { OnOk result (text.new.items ≡ text.old.items ++ spec.in_place fate.now.kind raw.now fate.now.note.items fate.now.text.items) }
 {
     match fate.kind {
@@ -80,7 +80,7 @@ fn push_in_place(text: &mut Vec<u8>, raw: &[u8], fate: &Fate) -> Result<(), NoMe
 }
 
 /// Adds lines.
-fn push_lines(text: &mut Vec<u8>, lines: &[Vec<u8>]) -> Result<(), NoMemory>
+fn push_lines(text: &mut Vec<u8>, lines: &[Vec<u8>]) -> Made<()>
     ensures { OnOk result (text.new.items ≡ text.old.items ++ added_lines lines.now) }
 {
     for line in lines {
@@ -90,7 +90,7 @@ fn push_lines(text: &mut Vec<u8>, lines: &[Vec<u8>]) -> Result<(), NoMemory>
 }
 
 /// Adds what is written of a line: what stands in its place, and the lines behind it.
-fn push_piece(text: &mut Vec<u8>, line: &Adopted) -> Result<(), NoMemory>
+fn push_piece(text: &mut Vec<u8>, line: &Adopted) -> Made<()>
     ensures { OnOk result (text.new.items ≡ text.old.items ++ piece_of line.now) }
 {
     push_in_place(text, line.raw.as_slice(), &line.fate)?;
@@ -98,7 +98,7 @@ fn push_piece(text: &mut Vec<u8>, line: &Adopted) -> Result<(), NoMemory>
 }
 
 /// Adds what is written of all lines, in order.
-pub(crate) fn push_pieces(text: &mut Vec<u8>, lines: &[Adopted]) -> Result<(), NoMemory>
+pub(crate) fn push_pieces(text: &mut Vec<u8>, lines: &[Adopted]) -> Made<()>
     ensures { OnOk result (text.new.items ≡ text.old.items ++ composed lines.now) }
 {
     for line in lines {

@@ -8,8 +8,9 @@ from lib.places import TOP
 from lib.trials import wants
 
 TABLES = os.path.join(TOP, 'crates', 'adopt', 'src', 'manual.rt')
-TABLE = re.compile(r'const (\w+): \[Row; \d+\] = \[(.*?)\n\];', re.DOTALL)
-TEXT = re.compile(r'"((?:[^"\\]|\\\n)*)"')
+TABLE = re.compile(r'const (\w+): \[Row; \d+\] = rows! \{(.*?)\n\};', re.DOTALL)
+# A row: its fate, what is said, and the keywords.
+TEXT = re.compile(r': "((?:[^"\\]|\\\n)*)";')
 # What HAProxy lists, and refuses: it was removed long ago.
 REMOVED = {'clitimeout', 'contimeout', 'srvtimeout'}
 # What is followed by a word here, and by more in HAProxy: `source ADDRESS [usesrc ..]`.

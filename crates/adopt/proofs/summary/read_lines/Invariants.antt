@@ -1,5 +1,5 @@
 use Rattle.std.proofs.Common.{length}
-use Rattle.adopt.proofs.summary.refuses_all.Given as goal
+use Rattle.adopt.proofs.summary.read_lines.Given as goal
 
 abbrev pub decreases-loop-line : goal.decreases-loop-line
 decreases-loop-line l = length l.lines
