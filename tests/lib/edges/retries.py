@@ -6,8 +6,8 @@ import tempfile
 import threading
 import time
 
-from lib.proxy import (PATIENCE, TABLE, TRACK, FarServer, Proxy, Server, closed_after, echoes, end_of, free_port, greets, is_greeted, read_all,
-                       reject_above, reset, wait_for)
+from lib.proxy import (PATIENCE, TABLE, TRACK, FarServer, Proxy, Server, arrive, closed_after, echoes, end_of, free_port, greets, is_greeted,
+                       read_all, reject_above, reset, wait_for)
 from lib.shims import build_shim
 
 
@@ -139,6 +139,15 @@ def a_server_that_accepts_and_resets_is_tried_once():
     assert seen == ['reset'] * 5, seen
 
 
+def end_of_one(proxy):
+    """How a client's connection ends, which may be reset before it knows that it is connected."""
+    client = arrive(proxy)
+    if client is None:
+        return 'reset'
+    with client:
+        return end_of(client)
+
+
 def no_reference_outlives_its_end():
     """Once a client has heard of its reset or of its end its table shows no reference of it, however slow the thread that ended it is to
     go on: of those that are rejected, of those whose server refuses and of one that was silent for too long."""
@@ -148,13 +157,13 @@ def no_reference_outlives_its_end():
             with proxy.connect() as held:
                 assert is_greeted(held)
                 for _ in range(5):
-                    assert end_of(proxy.connect()) == 'reset'
+                    assert end_of_one(proxy) == 'reset'
                     assert proxy.rows()['127.0.0.1']['use'] == 1, proxy.rows()
                 assert end_of(held) == 'orderly'
                 assert proxy.rows()['127.0.0.1']['use'] == 0, proxy.rows()
         with Proxy(free_port(), [TABLE, TRACK, reject_above(1)], environment=slow) as proxy:
             for _ in range(5):
-                assert end_of(proxy.connect()) == 'orderly'
+                assert end_of_one(proxy) == 'orderly'
                 assert proxy.rows()['127.0.0.1']['use'] == 0, proxy.rows()
 
 
@@ -165,8 +174,7 @@ def who_hears_of_an_end_may_come_again():
         slow = {**os.environ, 'LD_PRELOAD': build_shim(room, 'slow_close'), 'SLOW_CLOSE': '50'}
         with Proxy(free_port(), [TABLE, TRACK, reject_above(1)], threads=4, environment=slow) as proxy:
             for turn in range(20):
-                with proxy.connect() as client:
-                    assert end_of(client) == 'orderly', f'client {turn} is rejected'
+                assert end_of_one(proxy) == 'orderly', f'client {turn} is rejected'
 
 
 TRIALS = [a_server_that_comes_gets_all, it_is_tried_as_often_as_asked, a_client_that_leaves_is_noticed,
