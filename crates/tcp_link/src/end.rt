@@ -40,8 +40,8 @@ pub enum Side {
 }
 
 impl Side {
-    /// The token of this end of a connection with a number, which is below 2^63.
-    pub(crate) fn token(self, number: usize) -> Token
+    /// The token by which the system names this end of a connection with a number, which is below 2^63. `Ready::of` tells both again.
+    pub fn token(self, number: usize) -> Token
         ensures { result ≡ token self number }
     {
         let both = number.wrapping_mul(2);

@@ -1,12 +1,13 @@
 -- What is counted, and in which order.
 use Rattle.std.specs.Prelude.{ℕ, List, [], ◌∷◌}
 use Rattle.tcp_stats.specs.declared.count.Count.{Count}
-use Rattle.tcp_stats.specs.declared.count.Count.TheVariants.{Accepted, Admitted, Rejected, NoDescriptors, NoMemory, Unaccepted, ServerRefused, ServerTimedOut, NoPort, ServerFailed, ClientTimedOut, ServerSilent, FinTimedOut, Drained, Ended, BytesIn, BytesOut, UntrackedFull, UntrackedNoReferences, EventsNoMemory, EventsStale, EventsExhausted, Commands, Rolls, Expiries, Refusals}
+use Rattle.tcp_stats.specs.declared.count.Count.TheVariants.{Accepted, Admitted, Rejected, NoDescriptors, NoMemory, Unaccepted, Headers, HeaderLate, HeaderWrong, HeaderEnded, HeaderUntrusted, ServerRefused, ServerTimedOut, NoPort, ServerFailed, ClientTimedOut, ServerSilent, FinTimedOut, Drained, Ended, BytesIn, BytesOut, UntrackedFull, UntrackedNoReferences, EventsNoMemory, EventsStale, EventsExhausted, Commands, Rolls, Expiries, Refusals}
 
 -- all that is counted, in the order in which a worker publishes it
 abbrev pub all_counts : List Count
 all_counts =
     Accepted ∷ Admitted ∷ Rejected ∷ NoDescriptors ∷ NoMemory ∷ Unaccepted
+    ∷ Headers ∷ HeaderLate ∷ HeaderWrong ∷ HeaderEnded ∷ HeaderUntrusted
     ∷ ServerRefused ∷ ServerTimedOut ∷ NoPort ∷ ServerFailed ∷ ClientTimedOut ∷ ServerSilent ∷ FinTimedOut
     ∷ Drained ∷ Ended ∷ BytesIn ∷ BytesOut
     ∷ UntrackedFull ∷ UntrackedNoReferences ∷ EventsNoMemory ∷ EventsStale ∷ EventsExhausted
@@ -20,23 +21,28 @@ place Rejected = 2
 place NoDescriptors = 3
 place NoMemory = 4
 place Unaccepted = 5
-place ServerRefused = 6
-place ServerTimedOut = 7
-place NoPort = 8
-place ServerFailed = 9
-place ClientTimedOut = 10
-place ServerSilent = 11
-place FinTimedOut = 12
-place Drained = 13
-place Ended = 14
-place BytesIn = 15
-place BytesOut = 16
-place UntrackedFull = 17
-place UntrackedNoReferences = 18
-place EventsNoMemory = 19
-place EventsStale = 20
-place EventsExhausted = 21
-place Commands = 22
-place Rolls = 23
-place Expiries = 24
-place Refusals = 25
+place Headers = 6
+place HeaderLate = 7
+place HeaderWrong = 8
+place HeaderEnded = 9
+place HeaderUntrusted = 10
+place ServerRefused = 11
+place ServerTimedOut = 12
+place NoPort = 13
+place ServerFailed = 14
+place ClientTimedOut = 15
+place ServerSilent = 16
+place FinTimedOut = 17
+place Drained = 18
+place Ended = 19
+place BytesIn = 20
+place BytesOut = 21
+place UntrackedFull = 22
+place UntrackedNoReferences = 23
+place EventsNoMemory = 24
+place EventsStale = 25
+place EventsExhausted = 26
+place Commands = 27
+place Rolls = 28
+place Expiries = 29
+place Refusals = 30

@@ -1,7 +1,7 @@
 -- How each count is told: in a metric and in a report. Counts of one kind share a metric, in which labels set them apart.
 use Rattle.std.specs.Prelude.{ℕ, Bool, true, false, Option, Some, None, List, [], codes}
 use Rattle.tcp_stats.specs.declared.count.Count.{Count}
-use Rattle.tcp_stats.specs.declared.count.Count.TheVariants.{Accepted, Admitted, Rejected, NoDescriptors, NoMemory, Unaccepted, ServerRefused, ServerTimedOut, NoPort, ServerFailed, ClientTimedOut, ServerSilent, FinTimedOut, Drained, Ended, BytesIn, BytesOut, UntrackedFull, UntrackedNoReferences, EventsNoMemory, EventsStale, EventsExhausted, Commands, Rolls, Expiries, Refusals}
+use Rattle.tcp_stats.specs.declared.count.Count.TheVariants.{Accepted, Admitted, Rejected, NoDescriptors, NoMemory, Unaccepted, Headers, HeaderLate, HeaderWrong, HeaderEnded, HeaderUntrusted, ServerRefused, ServerTimedOut, NoPort, ServerFailed, ClientTimedOut, ServerSilent, FinTimedOut, Drained, Ended, BytesIn, BytesOut, UntrackedFull, UntrackedNoReferences, EventsNoMemory, EventsStale, EventsExhausted, Commands, Rolls, Expiries, Refusals}
 
 -- the metric's name; what is said of it, at the first count of it; the count's labels; and its words behind its number in a report
 pub record CountRow : Type 0 where
@@ -17,6 +17,11 @@ count_row Rejected = record { metric = codes "stickd_connections_rejected_total"
 count_row NoDescriptors = record { metric = codes "stickd_accept_failures_total"; help = Some (codes "Times that no client could be accepted."); labels = codes "{cause=\"descriptors\"}"; words = codes "not accepted for want of descriptors" }
 count_row NoMemory = record { metric = codes "stickd_accept_failures_total"; help = None; labels = codes "{cause=\"memory\"}"; words = codes "not accepted for want of memory" }
 count_row Unaccepted = record { metric = codes "stickd_accept_failures_total"; help = None; labels = codes "{cause=\"other\"}"; words = codes "failed to be accepted" }
+count_row Headers = record { metric = codes "stickd_headers_total"; help = Some (codes "Clients judged by what a proxy's header tells."); labels = []; words = codes "told of by headers" }
+count_row HeaderLate = record { metric = codes "stickd_header_failures_total"; help = Some (codes "Clients reset for want of a proxy's header."); labels = codes "{cause=\"late\"}"; words = codes "reset as their header was late" }
+count_row HeaderWrong = record { metric = codes "stickd_header_failures_total"; help = None; labels = codes "{cause=\"wrong\"}"; words = codes "reset as they began by no header" }
+count_row HeaderEnded = record { metric = codes "stickd_header_failures_total"; help = None; labels = codes "{cause=\"ended\"}"; words = codes "ended before their header was whole" }
+count_row HeaderUntrusted = record { metric = codes "stickd_header_failures_total"; help = None; labels = codes "{cause=\"untrusted\"}"; words = codes "reset as no trusted proxy" }
 count_row ServerRefused = record { metric = codes "stickd_connect_failures_total"; help = Some (codes "Connects to the server that failed."); labels = codes "{cause=\"refused\"}"; words = codes "refused by the server" }
 count_row ServerTimedOut = record { metric = codes "stickd_connect_failures_total"; help = None; labels = codes "{cause=\"timeout\"}"; words = codes "timed out at the server" }
 count_row NoPort = record { metric = codes "stickd_connect_failures_total"; help = None; labels = codes "{cause=\"no_port\"}"; words = codes "without a local port" }
@@ -51,6 +56,10 @@ is_trouble tells_rejected Rejected = tells_rejected
 is_trouble tells_rejected NoDescriptors = true
 is_trouble tells_rejected NoMemory = true
 is_trouble tells_rejected Unaccepted = true
+is_trouble tells_rejected HeaderLate = true
+is_trouble tells_rejected HeaderWrong = true
+is_trouble tells_rejected HeaderEnded = true
+is_trouble tells_rejected HeaderUntrusted = tells_rejected
 is_trouble tells_rejected ServerRefused = true
 is_trouble tells_rejected ServerTimedOut = true
 is_trouble tells_rejected NoPort = true

@@ -4,7 +4,7 @@ ghost use Rattle.std.specs.Prelude.{◌≡◌, ◌<◌};
 ghost use Rattle.tcp_stats.specs.CountNames.{place};
 
 /// How many counts there are.
-pub const COUNTS: usize = 26;
+pub const COUNTS: usize = 31;
 
 /// What is counted. The variants stand in the order in which a worker publishes them.
 #[derive(Clone, Copy, Debug, PartialEq, Eq)]
@@ -21,6 +21,16 @@ pub enum Count {
     NoMemory,
     /// Times that no client could be accepted for another cause.
     Unaccepted,
+    /// Clients that began by a header of the PROXY protocol, and were judged by what it tells.
+    Headers,
+    /// Clients that were reset as their header hadn't come within `--timeout-header`.
+    HeaderLate,
+    /// Clients that were reset as they began by something else than a header.
+    HeaderWrong,
+    /// Clients that ended, or failed, before their header was whole.
+    HeaderEnded,
+    /// Clients that were reset as they came from no trusted proxy (`--proxies-only`).
+    HeaderUntrusted,
     /// Connects to the server that it refused (`ECONNREFUSED`).
     ServerRefused,
     /// Connects to the server that took too long: `--timeout-connect`, or `ETIMEDOUT`.
@@ -72,6 +82,11 @@ impl Count {
         Count::NoDescriptors,
         Count::NoMemory,
         Count::Unaccepted,
+        Count::Headers,
+        Count::HeaderLate,
+        Count::HeaderWrong,
+        Count::HeaderEnded,
+        Count::HeaderUntrusted,
         Count::ServerRefused,
         Count::ServerTimedOut,
         Count::NoPort,

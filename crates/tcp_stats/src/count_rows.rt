@@ -18,6 +18,11 @@ impl Count {
             Count::NoDescriptors => "stickd_accept_failures_total",
             Count::NoMemory => "stickd_accept_failures_total",
             Count::Unaccepted => "stickd_accept_failures_total",
+            Count::Headers => "stickd_headers_total",
+            Count::HeaderLate => "stickd_header_failures_total",
+            Count::HeaderWrong => "stickd_header_failures_total",
+            Count::HeaderEnded => "stickd_header_failures_total",
+            Count::HeaderUntrusted => "stickd_header_failures_total",
             Count::ServerRefused => "stickd_connect_failures_total",
             Count::ServerTimedOut => "stickd_connect_failures_total",
             Count::NoPort => "stickd_connect_failures_total",
@@ -50,6 +55,8 @@ impl Count {
             Count::Admitted => Some("Clients that the rules admitted."),
             Count::Rejected => Some("Clients that were rejected."),
             Count::NoDescriptors => Some("Times that no client could be accepted."),
+            Count::Headers => Some("Clients judged by what a proxy's header tells."),
+            Count::HeaderLate => Some("Clients reset for want of a proxy's header."),
             Count::ServerRefused => Some("Connects to the server that failed."),
             Count::ClientTimedOut => Some("Connections that ended as one was silent."),
             Count::Drained => Some("Connections closed at the end of a drain."),
@@ -73,6 +80,10 @@ impl Count {
             Count::NoDescriptors => "{cause=\"descriptors\"}",
             Count::NoMemory => "{cause=\"memory\"}",
             Count::Unaccepted => "{cause=\"other\"}",
+            Count::HeaderLate => "{cause=\"late\"}",
+            Count::HeaderWrong => "{cause=\"wrong\"}",
+            Count::HeaderEnded => "{cause=\"ended\"}",
+            Count::HeaderUntrusted => "{cause=\"untrusted\"}",
             Count::ServerRefused => "{cause=\"refused\"}",
             Count::ServerTimedOut => "{cause=\"timeout\"}",
             Count::NoPort => "{cause=\"no_port\"}",
@@ -102,6 +113,11 @@ impl Count {
             Count::NoDescriptors => "not accepted for want of descriptors",
             Count::NoMemory => "not accepted for want of memory",
             Count::Unaccepted => "failed to be accepted",
+            Count::Headers => "told of by headers",
+            Count::HeaderLate => "reset as their header was late",
+            Count::HeaderWrong => "reset as they began by no header",
+            Count::HeaderEnded => "ended before their header was whole",
+            Count::HeaderUntrusted => "reset as no trusted proxy",
             Count::ServerRefused => "refused by the server",
             Count::ServerTimedOut => "timed out at the server",
             Count::NoPort => "without a local port",
@@ -137,10 +153,13 @@ impl Count {
         ensures { result ≡ spec.is_trouble tells_rejected self }
     {
         match self {
-            Count::Rejected => tells_rejected,
+            Count::Rejected | Count::HeaderUntrusted => tells_rejected,
             Count::NoDescriptors
             | Count::NoMemory
             | Count::Unaccepted
+            | Count::HeaderLate
+            | Count::HeaderWrong
+            | Count::HeaderEnded
             | Count::ServerRefused
             | Count::ServerTimedOut
             | Count::NoPort
