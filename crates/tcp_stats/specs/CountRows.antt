@@ -40,7 +40,7 @@ count_row EventsStale = record { metric = codes "stickd_refused_events_total"; h
 count_row EventsExhausted = record { metric = codes "stickd_refused_events_total"; help = None; labels = codes "{cause=\"exhausted\"}"; words = codes "events refused at the end of a table's life" }
 count_row Commands = record { metric = codes "stickd_commands_total"; help = Some (codes "Commands that were answered."); labels = []; words = codes "commands" }
 count_row Rolls = record { metric = codes "stickd_rolls_total"; help = Some (codes "Times that a shard's record began again."); labels = []; words = codes "records begun again" }
-count_row Expiries = record { metric = codes "stickd_expiries_total"; help = Some (codes "Rounds in which a shard removed old entries."); labels = []; words = codes "rounds of expiry" }
+count_row Expiries = record { metric = codes "stickd_expiries_total"; help = Some (codes "Entries removed as their time was over."); labels = []; words = codes "entries expired" }
 count_row Refusals = record { metric = codes "stickd_housekeeping_refusals_total"; help = Some (codes "Rolls and expiries that were refused."); labels = []; words = codes "refusals of housekeeping" }
 
 -- a report has these though there was none

@@ -67,7 +67,7 @@ pub enum Count {
     Commands,
     /// Times that a shard's record was begun again.
     Rolls,
-    /// Rounds in which a shard removed the entries whose life was over.
+    /// Entries that housekeeping removed as their time was over (`expire`).
     Expiries,
     /// Such work that a shard refused.
     Refusals,

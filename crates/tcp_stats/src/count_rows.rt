@@ -66,7 +66,7 @@ impl Count {
             Count::EventsNoMemory => Some("Events of connections that a table refused."),
             Count::Commands => Some("Commands that were answered."),
             Count::Rolls => Some("Times that a shard's record began again."),
-            Count::Expiries => Some("Rounds in which a shard removed old entries."),
+            Count::Expiries => Some("Entries removed as their time was over."),
             Count::Refusals => Some("Rolls and expiries that were refused."),
             _ => None,
         }
@@ -136,7 +136,7 @@ impl Count {
             Count::EventsExhausted => "events refused at the end of a table's life",
             Count::Commands => "commands",
             Count::Rolls => "records begun again",
-            Count::Expiries => "rounds of expiry",
+            Count::Expiries => "entries expired",
             Count::Refusals => "refusals of housekeeping",
         }
     }
