@@ -16,7 +16,8 @@ ends_of peer here = record {
   destination_port = socket_port here;
 }
 
--- the header of this version, of where the client came from and of where it came to, as the system says that; none without a version
-abbrev pub Greets : Option Version → SocketAddr → List ℕ → Type 0
-Greets None peer greeting = greeting ≡ []
-Greets (Some version) peer greeting = (here : SocketAddr) × (greeting ≡ written version (ends_of peer here))
+-- the header of this version, of the ends that the client's own tells; without, of where it came from and of where it came to, as the system says that; none without a version
+abbrev pub Greets : Option Version → Option Ends → SocketAddr → List ℕ → Type 0
+Greets None told peer greeting = greeting ≡ []
+Greets (Some version) None peer greeting = (here : SocketAddr) × (greeting ≡ written version (ends_of peer here))
+Greets (Some version) (Some ends) peer greeting = greeting ≡ written version ends

@@ -1,4 +1,5 @@
 pub mod Accepting
+pub mod Arrivals
 pub mod Addresses
 pub mod Balance
 pub mod Connections
@@ -7,12 +8,14 @@ pub mod Counts
 pub mod Draining
 pub mod Fates
 pub mod Greetings
+pub mod Hearings
 pub mod ListenerTurns
 pub mod Listening
 pub mod Numbers
 pub mod Passed
 pub mod Releasing
 pub mod Seating
+pub mod SecondLooks
 pub mod Serving
 pub mod Sweeps
 pub mod Traffics

@@ -1,6 +1,6 @@
 //! When a worker accepts clients, and how long it may wait; `turning` asks it in each turn.
 
-ghost use Rattle.std.specs.Prelude.{◌≡◌, ◌≢◌, ◌&&◌, true, false, is_some, IsOk};
+ghost use Rattle.std.specs.Prelude.{◌≡◌, ◌≢◌, ◌&&◌, true, false, if◌then◌else◌, is_some, IsOk};
 ghost use Rattle.tcp_relay.specs.Accepting.{can_accept, is_shortage, pause_of, sleep_of};
 
 use crate::accept_errors::AcceptFault;
@@ -215,6 +215,17 @@ impl Acceptor {
                 Ok(())
             }
             Err(error) => Err(error),
+        }
+    }
+
+    /// A socket for a server is at hand again that a client has had, unless another is.
+    pub(crate) fn give_back(&mut self, server: Option<ServerSocket>)
+        ensures at_hand { self.new.server ≡ (if is_some self.old.server then self.old.server else server) }
+        ensures same { (self.new.number ≡ self.old.number) × (self.new.may_have ≡ self.old.may_have) }
+        ensures short { self.new.is_short ≡ self.old.is_short }
+    {
+        if self.server.is_none() {
+            self.server = server;
         }
     }
 

@@ -1,9 +1,11 @@
-//! The addresses of the standard library and of rules, converted; `tcp_proxy` binds by it, and `visiting` samples the client.
+//! The addresses of the standard library and of rules, converted; `tcp_proxy` binds by it, and `arrival` samples the client.
 
 ghost use Rattle.std.specs.Prelude.{◌≡◌};
 ghost use Rattle.std.specs.Net.Socket.{socket_ip, socket_port, IsPlainSocket};
-ghost use Rattle.tcp_relay.specs.Addresses.{IsAddress, address_of, samples_of};
+ghost use Rattle.tcp_relay.specs.Addresses.{IsAddress, address_of};
+ghost use Rattle.tcp_relay.specs.Arrivals.{samples_by};
 
+use proxy_header::Ends;
 use rule_addresses::{Address, Endpoint};
 use rule_eval::Samples;
 use std::net::{IpAddr, Ipv4Addr, Ipv6Addr, SocketAddr};
@@ -36,10 +38,17 @@ pub fn socket_address(endpoint: Endpoint) -> SocketAddr
     SocketAddr::new(make_ip(endpoint.address), endpoint.port)
 }
 
-/// What rules are told of a connection that comes from there, to this port.
-pub(crate) fn samples(peer: SocketAddr, port: u16) -> Samples
-    ensures { result ≡ samples_of peer port }
+/// What rules are told of a connection that comes from there, to this port, and of which a header tells these ends, if any.
+pub(crate) fn samples(told: Option<Ends>, peer: SocketAddr, port: u16) -> Samples
+    ensures { result ≡ samples_by told peer port }
 {
+    if let Some(ends) = told {
+        return Samples {
+            src: ends.source,
+            src_port: ends.source_port,
+            dst_port: ends.destination_port,
+        };
+    }
     Samples {
         src: read_ip(peer.ip()),
         src_port: peer.port(),

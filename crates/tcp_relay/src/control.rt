@@ -3,6 +3,7 @@
 use crate::accept_errors::{AcceptFault, Shortage};
 use crate::drain::Drain;
 use crate::fates::Ending;
+use crate::hearing::HeaderFault;
 use crate::start_gate::StartGate;
 use std::net::SocketAddr;
 use tcp_link::{Link, Unreached};
@@ -54,6 +55,19 @@ impl<'a> Control<'a> {
             error: None,
         };
         self.note(Count::Rejected, occasion);
+    }
+
+    /// Notes that a client of this peer was reset unjudged. Of one that is no trusted proxy, as of any that is rejected, where that is asked.
+    pub(crate) fn note_unjudged(&self, fault: HeaderFault, peer: SocketAddr) {
+        self.note_rejected(peer);
+        if fault == HeaderFault::Untrusted && !self.notes_rejected {
+            return;
+        }
+        let occasion = Occasion {
+            source: Some(peer),
+            error: None,
+        };
+        self.note(fault.count(), occasion);
     }
 
     /// Notes that no client could be accepted, as the system was short of something, and the number of its error.

@@ -5,10 +5,12 @@ ghost use Rattle.tcp_relay.specs.Counting.{missing, verdict_of, with_end, with_f
 ghost use Rattle.tcp_relay.specs.Meeting.{raised};
 ghost use Rattle.tcp_relay.specs.Traffics.{beyond, none};
 ghost use Rattle.tcp_stats.specs.CountValues.{count_of};
-ghost use Rattle.tcp_stats.specs.declared.count.Count.TheVariants.{Accepted};
+ghost use Rattle.tcp_relay.specs.Hearings.{fault_count};
+ghost use Rattle.tcp_stats.specs.declared.count.Count.TheVariants.{Accepted, Headers, Rejected};
 
 use crate::accept_errors::{AcceptFault, Shortage};
 use crate::fates::Ended;
+use crate::hearing::HeaderFault;
 use crate::traffic::Traffic;
 use tcp_stats::{Cells, Count, Counts};
 
@@ -58,6 +60,23 @@ impl Counted {
         } else {
             self.count(Count::Rejected);
         }
+    }
+
+    /// A client has begun by a header, and is judged by it.
+    pub(crate) fn count_header(&mut self)
+        ensures counts { self.new.counts ≡ with_one Headers self.old.counts }
+        ensures news { self.new.is_news ≡ true }
+    {
+        self.count(Count::Headers);
+    }
+
+    /// A client was reset unjudged, and is one of those that are rejected.
+    pub(crate) fn count_unjudged(&mut self, fault: HeaderFault)
+        ensures counts { self.new.counts ≡ with_one (fault_count fault) (with_one Rejected self.old.counts) }
+        ensures news { self.new.is_news ≡ true }
+    {
+        self.count(Count::Rejected);
+        self.count(fault.count());
     }
 
     /// A client couldn't be accepted, as the system is short of something.

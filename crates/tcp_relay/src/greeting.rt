@@ -21,22 +21,27 @@ fn ends_of(peer: SocketAddr, here: SocketAddr) -> Ends
 }
 
 /// What the server of a client from this peer is told first: the header of this version (The PROXY protocol, section 2), or nothing without
-/// one. None where the system doesn't say where the client came to, as it is gone, or where there is no memory.
+/// one. The ends that the client's own header tells are told on. None where the system doesn't say where the client came to, as it is
+/// gone, or where there is no memory.
 pub(crate) fn greeting_of(
     alloc: Global,
     told_by: Option<Version>,
     client: &TcpStream,
     peer: SocketAddr,
+    told: Option<Ends>,
 ) -> Option<Vec<u8>>
-    ensures header { IfSome result (λ greeting. Greets told_by peer greeting.items) }
+    ensures header { IfSome result (λ greeting. Greets told_by told peer greeting.items) }
     ensures room { IfSome result (λ greeting. vec_len greeting ≤ 107) }
 {
     let mut greeting = Vec::new(alloc);
     let Some(version) = told_by else {
         return Some(greeting);
     };
-    let here = client.local_addr().ok()?;
-    let header = write(version, &ends_of(peer, here));
+    let ends = match told {
+        Some(ends) => ends,
+        None => ends_of(peer, client.local_addr().ok()?),
+    };
+    let header = write(version, &ends);
     greeting.extend_from_slice(header.left()).ok()?;
     Some(greeting)
 }

@@ -1,15 +1,12 @@
 //! Where clients come in; `serving` has the workers watch it, and `turning` accepts by it.
 
 ghost use Rattle.std.specs.Prelude.{◌≡◌};
-ghost use Rattle.tcp_relay.specs.Addresses.{samples_of};
 ghost use Rattle.tcp_relay.specs.Listening.{behind};
 
 use crate::accept_errors::{AcceptFault, Unaccepted};
-use crate::addresses::samples;
 use libc::net::{SHUT_RDWR, shutdown};
 use mio::unix::SourceFd;
 use mio::{Interest, Poll, Token};
-use rule_eval::Samples;
 use std::io;
 use std::net::{Net, SocketAddr, TcpListener, TcpStream};
 use std::os::fd::{AsRawFd, RawFd};
@@ -39,15 +36,6 @@ pub(crate) struct Accepted {
     pub(crate) port: u16,
     /// The place of the listener that is asked first for the next client.
     pub(crate) next: usize,
-}
-
-impl Accepted {
-    /// What the rules are told of it: where it comes from, and the port that it came to.
-    pub(crate) fn samples(&self) -> Samples
-        ensures told { result ≡ samples_of self.now.peer self.now.port }
-    {
-        samples(self.peer, self.port)
-    }
 }
 
 /// What is readable while a client waits at a listener.

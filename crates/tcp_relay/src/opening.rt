@@ -3,13 +3,14 @@
 ghost use Rattle.std.specs.Prelude.{◌≡◌, Some, None, slice_get};
 ghost use Rattle.admit_core.specs.Conn.{needed};
 ghost use Rattle.admit_core.specs.declared.need.Need.TheVariants.{Rest};
-ghost use Rattle.tcp_relay.specs.Addresses.{samples_of};
+ghost use Rattle.tcp_relay.specs.Arrivals.{samples_by};
 ghost use Rattle.tcp_relay.specs.Connections.{IsVisitor};
 ghost use Rattle.tcp_relay.specs.Passed.{HasPassedAs};
 ghost use Rattle.tcp_relay.specs.Traffics.{none};
 
 use crate::ServeRuntime;
 use crate::admitted::Admitted;
+use crate::arrival::Arrival;
 use crate::closing::ended_of;
 use crate::fates::{Ended, Ending};
 use crate::greeting::greeting_of;
@@ -72,24 +73,22 @@ impl Unbegun {
 pub(crate) fn carry<'a, T: Table, J: Naming, R: ServeRuntime, G, W: Width>(
     shared: &Shared<'a, R, G, W>,
     worker: &mut Worker<'a, T, J, R, W>,
-    event_loop: &mut EventLoop<'_, R>,
+    event_loop: &mut EventLoop<'_, R, W>,
     buffer: &mut Buffer,
     place: usize,
-    accepted: Accepted,
+    arrival: Arrival<W>,
     conn: Conn<'a, SharedRef<J>>,
     admitted: Admitted<'a, J>,
 )
     requires connection { IsVisitor W.tables W.shards conn }
     requires rests { needed conn ≡ Rest }
-    requires passed { HasPassedAs W.setup (samples_of accepted.peer accepted.port) worker.old.seated.items conn }
+    requires passed { HasPassedAs W.setup (samples_by arrival.told arrival.accepted.peer arrival.accepted.port) worker.old.seated.items conn }
     requires free { slice_get worker.old.places.held.items place ≡ Some None }
     requires sign { admitted.conn.value ≡ conn }
 {
     shared.control.gauge.enter();
     let moment = event_loop.sweep.shows(event_loop.clock.now());
-    match begin(
-        shared, event_loop, buffer, place, accepted, moment, admitted,
-    ) {
+    match begin(shared, event_loop, buffer, place, arrival, moment, admitted) {
         Ok(link) => worker.places.put_open(place, conn, link),
         Err(unbegun) => {
             let Unbegun { ended, sockets } = unbegun;
@@ -103,17 +102,18 @@ pub(crate) fn carry<'a, T: Table, J: Naming, R: ServeRuntime, G, W: Width>(
 /// Connects an admitted client to its server, and moves what is there already. Where that is over at once, how it ended.
 fn begin<'a, J: Naming, R: ServeRuntime, G, W: Width>(
     shared: &Shared<'a, R, G, W>,
-    event_loop: &mut EventLoop<'_, R>,
+    event_loop: &mut EventLoop<'_, R, W>,
     buffer: &mut Buffer,
     place: usize,
-    accepted: Accepted,
+    arrival: Arrival<W>,
     moment: u64,
     _admitted: Admitted<'a, J>,
 ) -> Result<Link, Unbegun> {
-    let Accepted { client, peer, .. } = accepted;
+    let (told, is_nonblocking) = (arrival.told, arrival.is_nonblocking);
+    let Accepted { client, peer, .. } = arrival.accepted;
     // Only now: a rejected client needs it not.
-    let has_failed = client.set_nonblocking(true).is_err();
-    let greeting = greeting_of(shared.alloc, shared.told_by, &client, peer);
+    let has_failed = !is_nonblocking && client.set_nonblocking(true).is_err();
+    let greeting = greeting_of(shared.alloc, shared.told_by, &client, peer, told);
     let client = net::TcpStream::from_std(client);
     let (Some(greeting), false) = (greeting, has_failed) else {
         return Err(Unbegun::of_client(client, Ending::Over));
@@ -136,7 +136,7 @@ fn begin<'a, J: Naming, R: ServeRuntime, G, W: Width>(
 /// Moves what the client has sent already. Where the connection is over at once, how it ended.
 fn start<R: ServeRuntime, G, W: Width>(
     shared: &Shared<'_, R, G, W>,
-    event_loop: &mut EventLoop<'_, R>,
+    event_loop: &mut EventLoop<'_, R, W>,
     buffer: &mut Buffer,
     place: usize,
     mut link: Link,

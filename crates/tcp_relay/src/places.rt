@@ -64,11 +64,6 @@ impl<'a, J: Naming, W: Width> Places<'a, J, W> {
         self.open
     }
 
-    /// Whether no connection is open.
-    pub(crate) fn is_idle(&self) -> bool {
-        self.open == 0
-    }
-
     /// How many places have been in use.
     pub(crate) fn count(&self) -> usize
         ensures { result ≡ length self.now.held.items }
@@ -95,7 +90,7 @@ impl<'a, J: Naming, W: Width> Places<'a, J, W> {
     }
 
     /// This place, if it is free.
-    fn if_free(&self, place: usize) -> Option<usize>
+    pub(crate) fn if_free(&self, place: usize) -> Option<usize>
         ensures free { IfSome result (λ free. slice_get self.now.held.items free ≡ Some None) }
     {
         match self.held.get(place) {

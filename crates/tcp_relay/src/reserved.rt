@@ -18,7 +18,7 @@ use stick_table::Table;
 
 /// For each worker, empty lists with places for what it keeps. It can't be dropped, as connections can't.
 pub(crate) struct Rooms<'a, T: Table, J: Naming, R, W: Width> {
-    pub(crate) all_buffers: Vec<Buffers>,
+    pub(crate) all_buffers: Vec<Buffers<W>>,
     /// Places for each table with a seat.
     pub(crate) rows: Vec<Vec<Seated<'a, T, J, R>>>,
     /// Places for its connections.
@@ -37,27 +37,29 @@ pub(crate) struct Reserved<'a, T: Table, J: Naming, R, W: Width> {
     pub(crate) refs: Vec<Vec<SharedRef<J>>>,
 }
 
-/// What can be dropped, for so many workers with so many connections each.
-fn reserve_plain(
+/// What can be dropped, for so many workers with so many connections each, of which so many may be waited for.
+fn reserve_plain<W: Width>(
     alloc: Global,
     workers: usize,
     connections: usize,
-) -> Result<(Vec<Buffers>, TurnParts, Vec<Vec<usize>>), NoMemory>
+    waits: usize,
+) -> Result<(Vec<Buffers<W>>, TurnParts, Vec<Vec<usize>>), NoMemory>
     ensures all_buffers { IfOk result (λ lists. length lists.0.items ≡ workers) }
     ensures free { IfOk result (λ lists. length lists.2.items ≡ workers) }
 {
-    let all_buffers = reserve_buffers(alloc, workers)?;
+    let all_buffers = reserve_buffers(alloc, workers, waits)?;
     let parts = TurnParts::reserve(alloc, workers)?;
     let free = reserve_lists(alloc, workers, connections)?;
     Ok((all_buffers, parts, free))
 }
 
-/// Room for so many workers and tables, and so many connections of each worker.
+/// Room for so many workers and tables, and so many connections of each worker, of which so many may be waited for.
 pub(crate) fn reserve<'a, T: Table, J: Naming, R, W: Width>(
     alloc: Global,
     workers: usize,
     tables: usize,
     connections: usize,
+    waits: usize,
 ) -> Result<Reserved<'a, T, J, R, W>, NoMemory>
     requires workers { workers ≤ 64 }
     requires connections { connections ≤ 2 ^ 32 }
@@ -68,7 +70,7 @@ pub(crate) fn reserve<'a, T: Table, J: Naming, R, W: Width>(
     ensures free { IfOk result (λ room. length room.rooms.free.items ≡ workers) }
     ensures refs { IfOk result (λ room. (length room.refs.items ≡ tables) × HaveEach 0 (workers * (connections * 3)) room.refs.items) }
 {
-    let (all_buffers, parts, free) = reserve_plain(alloc, workers, connections)?;
+    let (all_buffers, parts, free) = reserve_plain(alloc, workers, connections, waits)?;
     let rows = reserve_lists(alloc, workers, tables)?;
     let held = reserve_lists(alloc, workers, connections)?;
     let Ok(refs) = reserve_lists(alloc, tables, workers * (connections * MOST_HELD)) else {

@@ -2,12 +2,14 @@
 
 ghost use Rattle.std.specs.Prelude.{◌≡◌, ◌≤◌, IfErr, IfOk, is_some, length, true, false, vec_len};
 ghost use Rattle.tcp_relay.specs.Accepting.{most_of};
+ghost use Rattle.tcp_relay.specs.Arrivals.{trust_of};
 ghost use Rattle.tcp_relay.specs.Seating.{stores_current};
 ghost use Rattle.tcp_relay.specs.Serving.{AreSeats, AreTablesOf, IsCause, IsFault, IsServed, IsUnserved};
 ghost use Rattle.tcp_relay.specs.declared.served.FaultKind.TheVariants.{NoMemory as MemoryFault};
 
 use crate::acceptor::Acceptor;
 use crate::addresses::socket_address;
+use crate::buffers::Buffers;
 use crate::connection_counter::ConnectionCounter;
 use crate::gathering::{gather, seat_workers};
 use crate::listener_turn::{ListenerTurn, TurnParts, WorkerTurn};
@@ -42,10 +44,15 @@ fn serve_each<'a, T: Table, J: Naming, R: ServeRuntime, G: Gate, W: Width>(
     shared: &Shared<'a, R, G, W>,
     worker: &mut Worker<'a, T, J, R, W>,
 ) {
-    let (Some(mut buffers), Some(watch)) = (worker.buffers.take(), worker.watch.take()) else {
+    let (Some(buffers), Some(watch)) = (worker.buffers.take(), worker.watch.take()) else {
         worker.tally.has_failed = true;
         return;
     };
+    let Buffers {
+        mut events,
+        mut buffer,
+        waits,
+    } = buffers;
     let mut clock = RunningClock::new(shared.rt, shared.start);
     let sweep = Sweep::new(clock.now());
     let mut event_loop = EventLoop {
@@ -54,16 +61,18 @@ fn serve_each<'a, T: Table, J: Naming, R: ServeRuntime, G: Gate, W: Width>(
         acceptor: Acceptor::new(),
         clock,
         sweep,
+        waits,
         next: 0,
     };
     for _turn in shared.rt.forever() {
         event_loop
             .acceptor
             .draw(shared.counter, shared.rt, worker.keeps);
-        if event_loop.acceptor.number().is_none() && worker.places.is_idle() {
+        let is_idle = event_loop.in_hand(worker.places.open()) == 0;
+        if event_loop.acceptor.number().is_none() && is_idle {
             break;
         }
-        if !turn_all(shared, worker, &mut event_loop, &mut buffers) {
+        if !turn_all(shared, worker, &mut event_loop, &mut events, &mut buffer) {
             worker.tally.has_failed = true;
             break;
         }
@@ -235,7 +244,7 @@ fn serve_wide<
     setup: &Setup,
     gate: &G,
     threads: u32,
-    limits: Limits,
+    limits: Limits<'_>,
     stop_after: Option<u64>,
     start: Start,
     control: Control<'_>,
@@ -245,19 +254,21 @@ fn serve_wide<
     requires judges { setup.now ≡ W.setup }
     requires current { W.current ≡ stores_current setup.now }
     requires most { W.most ≡ most_of limits.connections threads }
+    requires trust { W.trust ≡ trust_of limits.proxies }
     requires server { is_some setup.now.server ≡ true }
     requires tables { AreTablesOf setup.now tables.now }
     requires seats { AreSeats (length tables.now) threads seats }
     requires threads { (1 ≤ threads) × (threads ≤ 64) }
-    ensures ok { IfOk result (λ served. IsServed (length tables.now) threads (most_of limits.connections threads) served) }
-    ensures err { IfErr result (λ fault. IsFault (length tables.now) threads (most_of limits.connections threads) seats fault) }
+    ensures ok { IfOk result (λ served. IsServed (length tables.now) threads (most_of limits.entry.connections threads) served) }
+    ensures err { IfErr result (λ fault. IsFault (length tables.now) threads (most_of limits.entry.connections threads) seats fault) }
 {
     let Some(server) = setup.server else {
         unreachable!();
     };
     let connections = limits.connections as usize;
     let most = share_of(connections, threads as usize, 0);
-    let Ok(room) = reserve::<T, J, R, W>(alloc, threads as usize, tables.len(), most) else {
+    let waits = if limits.proxies.is_some() { most } else { 0 };
+    let Ok(room) = reserve::<T, J, R, W>(alloc, threads as usize, tables.len(), most, waits) else {
         return Err(without_memory(alloc, seats));
     };
     let Reserved {
@@ -283,6 +294,7 @@ fn serve_wide<
         retries: limits.retries,
         liveness: limits.liveness,
         told_by: limits.told_by,
+        proxies: limits.proxies,
         gate,
         control,
         start,
@@ -334,7 +346,7 @@ pub fn serve<T: Table + Send, J: Naming + Send + Sync, R: ServeRuntime, G: Gate 
     setup: &Setup,
     gate: &G,
     threads: u32,
-    limits: Limits,
+    limits: Limits<'_>,
     stop_after: Option<u64>,
     start: Start,
     control: Control<'_>,
@@ -344,8 +356,8 @@ pub fn serve<T: Table + Send, J: Naming + Send + Sync, R: ServeRuntime, G: Gate 
     requires seats { AreSeats (length tables.now) threads seats }
     requires threads { (1 ≤ threads) × (threads ≤ 64) }
     // All seats come back, of each table as many as there are threads.
-    ensures ok { IfOk result (λ served. IsServed (length tables.now) threads (most_of limits.connections threads) served) }
-    ensures err { IfErr result (λ fault. IsFault (length tables.now) threads (most_of limits.connections threads) seats fault) }
+    ensures ok { IfOk result (λ served. IsServed (length tables.now) threads (most_of limits.entry.connections threads) served) }
+    ensures err { IfErr result (λ fault. IsFault (length tables.now) threads (most_of limits.entry.connections threads) seats fault) }
 {
     serve_wide::<Brand, T, J, R, G>(
         alloc, rt, listeners, tables, seats, setup, gate, threads, limits, stop_after, start,

@@ -1,8 +1,10 @@
 //! What all workers share by reference; `serving` makes it, and `turning` and `visiting` read it.
 
 ghost use Rattle.std.specs.Prelude.{◌≡◌, length};
+ghost use Rattle.tcp_relay.specs.Arrivals.{trust_of};
 ghost use Rattle.tcp_relay.specs.Seating.{StoreAs};
 
+use crate::Proxies;
 use crate::connection_counter::ConnectionCounter;
 use crate::control::Control;
 use crate::listeners::Listeners;
@@ -31,6 +33,8 @@ pub(crate) struct Shared<'a, R, G, W: Width> {
     pub(crate) liveness: Liveness,
     /// By which version of the PROXY protocol the server is told first who a client is, if it is.
     pub(crate) told_by: Option<Version>,
+    /// Which proxies say of their clients who those are, if any do.
+    pub(crate) proxies: Option<Proxies<'a>>,
     pub(crate) gate: &'a G,
     pub(crate) control: Control<'a>,
     /// The moment 0.
@@ -39,5 +43,6 @@ pub(crate) struct Shared<'a, R, G, W: Width> {
     ghost tables: { length setup.now.tables ≡ W.tables },
     ghost shards: { setup.now.shards ≡ W.shards },
     ghost judges: { setup.now ≡ W.setup },
+    ghost trusts: { trust_of proxies ≡ W.trust },
     ghost current: { StoreAs (λ named. named.spec) W.current setup.now.tables },
 }

@@ -4,17 +4,18 @@ ghost use Rattle.std.specs.Prelude.{◌≡◌, Some, None, slice_get};
 
 use crate::accept_errors::{AcceptFault, Shortage, shortage_of};
 use crate::acceptor::Acceptor;
-use crate::buffers::Buffers;
+use crate::arrival::Arrival;
 use crate::closing::{close, close_all, close_silent, count_open, retry_due};
 use crate::drain::Phase;
 use crate::listener_turn::WorkerTurn;
-use crate::listeners::Accepted;
 use crate::met::{count_met, met_by};
 use crate::opening::carry;
+use crate::receiving::{end_late, end_waits, hear_again, receive};
 use crate::shared::Shared;
 use crate::standing::Stand;
 use crate::sweep::Sweep;
 use crate::visiting::{arrive, end_at, judge_one};
+use crate::waits::Waits;
 use crate::watch::{LISTENER, Watch, is_of_connection};
 use crate::width::Width;
 use crate::worker::Worker;
@@ -25,7 +26,7 @@ use shard_record::Naming;
 use std::thread;
 use std::time::Duration;
 use stick_table::Table;
-use tcp_link::{Buffer, Ready, reset};
+use tcp_link::{Ahead, Buffer, Ready, reset};
 
 /// How many connections are accepted before others get their turn.
 const ACCEPTS: u32 = 16;
@@ -36,44 +37,53 @@ const REST: u64 = 100;
 
 /// A worker at its work: what it waits for, and by which clock.
 #[derive(Drop)]
-pub(crate) struct EventLoop<'r, R> {
+pub(crate) struct EventLoop<'r, R, W: Width> {
     pub(crate) watch: Watch,
     pub(crate) turn: WorkerTurn<'r>,
     pub(crate) acceptor: Acceptor,
     pub(crate) clock: RunningClock<'r, R>,
     pub(crate) sweep: Sweep,
+    /// The clients whose headers are waited for.
+    pub(crate) waits: Waits<W>,
     /// The place of the listener that is asked first for the next client.
     pub(crate) next: usize,
 }
 
+impl<R, W: Width> EventLoop<'_, R, W> {
+    /// How many clients a worker has in hand that holds so many open connections: those too that it waits for.
+    pub(crate) fn in_hand(&self, open: usize) -> usize {
+        open.saturating_add(self.waits.count())
+    }
+}
+
 /// Takes a client in: it is judged, and carried to the server if it is admitted.
-fn take_in<'a, T: Table, J: Naming, R: ServeRuntime, G: Gate, W: Width>(
+pub(crate) fn take_in<'a, T: Table, J: Naming, R: ServeRuntime, G: Gate, W: Width>(
     shared: &Shared<'a, R, G, W>,
     worker: &mut Worker<'a, T, J, R, W>,
-    event_loop: &mut EventLoop<'_, R>,
+    event_loop: &mut EventLoop<'_, R, W>,
     buffer: &mut Buffer,
     number: u64,
     place: usize,
-    accepted: Accepted,
+    arrival: Arrival<W>,
 )
     requires free { slice_get worker.old.places.held.items place ≡ Some None }
 {
-    let peer = accepted.peer;
-    let samples = accepted.samples();
+    let source = arrival.source();
+    let samples = arrival.samples();
     let mut conn = arrive(shared, samples);
     let seated = &mut worker.seated;
     let admitted = judge_one(shared, seated, &mut event_loop.clock, number, &mut conn);
     worker.counted.count_verdict(admitted.is_some());
     if let Some(admitted) = admitted {
         carry(
-            shared, worker, event_loop, buffer, place, accepted, conn, admitted,
+            shared, worker, event_loop, buffer, place, arrival, conn, admitted,
         );
         return;
     }
-    shared.control.note_rejected(peer);
+    shared.control.note_rejected(source);
     // First its references: a client that hears of the reset may come again at once.
     end_at(shared, worker, &mut event_loop.clock, place, conn, false);
-    reset(shared.rt, net::TcpStream::from_std(accepted.client));
+    reset(shared.rt, net::TcpStream::from_std(arrival.accepted.client));
 }
 
 /// What becomes of a client that couldn't be accepted.
@@ -95,7 +105,7 @@ fn note_fault<T: Table, J: Naming, R, W: Width>(
 fn accept_one<'a, T: Table, J: Naming, R: ServeRuntime, G: Gate, W: Width>(
     shared: &Shared<'a, R, G, W>,
     worker: &mut Worker<'a, T, J, R, W>,
-    event_loop: &mut EventLoop<'_, R>,
+    event_loop: &mut EventLoop<'_, R, W>,
     buffer: &mut Buffer,
     number: u64,
     place: usize,
@@ -106,11 +116,12 @@ fn accept_one<'a, T: Table, J: Naming, R: ServeRuntime, G: Gate, W: Width>(
     match accepted {
         Ok(accepted) => {
             // From here on another is told, as the gate may block this one.
-            event_loop.turn.pass(shared.rt, worker.places.open());
+            let in_hand = event_loop.in_hand(worker.places.open());
+            event_loop.turn.pass(shared.rt, in_hand);
             event_loop.next = accepted.next;
             event_loop.acceptor.pass();
             worker.counted.count_accepted();
-            take_in(shared, worker, event_loop, buffer, number, place, accepted);
+            receive(shared, worker, event_loop, buffer, number, place, accepted);
         }
         Err(unaccepted) => {
             worker.places.free(place);
@@ -139,7 +150,7 @@ fn note_short<'a, T: Table, J: Naming, R, G, W: Width>(
 fn try_to_accept<'a, T: Table, J: Naming, R: ServeRuntime, G: Gate, W: Width>(
     shared: &Shared<'a, R, G, W>,
     worker: &mut Worker<'a, T, J, R, W>,
-    event_loop: &mut EventLoop<'_, R>,
+    event_loop: &mut EventLoop<'_, R, W>,
     buffer: &mut Buffer,
     number: u64,
 ) {
@@ -161,7 +172,7 @@ fn try_to_accept<'a, T: Table, J: Naming, R: ServeRuntime, G: Gate, W: Width>(
 fn accept_some<'a, T: Table, J: Naming, R: ServeRuntime, G: Gate, W: Width>(
     shared: &Shared<'a, R, G, W>,
     worker: &mut Worker<'a, T, J, R, W>,
-    event_loop: &mut EventLoop<'_, R>,
+    event_loop: &mut EventLoop<'_, R, W>,
     buffer: &mut Buffer,
 ) -> bool {
     for _client in 0..ACCEPTS {
@@ -174,25 +185,33 @@ fn accept_some<'a, T: Table, J: Naming, R: ServeRuntime, G: Gate, W: Width>(
         let Some(number) = event_loop.acceptor.number() else {
             break;
         };
-        if event_loop.turn.leaves(shared.rt, worker.places.open()) {
+        let in_hand = event_loop.in_hand(worker.places.open());
+        if event_loop.turn.leaves(shared.rt, in_hand) {
             event_loop.acceptor.leave();
             break;
         }
         try_to_accept(shared, worker, event_loop, buffer, number);
-        event_loop.turn.hold(worker.places.open());
+        let in_hand = event_loop.in_hand(worker.places.open());
+        event_loop.turn.hold(in_hand);
     }
     !event_loop.acceptor.may_have()
 }
 
-/// Gives a connection its turn, of which a socket is ready.
-fn turn<'a, T: Table, J: Naming, R: ServeRuntime, G, W: Width>(
+/// Gives a connection its turn, of which a socket is ready, or a client that is waited for.
+fn turn<'a, T: Table, J: Naming, R: ServeRuntime, G: Gate, W: Width>(
     shared: &Shared<'a, R, G, W>,
     worker: &mut Worker<'a, T, J, R, W>,
-    event_loop: &mut EventLoop<'_, R>,
+    event_loop: &mut EventLoop<'_, R, W>,
     buffer: &mut Buffer,
     ready: Ready,
     moment: u64,
 ) {
+    if event_loop.waits.count() > 0 {
+        let is_closed = ready.has_failed || ready.ahead != Ahead::More;
+        if hear_again(shared, worker, event_loop, buffer, ready.number, is_closed) {
+            return;
+        }
+    }
     let registry = event_loop.watch.registry();
     if worker.places.turn(registry, ready, moment, buffer) {
         close(shared, worker, &mut event_loop.clock, ready.number, None);
@@ -226,7 +245,7 @@ fn tells_of_connections(events: &Events) -> bool {
 fn turn_each<'a, T: Table, J: Naming, R: ServeRuntime, G: Gate, W: Width>(
     shared: &Shared<'a, R, G, W>,
     worker: &mut Worker<'a, T, J, R, W>,
-    event_loop: &mut EventLoop<'_, R>,
+    event_loop: &mut EventLoop<'_, R, W>,
     events: &Events,
     buffer: &mut Buffer,
     moment: u64,
@@ -249,17 +268,17 @@ fn turn_each<'a, T: Table, J: Naming, R: ServeRuntime, G: Gate, W: Width>(
 fn wait<'a, T: Table, J: Naming, R: ServeRuntime, G: Gate, W: Width>(
     shared: &Shared<'a, R, G, W>,
     worker: &Worker<'a, T, J, R, W>,
-    event_loop: &mut EventLoop<'_, R>,
+    event_loop: &mut EventLoop<'_, R, W>,
     events: &mut Events,
 ) -> bool {
     let has_room = worker.places.has_room();
-    let holds = !worker.places.is_idle();
+    let in_hand = event_loop.in_hand(worker.places.open());
     let acceptor = &event_loop.acceptor;
-    let pause = acceptor.pause(has_room, event_loop.sweep.is_due(), holds);
+    let pause = acceptor.pause(has_room, event_loop.sweep.is_due(), in_hand > 0);
     let stand = Stand {
         can_accept: acceptor.can_accept(has_room),
         may_have: acceptor.may_have(),
-        held: worker.places.open(),
+        held: in_hand,
     };
     event_loop.turn.begin(shared.rt, stand, pause);
     let is_well = event_loop.watch.wait(events, pause).is_ok();
@@ -273,10 +292,10 @@ fn wait<'a, T: Table, J: Naming, R: ServeRuntime, G: Gate, W: Width>(
 pub(crate) fn turn_all<'a, T: Table, J: Naming, R: ServeRuntime, G: Gate, W: Width>(
     shared: &Shared<'a, R, G, W>,
     worker: &mut Worker<'a, T, J, R, W>,
-    event_loop: &mut EventLoop<'_, R>,
-    buffers: &mut Buffers,
+    event_loop: &mut EventLoop<'_, R, W>,
+    events: &mut Events,
+    buffer: &mut Buffer,
 ) -> bool {
-    let Buffers { events, buffer } = buffers;
     if !wait(shared, worker, event_loop, events) {
         return false;
     }
@@ -287,24 +306,28 @@ pub(crate) fn turn_all<'a, T: Table, J: Naming, R: ServeRuntime, G: Gate, W: Wid
     }
     let polls = polls_for(worker.places.count(), events.capacity());
     let as_of = event_loop.sweep.after_poll(moment, is_full(events), polls);
-    let (open, tally) = (worker.places.open(), worker.tally);
+    let in_hand = event_loop.in_hand(worker.places.open());
+    let tally = worker.tally;
     let heard = event_loop.sweep.counted();
     let only_accepts = turn_each(shared, worker, event_loop, events, buffer, heard);
     if let Some(as_of) = as_of {
         event_loop.turn.look_after(shared.rt);
         count_open(worker);
         close_silent(shared, worker, event_loop, as_of);
+        end_late(shared, worker, event_loop, as_of);
         if shared.retries > 0 {
             retry_due(shared, worker, event_loop, buffer);
         }
     }
     if phase == Phase::Closing {
+        end_waits(shared, worker, event_loop);
         close_all(shared, worker, event_loop);
     }
     let cells = shared.control.cells_of(event_loop.watch.worker());
     count_met(&mut worker.counted, met_by(worker.seated.as_slice()));
     worker.counted.publish(cells);
-    if only_accepts && worker.places.open() == open && worker.tally.has_only_rejected(tally) {
+    let holds_as_many = event_loop.in_hand(worker.places.open()) == in_hand;
+    if only_accepts && holds_as_many && worker.tally.has_only_rejected(tally) {
         thread::sleep(shared.rt, Duration::from_micros(REST));
     }
     true

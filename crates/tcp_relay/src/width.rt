@@ -1,13 +1,14 @@
 //! What is known of all workers, as the trait `Width`; the types of workers, connections and lists are made by it.
 
-ghost use Rattle.std.specs.Prelude.{ℕ, Bool, false};
+ghost use Rattle.std.specs.Prelude.{ℕ, Bool, Option, None, false};
 ghost use Rattle.rule_model.specs.declared.sections.Setup.{Setup};
+ghost use Rattle.tcp_relay.specs.Arrivals.{Trust};
 ghost use Rattle.tcp_relay.specs.Seating.{no_setup};
 
 use std::marker::Brand;
 
 /// How many tables there are, in how many shards each is, which of them store conn_cur, how many connections a worker holds at
-/// most, and by what setup they are judged. A type names them, so that they are known also of what comes back from a thread.
+/// most, by what setup they are judged, and which proxies are believed. A type names them, so that they are known also of what comes back from a thread.
 pub trait Width {
     ghost tables: { ℕ };
 
@@ -18,6 +19,8 @@ pub trait Width {
     ghost most: { ℕ };
 
     ghost setup: { Setup };
+
+    ghost trust: { Option Trust };
 }
 
 impl Width for Brand {
@@ -30,4 +33,6 @@ impl Width for Brand {
     ghost most = { 0 };
 
     ghost setup = { no_setup };
+
+    ghost trust = { None };
 }

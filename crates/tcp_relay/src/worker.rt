@@ -97,7 +97,7 @@ pub(crate) struct Worker<'a, T: Table, J: Naming, R, W: Width> {
     pub(crate) seated: Vec<Seated<'a, T, J, R>>,
     pub(crate) places: Places<'a, J, W>,
     /// What its thread waits and carries by, until that takes it.
-    pub(crate) buffers: Option<Buffers>,
+    pub(crate) buffers: Option<Buffers<W>>,
     /// What its thread waits for, from when it watches until that takes it.
     pub(crate) watch: Option<Watch>,
     of: PhantomData<W>,
@@ -112,7 +112,7 @@ impl<'a, T: Table, J: Naming, R, W: Width> Worker<'a, T, J, R, W> {
     pub(crate) fn new(
         seated: Vec<Seated<'a, T, J, R>>,
         places: Places<'a, J, W>,
-        buffers: Buffers,
+        buffers: Buffers<W>,
     ) -> Worker<'a, T, J, R, W>
         requires count { vec_len seated ≡ W.tables }
         requires shards { AreIn (λ one. one.table.shards) W.shards seated.items }
