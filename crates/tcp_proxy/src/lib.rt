@@ -1,6 +1,7 @@
 //! The proxy at work: the tables of a setup, shared by its listener's workers, command socket and housekeeping; `stickd` runs it.
 #![tactic(auto)]
 
+mod answering;
 mod asks;
 mod binding;
 mod counted;
