@@ -1,23 +1,23 @@
 //! A connection between two sockets: it begins, has turns, and closes; `tcp_relay` calls it for each admitted client.
 
-ghost use Rattle.std.specs.Prelude.{◌≡◌, ◌≢◌, ◌<◌, ◌≤◌, ◌||◌, not, true, false, vec_len, IfErr, IfOk, IsTrue, OnOk};
+ghost use Rattle.std.specs.Prelude.{◌≡◌, ◌||◌, not, true, false, IsTrue, OnOk};
 ghost use Rattle.tcp_link.specs.Closing.{closing};
-ghost use Rattle.tcp_link.specs.Links.{AdvancesIfItWaited, DropsOnly, HandsOn, IsGone, IsHeard, IsWatched, KeepsButAccepted, KeepsWhatIsKnown, bytes, has_ended, has_passed, is_held_up, is_late, is_over, must_be_accepted, opened, owes_client, owes_server, waits, way_from, way_to};
-ghost use Rattle.tcp_link.specs.Retries.{IfTried, IsRefused, fails_unread, may_retry, noted, refused_at, tells_refusal};
+ghost use Rattle.tcp_link.specs.Links.{AdvancesIfItWaited, DropsOnly, HandsOn, IsGone, IsHeard, IsWatched, KeepsButAccepted, KeepsWhatIsKnown, bytes, has_ended, has_passed, is_held_up, is_late, is_over, must_be_accepted, owes_client, owes_server, waits, way_from, way_to};
+ghost use Rattle.tcp_link.specs.Retries.{IfTried, IsRefused, fails_unread, may_retry, noted, tells_refusal};
 ghost use Rattle.tcp_link.specs.Silence.{heard_last};
 ghost use Rattle.tcp_link.specs.Ways.{Advances, IsWay, told_also};
 
 mod ending;
 mod finishing;
+mod opening;
 mod retrying;
 
 use crate::closing::Closing;
 use crate::end::{End, Side};
 use crate::loss::Rest;
 use crate::way::Way;
-use crate::{Buffer, Ready, ServerSocket, Timeouts, Unopened};
+use crate::{Buffer, Ready, Timeouts};
 use mio::Registry;
-use mio::net::TcpStream;
 use std::alloc::Global;
 use std::io;
 use std::marker::Model;
@@ -57,64 +57,6 @@ impl Model for Link {
 }
 
 impl Link {
-    /// Begins to connect a client to its server, at a moment in ms. The server is given a greeting first, where that has bytes, from
-    /// whose allocator the link takes memory. A server that refuses may be tried again so many times. Where the system says at once
-    /// that it can't connect, it waits for the first of these. If there are none that is an error, with which the client comes back as
-    /// it was: whoever closes it has then done first what is to come before that.
-    pub fn open(
-        _rt: &impl Net,
-        client: TcpStream,
-        server: ServerSocket,
-        greeting: Vec<u8>,
-        moment: u64,
-        retries: u32,
-    ) -> Result<Link, Unopened>
-        requires greeting { vec_len greeting ≤ 65536 }
-        ensures open { IfOk result (λ link. waits link ≡ false → link ≡ opened greeting.items moment retries) }
-        ensures refused { IfOk result (λ link. waits link ≡ true → (0 < retries) × (link ≡ refused_at moment (opened greeting.items moment retries))) }
-        ensures last { IfErr result (λ _. retries ≡ 0) }
-        ensures client { IfErr result (λ unopened. unopened.client ≡ client) }
-    {
-        match server.connect() {
-            Ok(socket) => Ok(Link::new(client, socket, greeting, moment, retries)),
-            Err(refusal) if retries == 0 => Err(Unopened::new(client, refusal.cause())),
-            Err(refusal) => {
-                let number = refusal.number;
-                let mut link = Link::new(client, refusal.socket, greeting, moment, retries);
-                link.server.note(number);
-                link.refuse(moment);
-                Ok(link)
-            }
-        }
-    }
-
-    /// A link between these sockets, through which nothing has passed.
-    fn new(
-        client: TcpStream,
-        server: TcpStream,
-        greeting: Vec<u8>,
-        moment: u64,
-        retries: u32,
-    ) -> Link
-        requires greeting { vec_len greeting ≤ 65536 }
-        ensures { result ≡ opened greeting.items moment retries }
-    {
-        let alloc = *greeting.allocator();
-        let length = greeting.len() as u64;
-        Link {
-            client: End::new(client, moment),
-            server: End::new(server, moment),
-            there: Way::greeting(greeting),
-            back: Way::new(alloc),
-            is_accepted: false,
-            tries: retries,
-            refused: None,
-            is_gone: false,
-            greeting: length,
-            alloc,
-        }
-    }
-
     /// Has both sockets reported as those of the connection with this number, which is below 2^63, and moves what the client
     /// has sent already. Whether it goes on: not where it is over, or the system refuses to report a socket. Where it waits,
     /// its client alone is reported, and nothing moves.
