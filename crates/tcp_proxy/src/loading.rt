@@ -19,7 +19,7 @@ fn count_saved(text: &[u8]) -> u64 {
     let mut lines = Parts::new(text, b'\n');
     let mut count = 0u64;
     while let Some(line) = lines.next() {
-        if line.first().is_some_and(u8::is_ascii_digit) {
+        if line.first().is_some_and(|byte| byte.is_ascii_digit()) {
             count = count.saturating_add(1);
         }
     }
