@@ -1,1 +1,2 @@
+pub mod ExpiringLemmas
 pub mod KeepingLemmas

@@ -5,6 +5,7 @@ use Rattle.stored_data.specs.Words.{width}
 use Rattle.stick_model.specs.declared.specification.Spec.{Spec}
 use Rattle.stick_model.specs.declared.events.Event.TheVariants.{Expire}
 use Rattle.stick_model.specs.declared.replies.Reply.{Reply}
+use Rattle.stick_model.specs.declared.replies.Reply.TheVariants.{Expired}
 use Rattle.stick_model.specs.declared.replies.Refusal.{Refusal}
 use Rattle.shard_book.specs.Told.{IsRefusedTo, Told}
 use Rattle.shard_record.specs.Telling.{IsTold}
@@ -13,9 +14,12 @@ use Rattle.shard_locks.specs.ShardsState.{ShardsState, book_of}
 use Rattle.shard_housekeeping.specs.declared.counts.Counts.{Counts}
 use Rattle.shard_housekeeping.specs.declared.kept.Kept.{Kept}
 
--- one more, up to 2^64 - 1
+-- one more, and so many more, up to 2^64 - 1
 abbrev pub more : ℕ → ℕ
 more count = min (count + 1) (2 ^ 64 - 1)
+
+abbrev pub more_by : ℕ → ℕ → ℕ
+more_by added count = min (count + added) (2 ^ 64 - 1)
 
 -- the seat of a table, what the clock is, and what was counted so far
 pub record TableState (C : Type 0) : Type 0 where
@@ -29,8 +33,15 @@ pub record RoundState (C : Type 0) : Type 0 where
   pub clock : C
   pub counts : Counts
 
+abbrev pub none_counted : Counts
+none_counted = record { rolled = 0; refused = 0; expired = 0 }
+
 abbrev pub one_refused : Counts → Counts
-one_refused counts = record { rolled = counts.rolled; refused = more counts.refused }
+one_refused counts = record counts { refused = more counts.refused }
+
+-- so many entries more went as their time was over
+abbrev pub with_expired : ℕ → Counts → Counts
+with_expired count counts = record counts { expired = more_by count counts.expired }
 
 -- the bytes of a shard's table, which takes those of its whole size as it is opened: of each entry 110, and eight for each word
 abbrev pub table_bytes : Spec → ℕ
@@ -48,7 +59,7 @@ greatest_length spec roll_at = min roll_at (max (table_bytes spec / 8 / call_byt
 
 -- what a shard answered to a roll: whether its record began again, or that it was refused
 abbrev pub noted : Result Bool AllocError → Counts → Counts
-noted (Ok true) counts = record { rolled = more counts.rolled; refused = counts.refused }
+noted (Ok true) counts = record counts { rolled = more counts.rolled }
 noted (Ok false) counts = counts
 noted (Err refused) counts = one_refused counts
 
@@ -57,11 +68,17 @@ abbrev pub ByFirst : {State : Type 0} → (ℕ → State → State → Type 0) �
 ByFirst step zero old new = new ≡ old
 ByFirst {State} step (suc count) old new = (middle : State) × ByFirst step count old middle × step count middle new
 
--- a shard told the seat that it has expired what was over at the moment, and the record of its book grew by just that call; or it
--- refused to, which is counted
+-- what an expiry is answered
+abbrev pub is_of_expire : Reply → Bool
+is_of_expire (Expired count) = true
+is_of_expire reply = false
+
+-- a shard told the seat how many entries it has expired, as they were over at the moment, and the record of its book grew by just
+-- that call; so many more are counted. By the step that the seat was told of, these are the records that there were before less
+-- those that there are after. Or the shard refused to, which is counted
 abbrev pub Expires : ℕ → ℕ → ℕ → SharedSeatState → Counts → SharedSeatState → Counts → Type 0
 Expires book shard now old counted new counts =
-    ((reply : Reply) × Told old.seat shard (Expire now) reply new.seat × IsTold book (Expire now) reply old.known new.known × (counts ≡ counted))
+    ((count : ℕ) × Told old.seat shard (Expire now) (Expired count) new.seat × IsTold book (Expire now) (Expired count) old.known new.known × (counts ≡ with_expired count counted))
     ⊎ ((refusal : Refusal) × IsRefusedTo old.seat shard (Expire now) refusal × (new ≡ old) × (counts ≡ one_refused counted))
 
 -- a shard was asked to begin its record again, and what it answered is counted; where receipts are kept it doesn't
@@ -78,7 +95,7 @@ RollsPlace tables place old new = (table : ShardsState) × (slice_get tables pla
 
 -- each shard of each table was, in their order, and this was counted
 abbrev pub RollsEach : List ShardsState → Counts → Type 0
-RollsEach tables counts = ByFirst (RollsPlace tables) (length tables) (record { rolled = 0; refused = 0 }) counts
+RollsEach tables counts = ByFirst (RollsPlace tables) (length tables) none_counted counts
 
 -- ---- by a clock, which in a state may show a moment in ms and leave another state
 
@@ -110,4 +127,4 @@ module _ {C : Type 0} (shows : C → ℕ → C → Type 0) where
   pub record KeepsRounds {J : Type 0} (tables : List ShardsState) (seats : List SharedSeatState) (old : C) (kept : Kept J) (new : C) : Type 0 where
     pub count : ℕ
     pub rounds : kept.rounds ≡ min count (2 ^ 64 - 1)
-    pub each : ByFirst (λ round. KeepsRound tables) count (record { seats = seats; clock = old; counts = record { rolled = 0; refused = 0 } }) (record { seats = kept.seats.items; clock = new; counts = record { rolled = kept.rolled; refused = kept.refused } })
+    pub each : ByFirst (λ round. KeepsRound tables) count (record { seats = seats; clock = old; counts = none_counted }) (record { seats = kept.seats.items; clock = new; counts = record { rolled = kept.rolled; refused = kept.refused; expired = kept.expired } })

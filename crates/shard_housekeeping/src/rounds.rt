@@ -1,8 +1,9 @@
 //! Rounds of housekeeping over each shard of each table; `tcp_proxy` calls `housekeep` on a thread of its own.
 
-ghost use Rattle.std.specs.Prelude.{◌≡◌, ◌<◌, ◌^◌, length};
+ghost use Rattle.std.specs.Prelude.{◌≡◌, ◌<◌, ◌^◌, length, true};
+ghost use Rattle.stick_model.specs.declared.replies.Reply.TheVariants.{Expired};
 ghost use Rattle.shard_locks.specs.ShardsState.{book_of};
-ghost use Rattle.shard_housekeeping.specs.Keeping.{Expires, KeepsRound, KeepsRounds, KeepsShard, KeepsTable, Rolls, RollsEach, RollsTable};
+ghost use Rattle.shard_housekeeping.specs.Keeping.{Expires, KeepsRound, KeepsRounds, KeepsShard, KeepsTable, Rolls, RollsEach, RollsTable, is_of_expire};
 
 use crate::counts::Counts;
 use crate::lengths::greatest_length;
@@ -11,10 +12,22 @@ use base_clock::Clock;
 use shard_locks::{Shards, SharedSeat};
 use shard_record::Naming;
 use std::sync::Wait;
-use stick_table::{Event, Table};
+use stick_table::{Event, Reply, Table};
 
-/// Has a shard expire the entries whose time has come, which is one call of the seat. A refusal is counted, and changes
-/// nothing.
+/// How many entries a reply to an expiry tells to be gone.
+fn expired_count(reply: &Reply) -> u64
+    requires { is_of_expire reply.now ≡ true }
+    ensures { Expired result ≡ reply.now }
+{
+    match reply {
+        Reply::Expired(count) => *count,
+        _ => unreachable!(),
+    }
+}
+
+/// Has a shard expire the entries whose time has come, which is one call of the seat, and counts them. A refusal is counted, and
+/// changes nothing.
+#[tactic(auto, using(crate::proofs::ExpiringLemmas::told_count))]
 fn expire<T: Table, J: Naming>(
     rt: &impl Wait,
     table: &Shards<T, J>,
@@ -28,7 +41,7 @@ fn expire<T: Table, J: Naming>(
     ensures { Expires (book_of table.now shard) shard now seat.old counts.old seat.new counts.new }
 {
     match table.call(rt, seat, shard, Event::Expire(now)) {
-        Ok(_reply) => {}
+        Ok(reply) => counts.add_expired(expired_count(&reply)),
         Err(_refusal) => counts.refuse(),
     }
 }
@@ -115,10 +128,7 @@ pub fn housekeep<T: Table, J: Naming, C: Clock, P: Pace>(
     requires { length tables.now ≡ length seats.items }
     ensures { KeepsRounds C.shows tables.now seats.items (C.state clock.old) result (C.state clock.new) }
 {
-    let mut counts = Counts {
-        rolled: 0,
-        refused: 0,
-    };
+    let mut counts = Counts::none();
     let mut rounds = 0u64;
     for _ in rt.forever() {
         if !pace.next() {
@@ -131,6 +141,7 @@ pub fn housekeep<T: Table, J: Naming, C: Clock, P: Pace>(
         rounds,
         rolled: counts.rolled,
         refused: counts.refused,
+        expired: counts.expired,
         seats,
     }
 }
@@ -158,10 +169,7 @@ pub fn roll_long<T: Table, J: Naming>(
 ) -> Counts
     ensures { RollsEach tables.now result }
 {
-    let mut counts = Counts {
-        rolled: 0,
-        refused: 0,
-    };
+    let mut counts = Counts::none();
     for place in 0..tables.len() {
         roll_table(rt, &tables[place], roll_at, &mut counts);
     }

@@ -11,3 +11,4 @@ pub mod LastWord
 pub mod Replacing
 pub mod Windows
 pub mod Hints
+pub mod Progressing

@@ -1,7 +1,7 @@
 //! `stickd ctl`: commands to a running stickd, and its answers.
 
 use crate::client::{
-    BAD_WORDS, DONE, FAILED, Peer, answer_in_time, is_on_terminal, say_no_memory, show,
+    BAD_WORDS, DONE, FAILED, Peer, answer_in_time, answer_told, is_on_terminal, say_no_memory, show,
 };
 use crate::errors::{is_command, is_error};
 use crate::hints::{asks_for_help, hint};
@@ -92,12 +92,12 @@ fn shown_in_place(
 }
 
 /// Asks once, and answers the status.
-fn ask_once<R: Net + Print + Eprint + AllocGlobal>(
+fn ask_once<R: Net + Clock + Print + Eprint + AllocGlobal>(
     rt: &R,
     asked: &Ctl<'_>,
     command: &[u8],
 ) -> io::Result<u8> {
-    let Some(answer) = answer_in_time(rt, asked.peer(), command)? else {
+    let Some(answer) = answer_told(rt, asked.peer(), command)? else {
         return Ok(FAILED);
     };
     let Ok(text) = shown(rt.alloc(), asked, &answer) else {
@@ -145,7 +145,7 @@ fn ask_again<R: Net + Clock + Env + Print + Eprint + AllocGlobal>(
 }
 
 /// Writes what tables hold, and answers the status, as `save_tables`; 2 where it is asked as JSON, or again.
-fn save<R: Net + Files + Print + Eprint + AllocGlobal>(
+fn save<R: Net + Files + Clock + Print + Eprint + AllocGlobal>(
     rt: &R,
     asked: &Ctl<'_>,
     tables: &[&str],

@@ -1,10 +1,12 @@
 //! A client of the command socket, and what it says of it.
 
 use crate::errors::is_blank;
-use std::io::{self, Read, Write};
+use crate::listed::Listed;
+use crate::progress_line::ProgressLine;
+use std::io::{self, ErrorKind, Read, Write};
 use std::net::{Net, Shutdown};
 use std::os::unix::net::UnixStream;
-use std::time::Duration;
+use std::time::{Clock, Duration};
 
 /// The status where all went well.
 pub(crate) const DONE: u8 = 0;
@@ -14,6 +16,9 @@ pub(crate) const FAILED: u8 = 1;
 
 /// The status of words that can't be meant.
 pub(crate) const BAD_WORDS: u8 = 2;
+
+/// How many bytes of an answer are read between two looks at its progress, at most.
+const PIECE: usize = 16_384;
 
 /// How long a program may say nothing where no other time is told, in ms.
 pub const PATIENCE: u64 = 10_000;
@@ -52,6 +57,61 @@ fn ask<R: Net + AllocGlobal>(rt: &R, peer: Peer<'_>, command: &[u8]) -> io::Resu
     Ok(answer)
 }
 
+/// Adds what comes next of an answer. Answers how many bytes these are: 0 at its end.
+fn read_piece(stream: &mut UnixStream, answer: &mut Vec<u8>) -> io::Result<usize> {
+    let mut piece = [0u8; PIECE];
+    for _interrupted in 0..u64::MAX {
+        match stream.read(&mut piece) {
+            Ok(count) => {
+                answer.extend_from_slice(piece.get(..count).unwrap_or(&[]))?;
+                return Ok(count);
+            }
+            Err(reason) if reason.kind() == ErrorKind::Interrupted => {}
+            Err(reason) => return Err(reason),
+        }
+    }
+    Ok(0)
+}
+
+/// Reads an answer to its end, and tells meanwhile how many entries of it have come.
+fn read_told<R: Clock + Eprint + AllocGlobal>(
+    rt: &R,
+    stream: &mut UnixStream,
+    answer: &mut Vec<u8>,
+    line: &ProgressLine<'_>,
+) -> io::Result<()> {
+    let mut listed = Listed::new();
+    let mut noted = 0usize;
+    for _piece in 0..u64::MAX {
+        if read_piece(stream, answer)? == 0 {
+            break;
+        }
+        let more = listed.note_more(answer.get(noted..).unwrap_or(&[]));
+        noted = noted.saturating_add(more);
+        if listed.entries > 0 {
+            line.tell(rt, listed.entries, Some(listed.whole));
+        }
+    }
+    Ok(())
+}
+
+/// What a stickd answers to a line of commands, whose progress a line of the terminal tells.
+fn ask_told<R: Net + Clock + Eprint + AllocGlobal>(
+    rt: &R,
+    peer: Peer<'_>,
+    command: &[u8],
+    line: &ProgressLine<'_>,
+) -> io::Result<Vec<u8>> {
+    if !line.is_shown() {
+        return ask(rt, peer, command);
+    }
+    let mut stream = connect(rt, peer)?;
+    send(&mut stream, command)?;
+    let mut answer = Vec::new(rt.alloc());
+    read_told(rt, &mut stream, &mut answer, line)?;
+    Ok(answer)
+}
+
 /// Whether an error is that of a time which is over.
 pub(crate) fn is_late(reason: &io::Error) -> bool {
     let kind = reason.kind();
@@ -64,14 +124,15 @@ pub(crate) fn say_late<R: Eprint>(rt: &R, peer: Peer<'_>) -> io::Result<()> {
     eprintln!(rt; "stickd: the program at {path} has said nothing for {patience} ms")
 }
 
-/// What a line of commands is answered. None where nobody answers, or not in time, which is then said.
-pub(crate) fn answer_in_time<R: Net + Eprint + AllocGlobal>(
+/// What came of a line of commands. None where nobody answered, or not in time, which is then said.
+fn answer_or_fault<R: Eprint>(
     rt: &R,
     peer: Peer<'_>,
     command: &[u8],
+    asked: io::Result<Vec<u8>>,
 ) -> io::Result<Option<Vec<u8>>> {
     let path = peer.path;
-    match ask(rt, peer, command) {
+    match asked {
         Ok(answer) if answer.ends_with(b"\n") || is_blank(command) => Ok(Some(answer)),
         Ok(_cut) => {
             eprintln!(rt; "stickd: {path} was closed before the answer's end")?;
@@ -88,7 +149,28 @@ pub(crate) fn answer_in_time<R: Net + Eprint + AllocGlobal>(
     }
 }
 
-/// The same, with the time that is usual.
+/// What a line of commands is answered. None where nobody answers, or not in time, which is then said.
+pub(crate) fn answer_in_time<R: Net + Eprint + AllocGlobal>(
+    rt: &R,
+    peer: Peer<'_>,
+    command: &[u8],
+) -> io::Result<Option<Vec<u8>>> {
+    answer_or_fault(rt, peer, command, ask(rt, peer, command))
+}
+
+/// The same of a command that may list much: where that takes longer, the terminal of standard error tells how far it has come.
+pub(crate) fn answer_told<R: Net + Clock + Eprint + AllocGlobal>(
+    rt: &R,
+    peer: Peer<'_>,
+    command: &[u8],
+) -> io::Result<Option<Vec<u8>>> {
+    let line = ProgressLine::begin(rt, "listed");
+    let asked = ask_told(rt, peer, command, &line);
+    line.clear(rt);
+    answer_or_fault(rt, peer, command, asked)
+}
+
+/// The same as `answer_in_time`, with the time that is usual.
 pub(crate) fn answer_of<R: Net + Eprint + AllocGlobal>(
     rt: &R,
     path: &str,

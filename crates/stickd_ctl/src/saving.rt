@@ -4,7 +4,7 @@ ghost use Rattle.std.specs.Prelude.{◌≡◌};
 ghost use Rattle.std.specs.List.{list_all};
 ghost use Rattle.stickd_ctl.specs.Names as spec;
 
-use crate::client::{BAD_WORDS, DONE, FAILED, Peer, answer_in_time, say_no_memory, show};
+use crate::client::{BAD_WORDS, DONE, FAILED, Peer, answer_told, say_no_memory, show};
 use crate::errors::is_error;
 use crate::lines::{read_header, split_at_first};
 use crate::replacing::{replace_file, try_to_replace};
@@ -15,6 +15,7 @@ use base_sequence::NoMemory;
 use std::alloc::Global;
 use std::net::Net;
 use std::rt::Files;
+use std::time::Clock;
 use std::{io, str};
 
 /// What asks for the headers of all tables.
@@ -83,12 +84,12 @@ impl From<io::Error> for Unsaved {
 }
 
 /// What a command is answered, where it did something.
-fn asked<R: Net + Eprint + AllocGlobal>(
+fn asked<R: Net + Clock + Eprint + AllocGlobal>(
     rt: &R,
     peer: Peer<'_>,
     command: &[u8],
 ) -> Result<Vec<u8>, Unsaved> {
-    let Some(answer) = answer_in_time(rt, peer, command)? else {
+    let Some(answer) = answer_told(rt, peer, command)? else {
         return Err(Unsaved::Said(FAILED));
     };
     if is_error(&answer) {
@@ -111,13 +112,13 @@ fn asked<R: Net + Eprint + AllocGlobal>(
 
 /// What a table of this name holds, in the order in which its entries go. None where nobody there tells that, as a command socket, or
 /// a stickd that is older; then `show table` tells the rest, or why it doesn't.
-fn asked_oldest_first<R: Net + Eprint + AllocGlobal>(
+fn asked_oldest_first<R: Net + Clock + Eprint + AllocGlobal>(
     rt: &R,
     peer: Peer<'_>,
     name: &[u8],
 ) -> Result<Option<Vec<u8>>, Unsaved> {
     let command = oldest_first_command(rt.alloc(), name)?;
-    let Some(answer) = answer_in_time(rt, peer, command.as_slice())? else {
+    let Some(answer) = answer_told(rt, peer, command.as_slice())? else {
         return Err(Unsaved::Said(FAILED));
     };
     if is_error(&answer) || !answer.ends_with(b"\n\n") {
@@ -127,7 +128,7 @@ fn asked_oldest_first<R: Net + Eprint + AllocGlobal>(
 }
 
 /// Adds what a table holds.
-fn save_table<R: Net + Eprint + AllocGlobal>(
+fn save_table<R: Net + Clock + Eprint + AllocGlobal>(
     rt: &R,
     peer: Peer<'_>,
     name: &[u8],
@@ -144,7 +145,7 @@ fn save_table<R: Net + Eprint + AllocGlobal>(
 }
 
 /// Adds what each of these tables holds.
-fn save_each<R: Net + Eprint + AllocGlobal>(
+fn save_each<R: Net + Clock + Eprint + AllocGlobal>(
     rt: &R,
     peer: Peer<'_>,
     names: &[&[u8]],
@@ -157,7 +158,7 @@ fn save_each<R: Net + Eprint + AllocGlobal>(
 }
 
 /// What the tables of these names hold; of all, where none are named.
-fn saved_text<R: Net + Eprint + AllocGlobal>(
+fn saved_text<R: Net + Clock + Eprint + AllocGlobal>(
     rt: &R,
     peer: Peer<'_>,
     words: &[&str],
@@ -202,7 +203,7 @@ fn save_to<R: Files + Eprint + AllocGlobal>(rt: &R, path: &str, text: &[u8]) -> 
 /// Writes what the tables of these names hold, or all tables, to a file or else to standard output, as lines that `--load` reads.
 /// Answers the status: 0; 1 where nobody answers, there is no such table, or the file can't be written, which is said on standard
 /// error, and nothing is written; 2 where a word is no table's name.
-pub(crate) fn save_tables<R: Net + Files + Print + Eprint + AllocGlobal>(
+pub(crate) fn save_tables<R: Net + Files + Clock + Print + Eprint + AllocGlobal>(
     rt: &R,
     peer: Peer<'_>,
     words: &[&str],

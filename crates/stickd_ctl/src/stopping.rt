@@ -203,7 +203,7 @@ fn look_at<R: Net>(rt: &R, peer: Peer<'_>) -> Seen {
 }
 
 /// How many ms are over since a moment.
-fn ms_since<R: Clock>(rt: &R, began: Instant) -> io::Result<u64> {
+pub(crate) fn ms_since<R: Clock>(rt: &R, began: Instant) -> io::Result<u64> {
     let waited = began.elapsed(rt)?;
     Ok(u64::try_from(waited.as_millis()).unwrap_or(u64::MAX))
 }

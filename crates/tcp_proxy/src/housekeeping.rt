@@ -9,7 +9,7 @@ use crate::shared::{ProxyRuntime, Shared};
 use base_clock::RunningClock;
 use log::{Log, info};
 use shard_housekeeping::{Counts, Kept, Pace, housekeep, roll_long};
-use shard_locks::{Shards, SharedSeat};
+use shard_locks::SharedSeat;
 use shard_record::Naming;
 use std::sync::atomic::{AtomicBool, Ordering};
 use stick_table::Table;
@@ -54,10 +54,10 @@ impl<'a> Tally<'a> {
         self.board.add(Count::Refusals, refused);
     }
 
-    /// One round more, in which so many shards were asked to expire.
-    fn add_round(&mut self, shards: u64) {
+    /// One round more, in which so many entries went as their time was over.
+    fn add_round(&mut self, expired: u64) {
         self.rounds = self.rounds.saturating_add(1);
-        self.board.add(Count::Expiries, shards);
+        self.board.add(Count::Expiries, expired);
     }
 }
 
@@ -78,10 +78,7 @@ fn wait_second<T: Table, J: Naming, R: ProxyRuntime>(
     shared: &Shared<'_, T, J, R>,
     tally: &mut Tally<'_>,
 ) -> bool {
-    let mut last = Counts {
-        rolled: 0,
-        refused: 0,
-    };
+    let mut last = Counts::none();
     let mut left = SECOND;
     for _look in 0..LOOKS {
         let nap = nap_of(last, left);
@@ -111,22 +108,12 @@ impl Pace for Once {
     }
 }
 
-/// How many shards the tables have together.
-fn count_shards<T: Table, J: Naming>(tables: &[Shards<T, J>]) -> u64 {
-    let mut count = 0u64;
-    for table in tables {
-        count = count.saturating_add(u64::from(table.shards()));
-    }
-    count
-}
-
 /// Has shards expire what is over each second, and begin long records again. What that comes to is counted as it goes on.
 pub(crate) fn keep_tables<T: Table, J: Naming, R: ProxyRuntime>(
     shared: &Shared<'_, T, J, R>,
     mut seats: Vec<SharedSeat<J>>,
 ) -> Vec<SharedSeat<J>> {
     let mut clock = RunningClock::new(shared.rt, shared.start);
-    let shards = count_shards(shared.tables);
     let mut tally = Tally::new(&shared.running.board.service);
     for _round in shared.rt.forever() {
         if seats.as_slice().len() != shared.tables.len() || !wait_second(shared, &mut tally) {
@@ -139,6 +126,7 @@ pub(crate) fn keep_tables<T: Table, J: Naming, R: ProxyRuntime>(
             rounds: _,
             rolled,
             refused,
+            expired,
             seats: back,
         } = housekeep(
             shared.rt,
@@ -149,7 +137,7 @@ pub(crate) fn keep_tables<T: Table, J: Naming, R: ProxyRuntime>(
             shared.roll_at,
         );
         seats = back;
-        tally.add_round(shards);
+        tally.add_round(expired);
         tally.add(rolled, refused);
     }
     let Tally {

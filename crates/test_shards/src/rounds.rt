@@ -29,7 +29,8 @@ impl Pace for Rounds {
     }
 }
 
-/// What so many rounds at a moment count: rounds, records that began again, and refusals; and the seat as it comes back.
+/// What so many rounds at a moment count: rounds, records that began again, refusals, and entries that expired; and the seat as it
+/// comes back.
 fn keep<J: Naming>(
     rt: &impl Wait,
     alloc: Global,
@@ -37,7 +38,7 @@ fn keep<J: Naming>(
     seat: SharedSeat<J>,
     rounds: u64,
     moment: u64,
-) -> Option<([u64; 3], SharedSeat<J>)>
+) -> Option<([u64; 4], SharedSeat<J>)>
     requires { moment < 2 ^ 62 }
 {
     let pace = Rounds {
@@ -50,10 +51,11 @@ fn keep<J: Naming>(
         rounds,
         rolled,
         refused,
+        expired,
         mut seats,
     } = housekeep(rt, slice::from_ref(table), seats, &mut clock, &pace, 1);
     let seat = seats.pop()?;
-    Some(([rounds, rolled, refused], seat))
+    Some(([rounds, rolled, refused, expired], seat))
 }
 
 /// What a table lists of its first shard: how many entries.
@@ -90,7 +92,7 @@ fn kept<J: Naming>(
     alloc: Global,
     table: &Shards<PlainTable, J>,
     seats: (SharedSeat<J>, SharedSeat<J>),
-) -> Option<([u64; 3], Told, [u64; 3], Told)> {
+) -> Option<([u64; 4], Told, [u64; 4], Told)> {
     let (seat, keeping) = seats;
     let seat = put(rt, alloc, table, seat)?;
     let (before, keeping) = keep(rt, alloc, table, keeping, 3, 499)?;
@@ -122,7 +124,7 @@ pub fn keeps_house<J: Naming>(rt: &impl Wait, alloc: Global, desk: Desk<J>) -> b
         base: 4,
         calls: 0,
     };
-    kept == Some(([3, 6, 0], Told::Listed(1), [1, 2, 0], Told::Listed(0)))
+    kept == Some(([3, 6, 0, 0], Told::Listed(1), [1, 2, 0, 1], Told::Listed(0)))
         && rolled.rolled == 1
         && holds(alloc, table, [called, idle])
 }

@@ -7,7 +7,7 @@ import subprocess
 import threading
 import time
 
-from lib.operations.watched import watched
+from lib.operations.watched import Watched, watched
 from lib.proxy import PATIENCE, TABLE, TRACK, Proxy, Server, arrive, free_port, greets, is_greeted, read_all, reset, wait_for
 from lib.trials import wants
 
@@ -103,6 +103,21 @@ def bytes_count_while_they_pass():
         assert (shown[way_in], shown[way_out]) == (300_000, 1), shown
 
 
+def expired_entries_are_counted():
+    """The expiries that are told are the entries that went at their time: not the rounds that looked for them, and none before."""
+    held, gone = 'stickd_table_entries{table="www"}', 'stickd_expiries_total'
+    with Server(greets) as server, Watched(server.port, ['stick-table type ip size 1k expire 4s store gpc0'], '--shards', '4') as proxy:
+        proxy.fill(300)
+        shown = proxy.metrics()
+        assert (shown[held], shown[gone]) == (300, 0), shown
+        # Whoever asks a shard has it remove what is over. So nobody asks one until housekeeping has.
+        time.sleep(6.5)
+        for _ in range(2):
+            shown = proxy.metrics()
+            assert (shown[held], shown[gone]) == (0, 300), shown
+            time.sleep(2.5)
+
+
 def unlike_proc(proxy):
     """Those of the process's metrics that /proc has otherwise, with what a scrape told."""
     body = proxy.fetched(b'GET /metrics HTTP/1.1\r\nHost: here\r\n\r\n')[2]
@@ -190,4 +205,5 @@ def counts_add_up():
 
 
 TRIALS = [metrics_are_answered, promtool_finds_no_fault, slow_scrapers_hold_up_nobody, head_is_answered_without_a_body,
-          a_request_has_one_deadline, bytes_count_while_they_pass, the_process_is_told, an_open_place_is_warned_of, counts_add_up]
+          a_request_has_one_deadline, bytes_count_while_they_pass, expired_entries_are_counted, the_process_is_told, an_open_place_is_warned_of,
+          counts_add_up]

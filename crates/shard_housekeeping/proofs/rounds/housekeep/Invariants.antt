@@ -1,5 +1,5 @@
 use Rattle.std.proofs.Common.{◌≡◌, ℕ, ◌-◌, ◌^◌, min, length}
-use Rattle.shard_housekeeping.specs.Keeping.{ByFirst, KeepsRound}
+use Rattle.shard_housekeeping.specs.Keeping.{ByFirst, KeepsRound, none_counted}
 use Rattle.shard_housekeeping.proofs.rounds.housekeep.Given as goal
 
 -- some number of rounds were made
@@ -7,4 +7,4 @@ abbrev pub invariant-loop : goal.invariant-loop
 invariant-loop g l =
     (length l.tables ≡ length l.seats.items)
     × ((count : ℕ) × (l.rounds ≡ min count (2 ^ 64 - 1))
-    × ByFirst (λ round. KeepsRound g.C.Clock.shows l.tables) count (record { seats = l.fn.seats.items; clock = g.C.Clock.state l.fn.clock; counts = record { rolled = 0; refused = 0 } }) (record { seats = l.seats.items; clock = g.C.Clock.state l.clock; counts = l.counts }))
+    × ByFirst (λ round. KeepsRound g.C.Clock.shows l.tables) count (record { seats = l.fn.seats.items; clock = g.C.Clock.state l.fn.clock; counts = none_counted }) (record { seats = l.seats.items; clock = g.C.Clock.state l.clock; counts = l.counts }))
