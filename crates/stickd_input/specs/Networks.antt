@@ -1,5 +1,5 @@
 -- Lists of networks.
-use Rattle.std.specs.Prelude.{◌≡◌, ◌<◌, Unit, ℕ, List, None, length}
+use Rattle.std.specs.Prelude.{◌≡◌, ◌<◌, ℕ, List, None, length}
 use Rattle.base_lines.specs.Parts.{parts, is_byte}
 use Rattle.rule_addresses.specs.Addresses.{network_of}
 use Rattle.stickd_input.specs.declared.networks.NetworksFault.{NetworksFault}

@@ -39,7 +39,14 @@ fn is_open_at(place: Endpoint) -> bool
 pub(crate) fn is_open(bind: Endpoint, more: &[Endpoint]) -> bool
     ensures { result ≡ spec.is_open bind more.now }
 {
-    is_open_at(bind) || more.iter().any(|place| is_open_at(*place))
+    is_open_at(bind) || has_open(more)
+}
+
+/// Whether they can to one of these.
+fn has_open(places: &[Endpoint]) -> bool
+    ensures { result ≡ list_any spec.is_open_at places.now }
+{
+    places.iter().any(|place| is_open_at(*place))
 }
 
 /// Whether one of the networks holds all addresses of its family.
