@@ -11,7 +11,7 @@ _stickd() {
     fi
     # What the option before wants; else what the command has.
     case "$command $before" in
-        "adopt --frontend" | "check --shards" | "check --frontend" | "ctl --watch" | "ctl --timeout" | "replay --shards" | "replay --purge" | "replay --ipv4-prefix" | "replay --ipv6-prefix" | "run --threads" | "run --frontend" | "run --bind" | "run --shards" | "run --purge" | "run --ipv4-prefix" | "run --ipv6-prefix" | "run --save-every" | "run --connections" | "run --backlog" | "run --timeout-connect" | "run --retries" | "run --timeout-client" | "run --timeout-server" | "run --timeout-fin" | "run --keepalive" | "run --tcp-user-timeout" | "run --socket-mode" | "run --socket-level" | "run --socket-clients" | "run --timeout-socket" | "run --stats-clients" | "run --metrics" | "run --report" | "run --drain" | "run --stop-after" | "run --roll-at" | "stop --drain" | "stop --timeout" | "top --table" | "top --by" | "top --rows")
+        "adopt --frontend" | "check --shards" | "check --frontend" | "ctl --watch" | "ctl --timeout" | "replay --shards" | "replay --purge" | "replay --ipv4-prefix" | "replay --ipv6-prefix" | "run --threads" | "run --frontend" | "run --bind" | "run --shards" | "run --purge" | "run --ipv4-prefix" | "run --ipv6-prefix" | "run --save-every" | "run --connections" | "run --backlog" | "run --timeout-connect" | "run --retries" | "run --timeout-client" | "run --timeout-server" | "run --timeout-fin" | "run --keepalive" | "run --tcp-user-timeout" | "run --accept-proxy" | "run --timeout-header" | "run --socket-mode" | "run --socket-level" | "run --socket-clients" | "run --timeout-socket" | "run --stats-clients" | "run --metrics" | "run --report" | "run --drain" | "run --stop-after" | "run --roll-at" | "stop --drain" | "stop --timeout" | "top --table" | "top --by" | "top --rows")
             return
             ;;
         "check --load" | "ctl --socket" | "ctl --to" | "replay --load" | "run --socket" | "run --load" | "run --save" | "run --stats-socket" | "stop --stats-socket" | "top --socket")
@@ -54,7 +54,7 @@ _stickd() {
             choices=(-f)
             ;;
         "run -")
-            choices=(-W "--socket --threads --check --haproxy --anyway --first-server --frontend --bind --shards --purge --ipv4-prefix --ipv6-prefix --load --load-lenient --save --save-every --connections --backlog --timeout-connect --retries --timeout-client --timeout-server --timeout-fin --keepalive --tcp-user-timeout --send-proxy --send-proxy-v2 --socket-mode --socket-group --socket-level --socket-clients --timeout-socket --stats-socket --stats-clients --metrics --report --log-rejected --drain --stop-after --roll-at -h --help")
+            choices=(-W "--socket --threads --check --haproxy --anyway --first-server --frontend --bind --shards --purge --ipv4-prefix --ipv6-prefix --load --load-lenient --save --save-every --connections --backlog --timeout-connect --retries --timeout-client --timeout-server --timeout-fin --keepalive --tcp-user-timeout --accept-proxy --proxies-only --timeout-header --send-proxy --send-proxy-v2 --socket-mode --socket-group --socket-level --socket-clients --timeout-socket --stats-socket --stats-clients --metrics --report --log-rejected --drain --stop-after --roll-at -h --help")
             ;;
         "run "*)
             compopt -o filenames 2>/dev/null

@@ -2,6 +2,7 @@
 
 ghost use Rattle.std.specs.Prelude.{◌≡◌, IfOk};
 
+use crate::headers::find_proxies;
 use crate::lexer::SourceLine;
 use crate::masks::shared_mask;
 use crate::plan::{PatternFile, Plan, RuleAt, Track, Wishes, begins};
@@ -217,6 +218,7 @@ pub(crate) fn make_plan(
         counts_all: None,
         first_server: wishes.first_server,
         files,
+        proxies: Vec::new(alloc),
     };
     let line = names_backend(&plan, frontend);
     let backend = choose_backend(&plan, frontend, line);
@@ -226,9 +228,11 @@ pub(crate) fn make_plan(
     let tracks = find_tracks(alloc, &plan, rules.as_slice())?;
     let mask = shared_mask(alloc, &plan, rules.as_slice())?;
     let slot = slot_for_all(&plan, tracks.as_slice());
+    let proxies = find_proxies(alloc, &plan, rules.as_slice())?;
     plan.rules = rules;
     plan.tracks = tracks;
     plan.mask = mask;
     plan.counts_all = slot;
+    plan.proxies = proxies;
     Ok(plan)
 }

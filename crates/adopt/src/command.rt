@@ -67,7 +67,9 @@ fn from_options(alloc: Global, options: &[CommandOption]) -> Result<Vec<u8>, NoM
     for option in options {
         append_str(&mut text, " ")?;
         append_str(&mut text, option.flag)?;
-        add_value(&mut text, option.value.as_slice())?;
+        if let Some(value) = &option.value {
+            add_value(&mut text, value.as_slice())?;
+        }
     }
     Ok(text)
 }
@@ -113,7 +115,7 @@ fn add_unless(
     }
     options.push(CommandOption {
         flag,
-        value: text_of(alloc, value)?,
+        value: Some(text_of(alloc, value)?),
         line: None,
     })?;
     Ok(())

@@ -3,6 +3,7 @@
 use crate::headings::{add_table_of_all, of_heading};
 use crate::keywords::{Told, is_one_of, left_of};
 use crate::lexer::SourceLine;
+use crate::listeners::first_bind;
 use crate::manual::{GLOBAL, OTHER_SECTIONS, TUNE};
 use crate::options::CommandOption;
 use crate::plan::{Plan, begins};
@@ -12,7 +13,7 @@ use crate::roles::has_rules_of;
 use crate::rule_lines::{add_rules, of_rule};
 use crate::rules::{is_waiting, phase_of, rule_place};
 use crate::sections::{Kind, kind_of};
-use crate::servers::server_loss;
+use crate::servers::{default_loss, kept_server};
 use crate::standing::{added, written};
 use crate::texts::{Words, append, append_str, is_word, text_of, word_at};
 use base_sequence::NoMemory;
@@ -115,7 +116,7 @@ fn is_frontends(plan: &Plan, defaults: usize) -> bool {
 fn defaults_left(plan: &Plan, place: usize, words: &[Vec<u8>]) -> Told {
     let keyword = word_at(words, 0);
     if is_word(keyword, "default-server") {
-        let loss = server_loss(words, 1);
+        let loss = default_loss(words);
         return Told {
             why: loss.unwrap_or(Why::NoChecks),
             matters: loss.is_some(),
@@ -201,8 +202,10 @@ fn option_note(
         if option.line == Some(number) {
             append_str(&mut note, option.flag)?;
             append_str(&mut note, " ")?;
-            append(&mut note, option.value.as_slice())?;
-            append_str(&mut note, " ")?;
+            if let Some(value) = &option.value {
+                append(&mut note, value.as_slice())?;
+                append_str(&mut note, " ")?;
+            }
             count = count.saturating_add(1);
         }
     }
@@ -212,6 +215,11 @@ fn option_note(
         _ => append_str(&mut note, "stand for it")?,
     }
     Ok(note)
+}
+
+/// Whether a line is the first listener, or the server: where it is lost, its options stand for nothing.
+fn is_needed(plan: &Plan, number: usize) -> bool {
+    first_bind(plan) == Some(number) || kept_server(plan) == Some(number)
 }
 
 /// What becomes of a line, before options are asked.
@@ -279,7 +287,7 @@ fn fate_of(
 ) -> Result<Fate, NoMemory> {
     let mut fate = of_line(alloc, plan, place, number, line)?;
     let note = option_note(alloc, options, number)?;
-    if !note.is_empty() && !stands(fate.kind) {
+    if !note.is_empty() && !stands(fate.kind) && !is_needed(plan, number) {
         fate = Fate {
             kind: FateKind::Carried,
             note,

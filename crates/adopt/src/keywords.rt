@@ -110,6 +110,22 @@ pub(crate) fn options_loss(
     loss
 }
 
+/// Whether an option that stands alone is among those of a line from a place on, and isn't the value of one of these.
+pub(crate) fn has_flag(words: &[Vec<u8>], from: usize, valued: &[Row], wanted: &str) -> bool {
+    let mut skips = false;
+    for (place, word) in words.iter().enumerate() {
+        if place < from || skips {
+            skips = false;
+            continue;
+        }
+        if is_word(word.as_slice(), wanted) {
+            return true;
+        }
+        skips = told_of(word.as_slice(), valued).is_some();
+    }
+    false
+}
+
 /// Whether a word is one of these.
 pub(crate) fn is_one_of(word: &[u8], texts: &[&str]) -> bool {
     for text in texts {

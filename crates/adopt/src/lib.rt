@@ -23,6 +23,7 @@ mod fates;
 mod fetches;
 mod file;
 mod guards;
+mod headers;
 mod headings;
 mod keywords;
 mod lexer;

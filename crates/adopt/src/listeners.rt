@@ -2,6 +2,7 @@
 //! it.
 
 use crate::addresses::{endpoints_of, port_of, without_family};
+use crate::headers::bind_header_loss;
 use crate::keywords::options_loss;
 use crate::manual::{BIND_FLAGS, BIND_VALUES};
 use crate::plan::{Plan, begins};
@@ -77,9 +78,9 @@ pub(crate) fn further_binds(alloc: Global, plan: &Plan) -> Result<Vec<FurtherBin
         let words = plan.words(number);
         let is_first = first == Some(number);
         let loss = if is_first {
-            bind_loss(words)
+            bind_loss(plan, words)
         } else {
-            further_loss(words)
+            further_loss(plan, words)
         };
         if begins(words, "bind", "") && loss.is_none() {
             let from = usize::from(is_first);
@@ -129,16 +130,19 @@ fn count_binds(plan: &Plan) -> usize {
 }
 
 /// Why a line `bind` that isn't the first is left out, where options don't stand for it.
-pub(crate) fn further_loss(words: &[Vec<u8>]) -> Option<Why> {
+pub(crate) fn further_loss(plan: &Plan, words: &[Vec<u8>]) -> Option<Why> {
     if has_own_limit(words) {
         return Some(Why::ListenerPlaces);
     }
-    bind_loss(words)
+    bind_loss(plan, words)
 }
 
 /// What the options of a listener lose that changes what is served.
-pub(crate) fn bind_loss(words: &[Vec<u8>]) -> Option<Why> {
-    options_loss(words, 2, &BIND_VALUES, &BIND_FLAGS)
+fn bind_loss(plan: &Plan, words: &[Vec<u8>]) -> Option<Why> {
+    match options_loss(words, 2, &BIND_VALUES, &BIND_FLAGS) {
+        Some(why) => Some(why),
+        None => bind_header_loss(plan, words),
+    }
 }
 
 /// The value behind an option of a line.
@@ -167,7 +171,7 @@ pub(crate) fn convert_bind(
     written.push(text_of(alloc, "bind")?)?;
     written.push(copy_text(alloc, first)?)?;
     let is_alone = endpoints.len() == 1 && count_binds(plan) == 1;
-    let mut altered = bind_loss(words);
+    let mut altered = bind_loss(plan, words);
     if altered.is_none() && endpoints.len() > others.saturating_add(1) {
         altered = Some(Why::ManyListeners);
     }

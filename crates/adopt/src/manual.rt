@@ -250,7 +250,7 @@ pub(crate) const BIND_FLAGS: [Row; 6] = [
     (Harmless, Why::ProcessSetting, "nostrict strict tfo v4v6"),
     (Harmless, Why::NoTls, "no-ca-names"),
     (Harmless, Why::NeedsHttp, "quic-force-retry"),
-    (Change, Why::ProxyProtocol, "accept-proxy"),
+    (Carried, Why::ProxiesNamed, "accept-proxy"),
     (
         Change,
         Why::Tls,
@@ -303,7 +303,7 @@ pub(crate) const SERVER_VALUES: [Row; 12] = [
 ];
 
 /// Options of a server that stand alone.
-pub(crate) const SERVER_FLAGS: [Row; 6] = [
+pub(crate) const SERVER_FLAGS: [Row; 7] = [
     (
         Harmless,
         Why::NoChecks,
@@ -327,10 +327,11 @@ pub(crate) const SERVER_FLAGS: [Row; 6] = [
          no-ssl-reuse no-sslv3 no-tls-tickets no-tlsv10 no-tlsv11 no-tlsv12 no-tlsv13 no-verifyhost renegotiate sni-auto \
          ssl-reuse tls-tickets",
     ),
+    (Carried, Why::ProxyProtocol, "send-proxy send-proxy-v2"),
     (
         Change,
         Why::ProxyProtocol,
-        "send-proxy send-proxy-v2 send-proxy-v2-ssl send-proxy-v2-ssl-cn",
+        "send-proxy-v2-ssl send-proxy-v2-ssl-cn",
     ),
     (Change, Why::Tls, "ssl ktls"),
 ];

@@ -1,5 +1,6 @@
 //! Options of the command line that stand for lines; `adoption` makes them, and `command` and `fates` go by them.
 
+use crate::headers::{proxies_value, send_option};
 use crate::keywords::is_one_of;
 use crate::listeners::{FurtherBind, first_bind, further_binds, option_value};
 use crate::plan::{Plan, begins};
@@ -42,6 +43,8 @@ const DRAIN: &str = "--drain";
 
 const USER_TIMEOUT: &str = "--tcp-user-timeout";
 
+const ACCEPT_PROXY: &str = "--accept-proxy";
+
 /// How often HAProxy tries a server again where no line says it.
 const USUAL_RETRIES: &str = "3";
 
@@ -70,7 +73,8 @@ const MOST_THREADS: u64 = 64;
 #[derive(Drop)]
 pub struct CommandOption {
     pub flag: &'static str,
-    pub value: Vec<u8>,
+    /// The word that follows it, if one does.
+    pub value: Option<Vec<u8>>,
     pub line: Option<usize>,
 }
 
@@ -84,8 +88,18 @@ impl Found {
     fn add(&mut self, flag: &'static str, value: Vec<u8>, line: usize) -> Result<(), NoMemory> {
         self.options.push(CommandOption {
             flag,
-            value,
+            value: Some(value),
             line: Some(line),
+        })?;
+        Ok(())
+    }
+
+    /// Adds an option that stands for parts of lines, of which each has a fate of its own.
+    fn add_apart(&mut self, flag: &'static str, value: Option<Vec<u8>>) -> Result<(), NoMemory> {
+        self.options.push(CommandOption {
+            flag,
+            value,
+            line: None,
         })?;
         Ok(())
     }
@@ -433,6 +447,19 @@ fn add_retries(alloc: Global, plan: &Plan, found: &mut Found) -> Result<(), NoMe
     }
 }
 
+/// Headers of the PROXY protocol: those that clients begin by, and those by which the server is told of them.
+fn add_headers(alloc: Global, plan: &Plan, found: &mut Found) -> Result<(), NoMemory> {
+    if let Some(value) = proxies_value(alloc, plan)? {
+        found.add_apart(ACCEPT_PROXY, Some(value))?;
+    }
+    if let Some(line) = kept_server(plan)
+        && let Some(flag) = send_option(plan.words(line))
+    {
+        found.add_apart(flag, None)?;
+    }
+    Ok(())
+}
+
 /// The options that stand for lines of a file.
 pub(crate) fn command_options(alloc: Global, plan: &Plan) -> Result<Vec<CommandOption>, NoMemory> {
     let mut found = Found {
@@ -453,6 +480,7 @@ pub(crate) fn command_options(alloc: Global, plan: &Plan) -> Result<Vec<CommandO
     add_retries(alloc, plan, &mut found)?;
     add_sockets(alloc, plan, &mut found, frontend)?;
     add_prefixes(alloc, plan, &mut found, frontend)?;
+    add_headers(alloc, plan, &mut found)?;
     let Found { options } = found;
     Ok(options)
 }

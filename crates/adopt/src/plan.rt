@@ -2,7 +2,7 @@
 
 use crate::lexer::SourceLine;
 use crate::sections::Section;
-use crate::texts::{copy_text, is_word, word_at};
+use crate::texts::{Words, copy_text, is_word, word_at};
 use base_sequence::NoMemory;
 use std::alloc::Global;
 
@@ -76,6 +76,8 @@ pub struct Plan {
     pub counts_all: Option<u8>,
     pub first_server: bool,
     pub files: Vec<PatternFile>,
+    /// The networks from which clients begin by a header of the PROXY protocol.
+    pub proxies: Words,
 }
 
 impl Plan {

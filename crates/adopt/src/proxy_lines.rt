@@ -14,7 +14,7 @@ use crate::roles::{Role, has_rules_of, role_of};
 use crate::rule_lines::of_rule;
 use crate::rules::{is_waiting, phase_of};
 use crate::sections::Section;
-use crate::servers::{convert_server, has_queue, kept_server, server_loss, servers_of};
+use crate::servers::{convert_server, default_loss, has_queue, kept_server, servers_of};
 use crate::standing::{of_converted, two_words, written};
 use crate::tables::convert_table;
 use crate::texts::{is_word, word_at};
@@ -46,7 +46,7 @@ fn of_bind(alloc: Global, plan: &Plan, number: usize, line: &SourceLine) -> Resu
     }
     // Where options stand for the line, they are told in place of this.
     let why = match endpoints_of(alloc, word_at(words, 1)) {
-        Ok(_) => further_loss(words).unwrap_or(Why::ManyListeners),
+        Ok(_) => further_loss(plan, words).unwrap_or(Why::ManyListeners),
         Err(Refusal::OutOfMemory) => return Err(NoMemory),
         Err(Refusal::Lost(why)) => why,
     };
@@ -156,7 +156,7 @@ fn of_backend(
         return Ok(Some(of_converted(alloc, line, convert_server(alloc, plan, words))?));
     }
     if is_word(keyword, "default-server") {
-        return Ok(Some(match server_loss(words, 1) {
+        return Ok(Some(match default_loss(words) {
             Some(why) => left(alloc, FateKind::Lost, why)?,
             None => left(alloc, FateKind::Harmless, Why::NoChecks)?,
         }));

@@ -39,6 +39,9 @@ pub enum Why {
     Peers,
     ServerWords,
     ProxyProtocol,
+    ProxiesNamed,
+    SomeListeners,
+    ToldAddress,
     Tls,
     BindWords,
     HostName,
@@ -126,7 +129,11 @@ impl Why {
             Why::Peers => "tables aren't shared with peers",
             Why::ServerWords => "an option of the server is lost",
             Why::ProxyProtocol =>
-                "headers of the PROXY protocol aren't read, and only --send-proxy or --send-proxy-v2 has them written",
+                "of the PROXY protocol there are --accept-proxy, --send-proxy and --send-proxy-v2 alone",
+            Why::ProxiesNamed => "--accept-proxy stands for it",
+            Why::SomeListeners => "headers are expected at all addresses, or at none",
+            Why::ToldAddress =>
+                "it judges by the told address: HAProxy judges by where the proxy connects from",
             Why::Tls => "TLS isn't spoken",
             Why::BindWords => "an option of the listener is lost",
             Why::HostName => "its name isn't resolved: write its address",

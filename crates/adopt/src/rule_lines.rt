@@ -3,6 +3,7 @@
 use crate::actions::is_idle;
 use crate::fates::{Fate, FateKind, left, stands};
 use crate::guards::is_spread;
+use crate::headers::{hears_told, is_carried};
 use crate::lexer::SourceLine;
 use crate::plan::Plan;
 use crate::reasons::{Refusal, Why};
@@ -68,6 +69,9 @@ fn rule_fate(
     if is_idle(word_at(plan.words(rule.line), 2)) {
         return left(alloc, FateKind::Harmless, Why::NothingToSay);
     }
+    if is_carried(alloc, plan, place)? {
+        return left(alloc, FateKind::Carried, Why::ProxiesNamed);
+    }
     if waits(plan, rule) {
         return of_waiting(alloc, plan, place, line);
     }
@@ -76,7 +80,11 @@ fn rule_fate(
         return of_converted(alloc, line, given);
     }
     if is_spread(alloc, plan, place)? {
-        return left(alloc, FateKind::Moved, Why::SpreadAccept);
+        return if hears_told(plan, rule) {
+            left(alloc, FateKind::Lost, Why::ToldAddress)
+        } else {
+            left(alloc, FateKind::Moved, Why::SpreadAccept)
+        };
     }
     match accept_role(plan, place) {
         AcceptRole::Ends => of_converted(alloc, line, given),

@@ -5,6 +5,7 @@ use crate::calls::slot_of;
 use crate::conditions::{Condition, Term, add_condition, convert_condition};
 use crate::criteria::behind_two;
 use crate::guards::{guarded, guards_of};
+use crate::headers::hears_told;
 use crate::lexer::SourceLine;
 use crate::plan::{Plan, RuleAt, Track, begins};
 use crate::reasons::{Refusal, Why};
@@ -115,7 +116,9 @@ pub(crate) fn convert_rule(alloc: Global, plan: &Plan, place: usize) -> Result<C
     let given = behind_two(plan.words(rule.line));
     let action = convert_action(alloc, plan, rule, given)?;
     let mut words = start_rule(alloc, action.words.as_slice())?;
-    let lost = if misses_count(plan, rule) {
+    let lost = if hears_told(plan, rule) {
+        Some(Why::ToldAddress)
+    } else if misses_count(plan, rule) {
         Some(Why::UncountedSessions)
     } else {
         action.altered

@@ -2,6 +2,7 @@
 //! kept.
 
 use crate::addresses::server_endpoint;
+use crate::headers::server_header_loss;
 use crate::keywords::options_loss;
 use crate::listeners::{has_other_port, listener_port, option_value};
 use crate::manual::{SERVER_FLAGS, SERVER_VALUES};
@@ -72,11 +73,19 @@ pub(crate) fn has_queue(plan: &Plan) -> bool {
 }
 
 /// What the options of a server from a place on lose that changes what is served. HAProxy sends nobody to one whose weight is 0.
-pub(crate) fn server_loss(words: &[Vec<u8>], from: usize) -> Option<Why> {
+fn server_loss(words: &[Vec<u8>], from: usize) -> Option<Why> {
     if option_value(words, "weight").is_some_and(|weight| is_word(weight, "0")) {
         return Some(Why::ServerWords);
     }
-    options_loss(words, from, &SERVER_VALUES, &SERVER_FLAGS)
+    match options_loss(words, from, &SERVER_VALUES, &SERVER_FLAGS) {
+        Some(why) => Some(why),
+        None => server_header_loss(words, from),
+    }
+}
+
+/// What a line `default-server` loses of the servers below it: options stand for a server's own line alone.
+pub(crate) fn default_loss(words: &[Vec<u8>]) -> Option<Why> {
+    server_loss(words, 1)
 }
 
 /// A server's line in stickd's spelling.

@@ -3,6 +3,7 @@
 ghost use Rattle.std.specs.Prelude.{◌≡◌, ◌++◌, ◌∷◌, [], IfOk, OnOk, flat_map};
 ghost use Rattle.adopt.specs.StartWords as spec;
 
+use crate::headers::{SEND_PROXY, SEND_PROXY_V2};
 use crate::options::CommandOption;
 use std::alloc::Global;
 use std::str;
@@ -38,6 +39,26 @@ fn gives(words: &[String], option: &str) -> bool
         .any(|word| names(word.as_bytes(), option.as_bytes()))
 }
 
+/// The option that can't stand beside this one, as it says the same in another way; itself where there is none.
+fn rival_of(option: &str) -> &str
+    ensures { result.now ≡ spec.rival_of option.now }
+{
+    if option == SEND_PROXY {
+        return SEND_PROXY_V2;
+    }
+    if option == SEND_PROXY_V2 {
+        return SEND_PROXY;
+    }
+    option
+}
+
+/// Whether a command line gives an option, or the one that can't stand beside it.
+fn overrules(words: &[String], option: &str) -> bool
+    ensures { result ≡ spec.overrules words.now option.now }
+{
+    gives(words, option) || gives(words, rival_of(option))
+}
+
 /// Adds a word.
 fn push_word(all: &mut Vec<String>, alloc: Global, word: &[u8]) -> Result<(), WordsFault>
     ensures { OnOk result (spec.texts all.new.items ≡ spec.texts all.old.items ++ word.now ∷ []) }
@@ -64,7 +85,21 @@ fn push_words(all: &mut Vec<String>, alloc: Global, words: &[String]) -> Result<
     Ok(())
 }
 
-/// Adds the words of an option, unless a command line gives it.
+/// Adds a word, if there is one.
+fn push_value(
+    all: &mut Vec<String>,
+    alloc: Global,
+    value: &Option<Vec<u8>>,
+) -> Result<(), WordsFault>
+    ensures { OnOk result (spec.texts all.new.items ≡ spec.texts all.old.items ++ spec.value_words value.now) }
+{
+    match value {
+        Some(value) => push_word(all, alloc, value.as_slice()),
+        None => Ok(()),
+    }
+}
+
+/// Adds the words of an option, unless a command line overrules it.
 fn push_option(
     all: &mut Vec<String>,
     alloc: Global,
@@ -73,14 +108,14 @@ fn push_option(
 ) -> Result<(), WordsFault>
     ensures { OnOk result (spec.texts all.new.items ≡ spec.texts all.old.items ++ spec.words_for words.now option.now) }
 {
-    if gives(words, option.flag) {
+    if overrules(words, option.flag) {
         return Ok(());
     }
     push_word(all, alloc, option.flag.as_bytes())?;
-    push_word(all, alloc, option.value.as_slice())
+    push_value(all, alloc, &option.value)
 }
 
-/// Adds the words of those options that a command line doesn't give.
+/// Adds the words of those options that a command line doesn't overrule.
 fn push_options(
     all: &mut Vec<String>,
     alloc: Global,
@@ -95,7 +130,7 @@ fn push_options(
     Ok(())
 }
 
-/// A command line, with those of the options that it doesn't give itself: what an operator asks for counts more than the file. The words
+/// A command line, with those of the options that it doesn't overrule: what an operator asks for counts more than the file. The words
 /// stand behind the program's name and its command, before all others.
 ///
 /// An error where a value of the file isn't UTF-8, or there is no memory.

@@ -18,7 +18,7 @@ fn asks_end(words: &[Vec<u8>]) -> bool {
 }
 
 /// Whether one of these words is this name, negated or not.
-fn names(words: &[Vec<u8>], name: &[u8]) -> bool {
+pub(crate) fn names(words: &[Vec<u8>], name: &[u8]) -> bool {
     for word in words {
         let word = word.as_slice();
         if word.strip_prefix(b"!".as_slice()).unwrap_or(word) == name {
@@ -63,7 +63,8 @@ pub(crate) fn is_asked(plan: &Plan, text: &[u8]) -> bool {
     false
 }
 
-fn has_text(word: &[u8], text: &[u8]) -> bool {
+/// Whether a word has this text in it.
+pub(crate) fn has_text(word: &[u8], text: &[u8]) -> bool {
     for start in 0..word.len() {
         let (_, rest) = word.split_at(start);
         if rest.starts_with(text) {

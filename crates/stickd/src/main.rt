@@ -23,7 +23,10 @@ use checking::{check, check_haproxy};
 use clap::ArgMatches;
 use log::{Log, error};
 use rule_model::{Config, Setup};
-use run_plan::{BadWord, read_binds, read_drain, read_patience, read_plan, read_stats, with_names};
+use run_plan::{
+    BadWord, read_believed, read_binds, read_drain, read_patience, read_plan, read_stats,
+    with_names,
+};
 use saved_file::replay_saved;
 use std::alloc::Global;
 use std::net::{Net, TcpListener, TcpStream};
@@ -283,11 +286,21 @@ fn serve_file<R: ProxyRuntime + Files + AllocGlobal + Eprint + RandomSource + Pr
         Ok(binds) => binds,
         Err(bad) => return refuse(rt, bad),
     };
+    let believed = match read_believed(rt.alloc(), arguments) {
+        Ok(believed) => believed,
+        Err(bad) => return refuse(rt, bad),
+    };
     let stats = match read_stats(rt.alloc(), arguments) {
         Ok(stats) => stats,
         Err(bad) => return refuse(rt, bad),
     };
-    let plan = match read_plan(arguments, binds.as_slice(), stats.as_slice(), manager) {
+    let plan = match read_plan(
+        arguments,
+        binds.as_slice(),
+        believed.as_slice(),
+        stats.as_slice(),
+        manager,
+    ) {
         Ok(plan) => plan,
         Err(bad) => return refuse(rt, bad),
     };

@@ -5,14 +5,16 @@ ghost use Rattle.rule_addresses.specs.Addresses.{bind_of};
 
 use clap::ArgMatches;
 use proxy_header::Version;
-use rule_addresses::{Endpoint, read_bind};
+use rule_addresses::{Endpoint, Network, read_bind};
 use rule_words::read_time;
 use std::alloc::Global;
+use std::str;
 use stickd_ctl::PATIENCE;
 use stickd_input::{
-    BIND, CHECK, CLIENT, CONNECT, DRAIN, FIN, KEEPALIVE, LEVEL, LOAD, LOAD_LENIENT, LOG_REJECTED,
-    METRICS, REPORT, SAVE, SAVE_EVERY, SEND_PROXY, SEND_PROXY_V2, SERVER, SOCKET, STATS, TIMEOUT,
-    USER_TIMEOUT, VERSION,
+    ACCEPT_PROXY, BIND, CHECK, CLIENT, CONNECT, DRAIN, FIN, HEADER, KEEPALIVE, LEVEL, LOAD,
+    LOAD_LENIENT, LOG_REJECTED, METRICS, NetworksFault, PROXIES_ONLY, REPORT, SAVE, SAVE_EVERY,
+    SEND_PROXY, SEND_PROXY_V2, SERVER, SOCKET, STATS, TIMEOUT, USER_TIMEOUT, VERSION,
+    read_networks,
 };
 use table_cli::Misfits;
 use table_socket::read_mode;
@@ -20,7 +22,7 @@ use tcp_link::{Keepalive, Liveness, Timeouts, UserTimeout};
 use tcp_proxy::{
     About, KeepPlan, MOST_STATS_SOCKETS, Plan, STATS_CLIENTS, SocketPlan, StatsPlan, WatchPlan,
 };
-use tcp_relay::Limits;
+use tcp_relay::{Limits, Proxies};
 use tcp_watch::{Level, Surroundings, level_named};
 
 /// How long a server may take to accept a connection where that isn't said, in ms.
@@ -44,6 +46,9 @@ const DRAIN_TIME: u64 = 30_000;
 /// How often `--bind` may be given.
 const MOST_BINDS: usize = 16;
 
+/// How long a proxy's header may take where that isn't said, in ms.
+const HEADER_TIME: u64 = 5_000;
+
 /// The options of a stats socket come once each, so that this many looks are one more than there are options.
 const MOST_STATS_OPTIONS: u32 = 4;
 
@@ -56,6 +61,8 @@ pub enum BadWord<'a> {
     Mode(&'a str),
     #[error("'{word}' is no place to listen for --{option}: it is ADDRESS:PORT, as 127.0.0.1:8080, [::1]:8080 or *:8080")]
     Bind { option: &'static str, word: &'a str },
+    #[error("'{0}' is no address or network for --accept-proxy: it is one as 10.0.0.1, 10.0.0.0/8 or 2001:db8::/32, or up to 64 with a comma between any two")]
+    Network(&'a str),
     #[error("'{0}' is no socket for --stats-socket: it is PATH, followed by any of ,mode=M ,group=G and ,level=L once: M one to four octal digits up to 0777, L user, operator or admin")]
     Stats(&'a str),
     #[error("'{0}' is no level for --socket-level: it is user, operator or admin")]
@@ -64,6 +71,10 @@ pub enum BadWord<'a> {
     ManyBinds,
     #[error("--stats-socket can be given 4 times, and no more")]
     ManyStats,
+    #[error("--accept-proxy takes 64 addresses or networks, and no more")]
+    ManyNetworks,
+    #[error("--{0} wants --accept-proxy, which names the proxies")]
+    NoProxies(&'static str),
     #[error("--save-every wants --save, which names the file")]
     NothingToSave,
     #[error("out of memory")]
@@ -179,6 +190,48 @@ fn read_each<'a>(alloc: Global, words: &[&'a str]) -> Result<Vec<Endpoint>, BadW
         }
     }
     Ok(binds)
+}
+
+/// Whoever is believed to say for whom it connects: nobody, unless that is said.
+pub fn read_believed<'a>(
+    alloc: Global,
+    arguments: &ArgMatches<'a>,
+) -> Result<Vec<Network>, BadWord<'a>> {
+    let Some(word) = arguments.get_str(ACCEPT_PROXY) else {
+        return Ok(Vec::new(alloc));
+    };
+    match read_networks(alloc, word.as_bytes()) {
+        Ok(networks) => Ok(networks),
+        // What stands between the commas of a text is one too.
+        Err(NetworksFault::Wrong(part)) => {
+            Err(BadWord::Network(str::from_utf8(part).unwrap_or(word)))
+        }
+        Err(NetworksFault::Many) => Err(BadWord::ManyNetworks),
+        Err(NetworksFault::NoMemory) => Err(BadWord::Memory),
+    }
+}
+
+/// Which proxies are believed, where one is: by these networks. What is said of proxies wants some.
+fn read_proxies<'a>(
+    arguments: &ArgMatches<'a>,
+    networks: &'a [Network],
+) -> Result<Option<Proxies<'a>>, BadWord<'a>> {
+    let timeout = read_timeout(arguments, HEADER)?;
+    let excludes_others = arguments.get_flag(PROXIES_ONLY);
+    if !networks.is_empty() {
+        return Ok(Some(Proxies {
+            networks,
+            excludes_others,
+            timeout: timeout.unwrap_or(HEADER_TIME),
+        }));
+    }
+    if excludes_others {
+        return Err(BadWord::NoProxies(PROXIES_ONLY));
+    }
+    if timeout.is_some() {
+        return Err(BadWord::NoProxies(HEADER));
+    }
+    Ok(None)
 }
 
 /// What follows the path of a stats socket.
@@ -338,6 +391,7 @@ fn read_keep<'a>(arguments: &ArgMatches<'a>) -> Result<KeepPlan<'a>, BadWord<'a>
 pub fn read_plan<'a>(
     arguments: &'a ArgMatches<'_>,
     more_binds: &'a [Endpoint],
+    believed: &'a [Network],
     stats: &'a [StatsPlan<'a>],
     manager: &'a Surroundings,
 ) -> Result<Plan<'a>, BadWord<'a>>
@@ -371,6 +425,7 @@ pub fn read_plan<'a>(
             retries: arguments.get_one::<u32>("retries").unwrap_or(0),
             liveness: read_liveness(arguments)?,
             told_by: read_told_by(arguments),
+            proxies: read_proxies(arguments, believed)?,
         },
         stop_after: arguments.get_one::<u64>("stop-after"),
         keep: read_keep(arguments)?,

@@ -2,3 +2,4 @@ pub mod Faults
 pub mod Haproxy
 pub mod Nearest
 pub mod Servers
+pub mod Networks

@@ -6,7 +6,10 @@ use crate::arguments::{
 use crate::haproxy_options::{
     anyway_option, first_server_option, frontend_option, haproxy_option, names_haproxy, of_haproxy,
 };
-use crate::header_options::{send_proxy_option, send_proxy_v2_option};
+use crate::header_options::{
+    accept_proxy_option, header_option, proxies_only_option, send_proxy_option,
+    send_proxy_v2_option,
+};
 use crate::help::{ADOPT_HELP, CHECK_HELP, CTL_HELP, REPLAY_HELP, RUN_HELP, STOP_HELP, TOP_HELP};
 use crate::options::{
     backlog_option, bind_option, check_option, client_option, clients_option, connect_option,
@@ -238,6 +241,9 @@ fn run_command<'a>(alloc: Global, has_haproxy: bool) -> Result<Command<'a>, Allo
     let command = add_argument(command, fin_option(alloc));
     let command = add_argument(command, keepalive_option(alloc));
     let command = add_argument(command, user_timeout_option(alloc));
+    let command = add_argument(command, accept_proxy_option(alloc));
+    let command = add_argument(command, proxies_only_option(alloc));
+    let command = add_argument(command, header_option(alloc));
     let command = add_argument(command, send_proxy_option(alloc));
     let command = add_made(command, send_proxy_v2_option(alloc));
     let command = add_argument(command, mode_option(alloc));

@@ -21,6 +21,7 @@ mod header_options;
 mod help;
 mod hints;
 mod keeping;
+mod networks;
 mod options;
 mod saved_options;
 mod server_names;
@@ -34,8 +35,9 @@ pub use command_line::{VERSION, read_command_line};
 use explanation::{explain_fault, explain_warnings};
 use habits::is_foreign;
 pub use haproxy_options::{ANYWAY, FIRST_SERVER, FRONTEND, HAPROXY, names_haproxy};
-pub use header_options::{SEND_PROXY, SEND_PROXY_V2};
+pub use header_options::{ACCEPT_PROXY, HEADER, PROXIES_ONLY, SEND_PROXY, SEND_PROXY_V2};
 pub use keeping::{Keeping, read_checked_keeping, read_keeping};
+pub use networks::{NetworksFault, read_networks};
 pub use options::{
     BIND, CHECK, CLIENT, CONNECT, DRAIN, FIN, KEEPALIVE, LEVEL, LOG_REJECTED, METRICS, REPORT,
     SERVER, SOCKET, STATS, USER_TIMEOUT,

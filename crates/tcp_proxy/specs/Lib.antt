@@ -7,3 +7,4 @@ pub mod Opened
 pub mod Saying
 pub mod Watching
 pub mod Places
+pub mod Trust

@@ -27,6 +27,7 @@ mod sockets;
 mod start_warnings;
 mod table_end;
 mod timetable;
+mod trust;
 
 pub use plan::{
     About, KeepPlan, METRICS_CLIENTS, MOST_STATS_SOCKETS, Plan, STATS_CLIENTS, SocketPlan,

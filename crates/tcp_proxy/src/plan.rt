@@ -101,8 +101,9 @@ pub struct Plan<'a> {
     pub socket: SocketPlan<'a>,
     /// How many threads serve connections: 1 to 64.
     pub threads: u32,
-    /// How many connections they hold at most, how long a connection may be silent, and how silent peers are asked.
-    pub limits: Limits,
+    /// How many connections they hold at most, how long a connection may be silent, how silent peers are asked, and who is believed to
+    /// say for whom it connects.
+    pub limits: Limits<'a>,
     /// Where clients come in besides the `bind` of the configuration.
     pub more_binds: &'a [Endpoint],
     /// How many connections may wait to be accepted at each: 1 to 2^31 - 1.

@@ -181,7 +181,7 @@ fn start<
         return Ok(false);
     };
     sockets.start.moment = begins_at(setup, plan);
-    if !warn_of_start(alloc, rt, setup, plan, sockets.takes_ipv6())? {
+    if !warn_of_start(alloc, rt, setup, plan, sockets.reach())? {
         sockets.remove_files(rt, plan);
         return Ok(false);
     }

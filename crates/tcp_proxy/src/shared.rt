@@ -56,7 +56,7 @@ pub(crate) struct Shared<'a, T: Table, J: Naming, R> {
     pub level: Level,
     /// How many threads serve connections.
     pub threads: u32,
-    pub limits: Limits,
+    pub limits: Limits<'a>,
     /// The number of connections after which the proxy stops, if it does.
     pub stop_after: Option<u64>,
     /// A shard's record begins again once it has so many calls.

@@ -5,6 +5,7 @@ use crate::handing::{check_handed, say_unserved};
 use crate::listeners::{BoundListeners, bind_listeners};
 use crate::plan::{MOST_STATS_SOCKETS, Plan, StatsPlan};
 use crate::shared::ProxyRuntime;
+use crate::trust::Reach;
 use base_clock::Start;
 use base_lines::read_number;
 use log::{Log, error, info};
@@ -274,8 +275,25 @@ impl Socket {
 }
 
 impl Sockets {
+    /// Who can connect, by the addresses at which listeners really are.
+    pub fn reach(&self) -> Reach {
+        Reach {
+            takes_ipv6: self.takes_ipv6(),
+            is_open: self.is_open(),
+        }
+    }
+
+    /// Whether a listener is at an address that programs of other machines reach. Where that can't be told, it counts as one.
+    fn is_open(&self) -> bool {
+        let mut listeners = self.listeners.each.iter();
+        listeners.any(|listener| match listener.socket.local_addr() {
+            Ok(address) => !address.ip().to_canonical().is_loopback(),
+            Err(_) => true,
+        })
+    }
+
     /// Whether clients come with IPv6 addresses, those of IPv4 with mapped ones: whether a listener is at an address of IPv6.
-    pub fn takes_ipv6(&self) -> bool {
+    fn takes_ipv6(&self) -> bool {
         let mut listeners = self.listeners.each.iter();
         listeners.any(|listener| match listener.socket.local_addr() {
             Ok(address) => address.is_ipv6(),

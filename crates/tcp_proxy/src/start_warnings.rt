@@ -4,12 +4,14 @@ ghost use Rattle.std.specs.Prelude.{◌≡◌, is_some};
 ghost use Rattle.std.specs.List.{list_any};
 ghost use Rattle.admit_drive.specs.Tables.{CanOpen};
 ghost use Rattle.tcp_proxy.specs.Places as spec;
+ghost use Rattle.tcp_proxy.specs.Trust as trust_spec;
 
 use crate::binding::BindFault;
 use crate::plan::Plan;
 use crate::running::report;
 use crate::shared::ProxyRuntime;
 use crate::sockets::check_groups;
+use crate::trust::{Reach, is_misplaced, is_open};
 use log::{Log, warn};
 use rule_addresses::{Address, Endpoint};
 use rule_model::Setup;
@@ -18,6 +20,10 @@ use std::alloc::Global;
 use std::io;
 use std::rt::Files;
 use tcp_relay::FaultKind;
+
+/// What is said where others than programs of the same machine say by which address they are judged.
+const MISPLACED_TRUST: &str =
+    "--accept-proxy believes everybody, and others than programs of this machine can connect: whoever does says by which address the rules judge it. Name the proxies' own addresses, or put a firewall before it.";
 
 /// Looks at what a start looks at before it binds its sockets, and says what a start would warn of by the file's `bind` and those of the
 /// plan. Answers whether it would go on.
@@ -31,9 +37,20 @@ pub(crate) fn check_start<R: ProxyRuntime + Files + AllocGlobal + Eprint>(
     requires can_open { CanOpen setup.now }
 {
     match check_groups(rt, plan) {
-        Ok(()) => warn_of_start(alloc, rt, setup, plan, takes_ipv6(bind, plan.more_binds)),
+        Ok(()) => warn_of_start(alloc, rt, setup, plan, planned_reach(bind, plan.more_binds)),
         Err(BindFault::Said) => Ok(false),
         Err(BindFault::Unsaid(reason)) => Err(reason),
+    }
+}
+
+/// Who can connect where the program listens at this and at those.
+fn planned_reach(bind: Endpoint, more: &[Endpoint]) -> Reach
+    ensures ipv6 { result.takes_ipv6 ≡ spec.takes_ipv6 bind more.now }
+    ensures open { result.is_open ≡ trust_spec.is_open bind more.now }
+{
+    Reach {
+        takes_ipv6: takes_ipv6(bind, more),
+        is_open: is_open(bind, more),
     }
 }
 
@@ -65,21 +82,23 @@ fn is_ipv6(bind: Endpoint) -> bool
     matches!(bind.address, Address::V6(_))
 }
 
-/// Says what a start warns of, where clients come with IPv6 addresses or with IPv4 ones alone. Answers whether there was memory for
-/// that; where there wasn't, it is said.
+/// Says what a start warns of, by who can connect. Answers whether there was memory for that; where there wasn't, it is said.
 pub(crate) fn warn_of_start<R: Log>(
     alloc: Global,
     rt: &R,
     setup: &Setup,
     plan: Plan<'_>,
-    takes_ipv6: bool,
+    reach: Reach,
 ) -> io::Result<bool>
     requires can_open { CanOpen setup.now }
 {
-    let start = start_plan(plan, allowed_descriptors(), takes_ipv6);
+    let start = start_plan(plan, allowed_descriptors(), reach.takes_ipv6);
     match warnings_of(alloc, setup, start) {
         Ok(warnings) => {
             say_warnings(rt, warnings.as_slice());
+            if is_misplaced(plan.limits.proxies, reach) {
+                warn!(rt; "{MISPLACED_TRUST}");
+            }
             Ok(true)
         }
         Err(_refused) => {

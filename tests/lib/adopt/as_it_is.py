@@ -30,14 +30,16 @@ listen www
 CHANGE = '    tcp-request connection silent-drop if { src 127.0.0.9 }\n'
 CHANGE_SAID = 'stickd: line 16: rewritten, with a change of what is served: the connection is reset and not dropped silently'
 BAD_COMMAND_LINE = 2
+# The same behind a proxy: rules judge by the address that it tells.
+PROXIED = FILE.replace(':PORT', ':PORT accept-proxy').replace('tcp-request connection', 'tcp-request session').replace(':SERVER', ':SERVER send-proxy')
 
 
 class Place:
     """A folder with a file of HAProxy and a socket's path, and the port at which it is served."""
 
-    def __init__(self, folder, server, more=''):
+    def __init__(self, folder, server, more='', file=FILE):
         self.port, self.folder = free_port(), folder
-        text = (FILE + more).replace('PORT', str(self.port)).replace('SERVER', str(server.port)).replace('FOLDER', folder)
+        text = (file + more).replace('PORT', str(self.port)).replace('SERVER', str(server.port)).replace('FOLDER', folder)
         self.config = write_file(folder, 'haproxy.cfg', text.encode())
         self.socket = os.path.join(folder, 's.sock')
         self.stats = os.path.join(folder, 'stats.sock')
@@ -51,10 +53,11 @@ class Place:
         with contextlib.ExitStack() as open_ones:
             return sum(self.is_served(open_ones) for _ in range(count))
 
-    def is_served(self, open_ones):
-        """Whether one more client gets the server's greeting. It may be reset before it knows that it is connected."""
+    def is_served(self, open_ones, first=b''):
+        """Whether one more client, which sends this first, gets the server's greeting. It may be reset before it knows that it is connected."""
         try:
             client = open_ones.enter_context(socket.create_connection(('127.0.0.1', self.port), timeout=6))
+            client.sendall(first)
             return client.recv(64) == GREETING
         except OSError:
             return False
@@ -86,6 +89,20 @@ def winner_fault(adopter, server, folder):
         if (info['Nbthread'], info['Maxconn']) != ('2', '55'):
             return f'{options}: {info}'
     return None
+
+
+def header_fault(adopter, server, folder):
+    """Behind a proxy, as the file says: clients are judged by the address that its headers tell, and one without a header is reset. An
+    option of the command line counts more, also the one that tells the server by the other version."""
+    place = Place(folder, server, file=PROXIED)
+    for options in ([], ['--send-proxy-v2'], ['--accept-proxy', '127.0.0.1']):
+        with at_work(place.words(adopter.program, *options), place.port, folder), contextlib.ExitStack() as open_ones:
+            served = [place.is_served(open_ones, b'PROXY TCP4 203.0.113.%d 192.0.2.1 1234 80\r\n' % last) for last in (1, 1, 1, 2, 2)]
+            served.append(place.is_served(open_ones, b'no header, and as long as one, so that it is judged by its bytes'))
+        if served != [True, True, False, True, True, False]:
+            return f'{options}: {served}'
+    done = run([adopter.program, 'check', '--haproxy', place.config])
+    return None if done.status == SAME else f'check: status {done.status}: {done}'
 
 
 def change_fault(adopter, server, folder):
@@ -133,7 +150,7 @@ def refusal_fault(adopter, server, folder):
     return None
 
 
-TRIALS = {'it runs': run_fault, 'the command line wins': winner_fault, 'a change': change_fault, 'a check': check_fault,
+TRIALS = {'it runs': run_fault, 'the command line wins': winner_fault, 'behind a proxy': header_fault, 'a change': change_fault, 'a check': check_fault,
           'refusals': refusal_fault}
 
 

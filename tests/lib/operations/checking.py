@@ -74,6 +74,21 @@ def a_check_warns_as_a_start_does():
             assert ('tracks no client of IPv6' in text) == is_warned and 'Without --timeout-client and --timeout-server' in text, (words, text)
 
 
+def a_check_warns_where_everybody_is_believed():
+    """Where --accept-proxy has all addresses of a family, and others than the machine's own programs can connect: by the file's bind, or
+    by a further one."""
+    warning = 'stickd: warning: --accept-proxy believes everybody'
+    open_bind = ['--bind', f'0.0.0.0:{free_port()}']
+    rows = [([], False), (['--accept-proxy', '0.0.0.0/0,::/0'], False), (['--accept-proxy', '0.0.0.0/0', *open_bind], True),
+            (['--accept-proxy', '10.0.0.1,::/0', *open_bind], True), (['--accept-proxy', '0.0.0.0/1,::1', *open_bind], False),
+            (['--accept-proxy', '::/0', '--bind', f'[::ffff:127.0.0.1]:{free_port()}', '--bind', f'[::1]:{free_port()}'], False)]
+    with tempfile.TemporaryDirectory(prefix='stickd-') as room:
+        conf = configuration(room, ['listen www', 'bind 127.0.0.1:{port}', TABLE, TRACK, SERVER], free_port())
+        for words, is_warned in rows:
+            status, _, lines, text = said(conf, room, '--check', *words)
+            assert status == 0 and lines == [] and (warning in text) == is_warned, (words, text)
+
+
 def each_example_starts_under_the_unit():
     """Each configuration of examples/ passes the check that the shipped unit makes before its start."""
     with open(os.path.join(EXAMPLES, 'stickd.service'), encoding='utf-8') as file:
@@ -89,4 +104,5 @@ def each_example_starts_under_the_unit():
             assert ran.returncode == 0, (name, ran)
 
 
-TRIALS = [what_a_start_refuses_is_found, a_check_binds_nothing, a_check_warns_as_a_start_does, each_example_starts_under_the_unit]
+TRIALS = [what_a_start_refuses_is_found, a_check_binds_nothing, a_check_warns_as_a_start_does, a_check_warns_where_everybody_is_believed,
+          each_example_starts_under_the_unit]
