@@ -198,6 +198,12 @@ class Looker(threading.Thread):
         self.known = set(map(as_key, [*PROXIES, *(source for source, _ in TOLD)]))
 
     def run(self):
+        try:
+            self.look_on()
+        except OSError as fault:
+            self.report.check(False, f'looking ended by {fault!r}')
+
+    def look_on(self):
         while not self.ends.wait(0.03):
             before, seen, after = self.book.now(), connections_of(self.proxy), self.book.now()
             short = {str(key) for key in before if len(before[key] & after.get(key, set())) > seen.get(key, 0)}

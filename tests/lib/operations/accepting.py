@@ -192,6 +192,22 @@ def a_server_that_speaks_first_waits_for_the_header():
                 assert heard == [((CLIENT, 1234), ('192.0.2.1', 80))], heard
 
 
+def a_server_that_comes_late_hears_the_told_ends():
+    """A server that refuses twice and then is there gets one header, with the ends that the client's told, and then the client's bytes."""
+    for option, make in zip(OPTIONS, MAKERS):
+        port = free_port()
+        with Watched(port, [TABLE, TRACK], *WORDS, '--retries', '5', option, threads=1) as proxy, begins(proxy, make(CLIENT) + PAYLOAD) as client:
+            time.sleep(1.2)
+            with socket.create_server(('127.0.0.1', port)) as listener:
+                listener.settimeout(PATIENCE)
+                far, _ = listener.accept()
+                with far:
+                    far.settimeout(PATIENCE)
+                    assert ends_told(far, option) == ((CLIENT, 1234), ('192.0.2.1', 80)), option
+                    client.shutdown(socket.SHUT_WR)
+                    assert read_all(far) == PAYLOAD, option
+
+
 def a_dual_listener_trusts_mapped_proxies():
     """At a listener of both families a proxy of IPv4 comes with a mapped address, and is trusted by its network of IPv4; one of IPv6 by
     its own."""
@@ -237,4 +253,5 @@ def without_the_option_a_header_is_bytes():
 
 TRIALS = [each_header_has_its_fate, a_header_may_be_cut_anywhere, a_header_may_come_byte_by_byte, what_begins_no_header_is_reset_at_once,
           rules_judge_by_what_a_header_tells, each_told_source_has_its_own_limit, a_server_that_speaks_first_waits_for_the_header,
-          a_dual_listener_trusts_mapped_proxies, much_follows_a_header_that_came_late, without_the_option_a_header_is_bytes]
+          a_server_that_comes_late_hears_the_told_ends, a_dual_listener_trusts_mapped_proxies, much_follows_a_header_that_came_late,
+          without_the_option_a_header_is_bytes]

@@ -119,9 +119,8 @@ def stickd_takes_what_haproxy_takes():
 @contextlib.contextmanager
 def nginx_of(*servers):
     """nginx at work with these servers of its stream module, where it is here."""
-    wants('nginx')
-    if not os.path.exists(STREAM_MODULE):
-        raise NotMade("nginx's stream module is not here (libnginx-mod-stream)")
+    if not shutil.which('nginx') or not os.path.exists(STREAM_MODULE):
+        raise NotMade('nginx with its stream module is not here (the Debian packages nginx and libnginx-mod-stream)')
     with tempfile.TemporaryDirectory(prefix='stickd-') as room:
         file = os.path.join(room, 'nginx.conf')
         with open(file, 'w', encoding='utf-8') as text:
