@@ -12,8 +12,10 @@ SIGNATURE = b'\r\n\r\n\0\r\nQUIT\n'
 LOCAL, PROXY = 0x20, 0x21
 SERVER, CLIENT_PORT, SERVER_PORT = '192.0.2.1', 1234, 80
 
-# A header of the table: its name, its bytes, what is made of it (told, real, wrong, waits), and the words behind that.
-Row = collections.namedtuple('Row', 'name header fate told')
+# A header of the table: its name, its bytes, and what is made of it, by stickd and by HAProxy.
+Row = collections.namedtuple('Row', 'name header fate haproxys')
+# What is made of a header: told, real, wrong or waits; and the ends that it tells, as pairs of an address and a port.
+Fate = collections.namedtuple('Fate', 'word ends')
 
 
 def line(source, destination=SERVER, ports=(CLIENT_PORT, SERVER_PORT)):
@@ -37,11 +39,17 @@ def value(kind, content):
 MAKERS = (line, binary)
 
 
+def fate_of(text):
+    """What is made of a header, as the table has it."""
+    word, *ends = text.split()
+    return Fate(word, tuple((ipaddress.ip_address(ends[at]), int(ends[at + 1])) for at in range(0, len(ends), 2)))
+
+
 def rows():
     """The headers of the table."""
     found = []
     for block in blocks_of(os.path.join(ROWS, 'proxy.headers')):
         header = b''.join(expanded(text[2:])[:-1] for text in block.lines if text.startswith('>'))
-        fate, *told = next(text for text in block.lines if text and not text.startswith('>')).split()
-        found.append(Row(block.name, header, fate, told))
+        fates = [fate_of(text.removeprefix('HAProxy ')) for text in block.lines if text and not text.startswith('>')]
+        found.append(Row(block.name, header, fates[0], fates[-1]))
     return found

@@ -4,8 +4,9 @@ import socket
 import time
 
 from lib.headers import MAKERS, SIGNATURE, binary, line, rows, value
-from lib.operations.headed import TABLE, WORDS, accepting, are_counted, as_key, begins, how_ends, is_quiet, keys
-from lib.operations.told import OPTIONS, are_ends_of, as_address, ends_told, read_exactly, told_and_greeted
+from lib.operations.headed import (TABLE, WORDS, accepting, are_counted, as_key, begins, how_ends, is_quiet, keys,
+                                   tells_as_it_should)
+from lib.operations.told import OPTIONS, ends_told, read_exactly, told_and_greeted
 from lib.operations.watched import Watched
 from lib.proxy import PATIENCE, TRACK, FarServer, Server, arrive, echoes, free_port, greets, is_greeted, read_all, reject_above, wait_for
 
@@ -22,13 +23,11 @@ def is_passed_on(proxy, server, row, words):
         far, _ = server.listener.accept()
         with far:
             far.settimeout(PATIENCE)
-            known = keys(proxy, conn_cur=1, use=1)
-            assert known == {as_key(row.told[0] if row.told else client.getsockname()[0])}, (row.name, known)
+            known, (source, _) = keys(proxy, conn_cur=1, use=1), row.fate.ends[0] if row.fate.ends else client.getsockname()
+            assert known == {as_key(source)}, (row.name, known)
             if words:
                 told = ends_told(far, words[0])
-                wanted = tuple((as_address(row.told[at]), int(row.told[at + 1])) for at in (0, 2)) if row.told else None
-                has_them = tuple((as_address(address), port) for address, port in told) == wanted if wanted else are_ends_of(told, client)
-                assert has_them, (row.name, words, told)
+                assert tells_as_it_should(row.fate, told, client), (row.name, words, told)
             assert read_exactly(far, len(PAYLOAD)) == PAYLOAD, row.name
             client.shutdown(socket.SHUT_WR)
             assert read_all(far) == b'', row.name
@@ -38,7 +37,7 @@ def each_header_has_its_fate():
     """Each header of the table, sent whole. Those that tell ends, or none, go to the server, which gets just what follows, and is told the
     ends, by either version; those that are wrong are reset, and those that aren't whole too, in their time."""
     for words in ((), *((option,) for option in OPTIONS)):
-        fates = {fate: [row for row in rows() if row.fate == fate] for fate in ('told', 'real', 'wrong', 'waits')}
+        fates = {word: [row for row in rows() if row.fate.word == word] for word in ('told', 'real', 'wrong', 'waits')}
         with FarServer() as server, Watched(server.port, [TABLE, TRACK], *WORDS, '--timeout-header', '2s', *words) as proxy:
             taken = fates['told'] + fates['real']
             for row in taken:

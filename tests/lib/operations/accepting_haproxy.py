@@ -6,8 +6,8 @@ import socket
 import subprocess
 import tempfile
 
-from lib.headers import MAKERS
-from lib.operations.headed import HERE, TABLE, WORDS, as_key, begins, keys
+from lib.headers import MAKERS, rows
+from lib.operations.headed import HERE, TABLE, WORDS, as_key, begins, how_ends, is_quiet, keys, tells_as_it_should
 from lib.operations.told import OPTIONS, as_address, ends_told, haproxy_of, line_of, read_exactly
 from lib.operations.watched import Watched
 from lib.proxy import PATIENCE, TRACK, FarServer, Proxy, free_port, read_all, wait_for
@@ -103,6 +103,28 @@ def what_it_was_told_it_tells():
                         wait_for('it has ended', lambda: not haproxy_keys(shown) and not keys(proxy, conn_cur=1))
 
 
+def haproxy_makes_of_headers_what_is_said():
+    """Each header of the table, sent to HAProxy: what it makes of it is what is made of it here, but where the table says otherwise."""
+    wants('haproxy')
+    with FarServer() as server, haproxy_of('accept-proxy', f'{server.port} send-proxy-v2') as (port, shown):
+        for row in rows():
+            with socket.create_connection(('127.0.0.1', port), PATIENCE) as client:
+                client.sendall(row.header + (b'' if row.fate.word == 'waits' else PAYLOAD))
+                if row.haproxys.word == 'wrong':
+                    assert how_ends(client) == 'reset', row.name
+                elif row.haproxys.word == 'waits':
+                    assert is_quiet(client, 0.3), row.name
+                else:
+                    far, _ = server.listener.accept()
+                    with far:
+                        far.settimeout(PATIENCE)
+                        told = ends_told(far, '--send-proxy-v2')
+                        assert tells_as_it_should(row.haproxys, told, client), (row.name, told)
+                        assert haproxy_keys(shown) == {as_key(told[0][0])}, (row.name, shown())
+                        assert read_exactly(far, len(PAYLOAD)) == PAYLOAD, row.name
+            wait_for('it has ended', lambda: not haproxy_keys(shown), pause=0.005)
+
+
 def stickd_takes_what_haproxy_takes():
     """A health check of HAProxy with `check-send-proxy` begins by a header without ends, or with its own, and ends: stickd takes it, and
     counts the proxy's own address."""
@@ -153,4 +175,5 @@ def nginx_stands_on_both_sides():
                         assert read_all(client) == b'2001:db8::9 1234 2001:db8::1 80', (option, make.__name__)
 
 
-TRIALS = [stickd_stands_where_haproxy_does, what_it_was_told_it_tells, stickd_takes_what_haproxy_takes, nginx_stands_on_both_sides]
+TRIALS = [stickd_stands_where_haproxy_does, what_it_was_told_it_tells, haproxy_makes_of_headers_what_is_said,
+          stickd_takes_what_haproxy_takes, nginx_stands_on_both_sides]

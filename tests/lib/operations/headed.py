@@ -3,6 +3,7 @@ import contextlib
 import ipaddress
 import socket
 
+from lib.operations.told import are_ends_of
 from lib.operations.watched import Watched
 from lib.proxy import PATIENCE, TRACK, Server, end_of, greets, hears_end, wait_for
 
@@ -63,6 +64,11 @@ def as_key(address):
     """The key of an address in a table of both families, to be compared."""
     address = ipaddress.ip_address(address)
     return ipaddress.ip_address(f'::ffff:{address}') if address.version == 4 else address
+
+
+def tells_as_it_should(fate, told, client):
+    """Whether the ends that a server was told are those of its client's header or, where that tells none, those of its client."""
+    return tuple((ipaddress.ip_address(address), port) for address, port in told) == fate.ends if fate.ends else are_ends_of(told, client)
 
 
 def keys(proxy, **data):
