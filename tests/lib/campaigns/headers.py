@@ -9,7 +9,7 @@ import time
 
 from lib.campaigns.parts import Draw, Report
 from lib.headers import LOCAL, MAKERS, SIGNATURE, binary, value
-from lib.operations.headed import TABLE, as_key, begins, counts, how_ends
+from lib.operations.headed import TABLE, as_key, begins, counts, how_ends, is_reset_unread
 from lib.operations.watched import Watched
 from lib.proxy import PATIENCE, TRACK, Server, end_of, greets, is_greeted, read_all, reject_above, reset, wait_for
 
@@ -147,7 +147,9 @@ class Visitor(threading.Thread):
     def is_none(self):
         """A client that is no proxy, whatever it sends."""
         header, _ = drawn_header(self.draw, NONE)
-        self.fails('untrusted', begins(self.proxy, self.draw.choice([header, b'GET / HTTP/1.0\r\n\r\n', b'']), NONE))
+        if not is_reset_unread(self.proxy, self.draw.choice([header, b'GET / HTTP/1.0\r\n\r\n', b'']), NONE):
+            self.faults.append('untrusted: no reset')
+        self.fails('untrusted')
 
 
 class Dawdler(threading.Thread):

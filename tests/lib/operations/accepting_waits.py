@@ -8,7 +8,7 @@ import time
 
 from lib.calls import ADMITTED, LOOK, REJECTED, ended_after
 from lib.headers import MAKERS, SIGNATURE, line
-from lib.operations.headed import TABLE, WORDS, accepting, are_counted, as_key, begins, counts, how_ends, is_quiet, keys
+from lib.operations.headed import TABLE, WORDS, accepting, are_counted, as_key, begins, counts, how_ends, is_quiet, is_reset_unread, keys
 from lib.operations.watched import Watched
 from lib.proxy import PATIENCE, TRACK, FarServer, Proxy, Server, end_of, greets, is_greeted, reject_above, reset, wait_for
 
@@ -177,8 +177,7 @@ def only_proxies_are_heard():
         with Watched(server.port, [TABLE, TRACK], *words) as proxy:
             for sent in (b'', b'GET / HTTP/1.0\r\n\r\n', HEADER):
                 for source in ('127.0.0.1', '127.0.2.6'):
-                    with begins(proxy, sent, source) as client:
-                        assert how_ends(client) == 'reset', (sent, source)
+                    assert is_reset_unread(proxy, sent, source), (sent, source)
             are_counted(proxy, accepted=6, rejected=6, untrusted=6)
             assert proxy.rows() == {}, proxy.rows()
             for source in ('127.0.1.9', '127.0.2.7'):
@@ -266,9 +265,10 @@ def it_settles_after_so_many():
     with Server(greets) as server, Proxy(server.port, [TABLE, TRACK, reject_above(1)], *words) as proxy:
         with begins(proxy, MAKERS[0](CLIENT), '127.0.1.1') as first, begins(proxy, MAKERS[1]('2001:db8::9', '2001:db8::1'), '127.0.1.1') as second:
             assert is_greeted(first) and is_greeted(second)
-            for sent, source in ((HEADER, '127.0.1.1'), (b'GET', '127.0.1.1'), (HALF, '127.0.1.2'), (b'', '127.0.1.3'), (HEADER, '127.0.0.1')):
+            for sent, source in ((HEADER, '127.0.1.1'), (b'GET', '127.0.1.1'), (HALF, '127.0.1.2'), (b'', '127.0.1.3')):
                 with begins(proxy, sent, source) as client:
                     assert how_ends(client) == 'reset', (sent, source)
+            assert is_reset_unread(proxy, HEADER, '127.0.0.1')
             begins(proxy, HALF, '127.0.1.4').close()
         ended_after(proxy, 2 * ADMITTED + REJECTED + 3 * LOOK)
 

@@ -5,7 +5,7 @@ import socket
 
 from lib.operations.told import are_ends_of
 from lib.operations.watched import Watched
-from lib.proxy import PATIENCE, TRACK, Server, end_of, greets, hears_end, wait_for
+from lib.proxy import PATIENCE, TRACK, Server, arrive, end_of, greets, hears_end, wait_for
 
 # The networks whose clients begin by a header, and the table that has keys of both families.
 HERE = '127.0.0.0/8'
@@ -58,6 +58,17 @@ def how_ends(client):
     by then, and a read finds an end."""
     ending = end_of(client)
     return 'reset' if ending == 'orderly' and hears_end(client, 0) else ending
+
+
+def is_reset_unread(proxy, sent, source):
+    """Whether a client that sends this is reset. It may be so before it knows that it is connected."""
+    client = arrive(proxy, source)
+    if client is None:
+        return True
+    with client:
+        with contextlib.suppress(ConnectionError):
+            client.sendall(sent)
+        return how_ends(client) == 'reset'
 
 
 def as_key(address):
