@@ -10,7 +10,7 @@ from lib.calls import ADMITTED, LOOK, REJECTED, ended_after
 from lib.headers import MAKERS, SIGNATURE, line
 from lib.operations.headed import TABLE, WORDS, accepting, are_counted, as_key, begins, counts, how_ends, is_quiet, is_reset_unread, keys
 from lib.operations.watched import Watched
-from lib.proxy import PATIENCE, TRACK, FarServer, Proxy, Server, end_of, greets, is_greeted, reject_above, reset, wait_for
+from lib.proxy import PATIENCE, TRACK, FarServer, Proxy, Server, closed_after, echoes, end_of, greets, is_greeted, reject_above, reset, wait_for
 
 CLIENT = '203.0.113.9'
 HEADER = line(CLIENT)
@@ -79,6 +79,22 @@ def a_stall_resets_nobody_whose_header_came():
         for client in (comes, silent):
             client.close()
         are_counted(proxy, accepted=2, admitted=1, rejected=1, headers=1, late=1)
+
+
+def each_time_is_of_its_own():
+    """A client that waits isn't a silent one: it may for longer than --timeout-client, which begins once it is judged. And one that is served
+    stays for longer than --timeout-header."""
+    with accepting('--timeout-header', '1m', '--timeout-client', '500ms') as proxy, begins(proxy, HALF) as client:
+        assert is_quiet(client, 1.5)
+        client.sendall(HEADER[len(HALF):])
+        assert is_greeted(client)
+        assert 0.4 < closed_after(client) < 0.5 + LATE
+        are_counted(proxy, accepted=1, admitted=1, headers=1)
+    with accepting('--timeout-header', '500ms', serve=echoes) as proxy, begins(proxy, HEADER + b'stays') as client:
+        assert is_quiet(client, 1.5)
+        client.shutdown(socket.SHUT_WR)
+        assert client.recv(6) == b'stays'
+        are_counted(proxy, accepted=1, admitted=1, headers=1, **{'in': 5})
 
 
 def who_waits_holds_nothing():
@@ -285,6 +301,6 @@ def a_place_is_free_after_each_reset():
 
 
 TRIALS = [half_a_header_has_its_time, a_header_has_one_time, five_seconds_unless_told, a_stall_resets_nobody_whose_header_came,
-          who_waits_holds_nothing, who_waits_has_a_place, a_check_of_the_port_is_no_client, an_end_before_the_header_is_told_as_one,
+          each_time_is_of_its_own, who_waits_holds_nothing, who_waits_has_a_place, a_check_of_the_port_is_no_client, an_end_before_the_header_is_told_as_one,
           only_proxies_are_heard, causes_are_said_once_a_second, a_drain_hears_headers, it_settles_after_so_many,
           a_place_is_free_after_each_reset]
