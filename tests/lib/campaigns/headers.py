@@ -274,10 +274,11 @@ def headers(given):
     report = Report()
     with Server(greets) as server, Watched(server.port, [TABLE, TRACK, reject_above(LIMIT)], *WORDS, threads=4) as proxy:
         mine = rounds_of(proxy, given, report)
-        wait_for('all have gone', lambda: proxy.metrics()['stickd_connections'] == 0)
-        told = {name: number for name, number in counts(proxy).items() if name != 'in'}
-        report.check(told == {name: mine[name] for name in told}, f'told {told}, and there were {dict(mine)}')
-        report.check(proxy.metrics()['stickd_bytes_total{direction="in"}'] == 0, 'no byte of a header is counted')
+        # No client sent more than its header.
+        wanted = {name: mine[name] for name in counts(proxy)}
+        with contextlib.suppress(AssertionError):
+            wait_for('all have gone', lambda: counts(proxy) == wanted and proxy.is_unused())
+        report.check(counts(proxy) == wanted, f'told {counts(proxy)}, and there were {dict(mine)}')
         report.check(proxy.is_unused(), f'{proxy.rows()}')
         proxy.program.terminate()
         status, written, said = proxy.ended()

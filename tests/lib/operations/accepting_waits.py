@@ -133,6 +133,11 @@ ENDINGS = {
 }
 
 
+def are_over(shown, count):
+    """Whether so many clients were accepted, each of which was admitted or rejected by now."""
+    return shown['accepted'] == shown['admitted'] + shown['rejected'] == count
+
+
 def who_waits_has_a_place():
     """As many clients as there may be wait, on one thread and on four: the next isn't accepted before one of them has ended, and is served
     then, however that ends. Those who were never served are gone at last."""
@@ -148,9 +153,7 @@ def who_waits_has_a_place():
                 assert is_greeted(following), (threads, name)
                 for client in (*waiting, following):
                     client.close()
-                wait_for('all are gone', lambda: proxy.metrics()['stickd_connections'] == 0)
-                shown = counts(proxy)
-                assert shown['accepted'] == shown['admitted'] + shown['rejected'] == 4, (threads, name, shown)
+                wait_for(f'all are gone, {name}', lambda: are_over(counts(proxy), 4))
 
 
 def a_check_of_the_port_is_no_client():
@@ -237,6 +240,18 @@ def causes_are_said_once_a_second():
             assert all(re.search(r'; last 127\.0\.1\.9(:\d+)?$', text) for text in lines), lines
 
 
+def who_is_rejected_is_named_as_told():
+    """With --log-rejected the last client that the rules rejected is named as its header tells, or as its proxy where that tells none."""
+    for sent, name in ((MAKERS[0](CLIENT), CLIENT), (MAKERS[1]('2001:db8::9', '2001:db8::1'), '2001:db8::9'), (b'PROXY UNKNOWN\r\n', '127.0.1.9')):
+        with accepting('--log-rejected', rules=[reject_above(0)]) as proxy:
+            with begins(proxy, sent, '127.0.1.9') as client:
+                assert how_ends(client) == 'reset', name
+            are_counted(proxy, accepted=1, rejected=1, headers=1)
+            time.sleep(1.5)
+            lines = [text for text in proxy.killed() if ' rejected; ' in text]
+            assert len(lines) == 1 and lines[0].endswith(f'1 rejected; last {name}'), (name, lines)
+
+
 def a_drain_hears_headers():
     """In a drain those whose header comes are judged, and served or rejected. Who ends is gone, and who waits on is closed as the drain
     ends. Then each accepted client was admitted or rejected, and no reference is out."""
@@ -302,5 +317,5 @@ def a_place_is_free_after_each_reset():
 
 TRIALS = [half_a_header_has_its_time, a_header_has_one_time, five_seconds_unless_told, a_stall_resets_nobody_whose_header_came,
           each_time_is_of_its_own, who_waits_holds_nothing, who_waits_has_a_place, a_check_of_the_port_is_no_client, an_end_before_the_header_is_told_as_one,
-          only_proxies_are_heard, causes_are_said_once_a_second, a_drain_hears_headers, it_settles_after_so_many,
+          only_proxies_are_heard, causes_are_said_once_a_second, who_is_rejected_is_named_as_told, a_drain_hears_headers, it_settles_after_so_many,
           a_place_is_free_after_each_reset]

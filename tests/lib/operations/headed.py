@@ -35,7 +35,7 @@ def counts(proxy):
 
 
 def are_counted(proxy, **wanted):
-    """Waits until no connection is open and so many are counted, of each name that is told; those that aren't told are none."""
+    """Waits until no connection is open and so many are counted, of each name that is told. Those that aren't told are none."""
     wanted = {**dict.fromkeys(METRICS, 0), **wanted}
     with contextlib.suppress(AssertionError):
         wait_for('counts', lambda: proxy.metrics()['stickd_connections'] == 0 and counts(proxy) == wanted)
