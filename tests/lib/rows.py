@@ -24,7 +24,8 @@ begin with four blanks are a configuration, read without those.
              `unless` it holds accepted.
 *.runs       `file NAME` with its lines, `folder NAME`, `unreadable NAME`; `run WORDS`; `< ` input, `1> ` and `2> ` what is
              wanted on standard output and standard error, or by {examples} a file of the examples; `input closed`, `output
-             closed`, `output full`, `output unread`: what can't be read or written; `status N`."""
+             closed`, `output full`, `output unread`: what can't be read or written; `status N`.
+*.headers    headers of the PROXY protocol, which tests/operations sends to a program at work; none of these rows."""
 import collections
 import os
 import re
@@ -263,7 +264,7 @@ def rows_of_blocks(prefixes):
         elif end in KINDS:
             for block in filter(lambda block: may_have(block.name), blocks_of(os.path.join(ROWS, file))):
                 yield from KINDS[end](block)
-        elif end not in ('.conf', '.stdin', '.stdout', '.stderr', '.status'):
+        elif end not in ('.conf', '.stdin', '.stdout', '.stderr', '.status', '.headers'):
             raise ValueError('%s is no file of a row' % file)
     for name, lines in blocks_of_page():
         if may_have(name):

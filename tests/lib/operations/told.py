@@ -9,13 +9,13 @@ import tempfile
 import threading
 import time
 
+from lib.headers import SIGNATURE
 from lib.operations.watched import Watched, watched
 from lib.proxy import PATIENCE, TABLE, TRACK, FarServer, Proxy, Server, free_port, is_greeted, read_all, wait_for
 from lib.trials import wants
 
 OPTIONS = ('--send-proxy', '--send-proxy-v2')
-# How a header of version 2 begins, and how long the addresses and ports of its kinds are (section 2.2 of the standard).
-SIGNATURE = b'\r\n\r\n\0\r\nQUIT\n'
+# How long the addresses, and all ends, of the kinds of version 2 are (section 2.2 of the standard).
 KINDS = {0x11: (4, 12), 0x21: (16, 36)}
 
 
@@ -166,13 +166,15 @@ def both_versions_are_one_too_many():
 
 
 @contextlib.contextmanager
-def haproxy_of(frontend, server):
-    """HAProxy at work on a port with these words at its bind, before a server with these words; its port, and how its table is shown."""
+def haproxy_of(frontend, server, *others):
+    """HAProxy at work on a port with these words at its bind, and at these other addresses, before a server with these words; its port,
+    and how its table is shown."""
     port = free_port()
     with tempfile.TemporaryDirectory(prefix='stickd-') as room:
         stats, file = os.path.join(room, 'stats'), os.path.join(room, 'haproxy.cfg')
         lines = [f'global\n    stats socket {stats} mode 600 level admin', 'defaults\n    mode tcp\n    timeout connect 5s',
                  '    timeout client 20s\n    timeout server 20s', f'frontend there\n    bind 127.0.0.1:{port} {frontend}',
+                 *(f'    bind {other} {frontend}' for other in others),
                  '    stick-table type ipv6 size 100 expire 1m store conn_cur', '    tcp-request session track-sc0 src',
                  f'    default_backend far\nbackend far\n    server one 127.0.0.1:{server}']
         with open(file, 'w', encoding='utf-8') as text:

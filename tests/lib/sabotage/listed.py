@@ -45,6 +45,8 @@ SABOTAGES = [
     Sabotage('a client of fifty is lost', 'operations', ['no_connection_is_refused_over_restarts']),
     Sabotage('current connections are shown as none', 'crowds', ['no_more_than_the_limit']),
     Sabotage('the limit of connections is another', 'crowds', ['no_more_than_the_limit'], '--connections', '1000'),
+    Sabotage('half a header has more than its time', 'operations', ['half_a_header_has_its_time'], '--timeout-header', '10s'),
+    Sabotage('a header is bytes', 'operations', ['each_told_source_has_its_own_limit'], '--accept-proxy', '192.0.2.1'),
     Sabotage('a silent client stays', 'crowds', ['silent_clients_are_closed'], '--timeout-client', '1m'),
     Sabotage('sockets that are handed over are left', 'operations', ['sockets_are_taken_over'], lost='LISTEN_FDS'),
 ]
