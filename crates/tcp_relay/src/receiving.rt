@@ -11,7 +11,7 @@ use crate::hearing::{Header, HeaderFault, Hearing};
 use crate::listeners::Accepted;
 use crate::proxied::Proxied;
 use crate::shared::Shared;
-use crate::trust::{Expecting, expecting};
+use crate::trust::{Expecting, expected_of};
 use crate::turning::{EventLoop, take_in};
 use crate::waits::Waiting;
 use crate::width::Width;
@@ -35,7 +35,7 @@ pub(crate) fn receive<'a, T: Table, J: Naming, R: ServeRuntime, G: Gate, W: Widt
 )
     requires free { slice_get worker.old.places.held.items place ≡ Some None }
 {
-    match expecting(shared.proxies, read_ip(accepted.peer.ip())) {
+    match expected_of(shared.proxies, read_ip(accepted.peer.ip())) {
         Expecting::Direct => {
             let arrival = Arrival::direct(accepted);
             take_in(shared, worker, event_loop, buffer, number, place, arrival);

@@ -37,7 +37,7 @@ fn hold(networks: &[Network], source: Address) -> bool
 }
 
 /// What a client does first that connects from this address.
-pub(crate) fn expecting(proxies: Option<Proxies<'_>>, source: Address) -> Expecting
+pub(crate) fn expected_of(proxies: Option<Proxies<'_>>, source: Address) -> Expecting
     ensures { result ≡ expects (trust_of proxies.entry) source }
 {
     let Some(proxies) = proxies else {
