@@ -7,6 +7,7 @@ import socket
 import time
 
 from lib.calls import ADMITTED, LOOK, REJECTED, ended_after
+from lib.edges.limits import greeted_of
 from lib.headers import MAKERS, SIGNATURE, line
 from lib.operations.headed import TABLE, WORDS, accepting, are_counted, as_key, begins, counts, how_ends, is_quiet, is_reset_unread, keys
 from lib.operations.watched import Watched
@@ -156,6 +157,24 @@ def who_waits_has_a_place():
                 wait_for(f'all are gone, {name}', lambda: are_over(counts(proxy), 4))
 
 
+def who_waited_has_a_descriptor():
+    """With few descriptors 60 clients that wait with half a header are served once it is whole, as others leave: one that was accepted has
+    a descriptor for its server, and none is closed for want of one."""
+    words = [*WORDS, '--timeout-header', '1m']
+    for descriptors in (40, 47):
+        with Server(greets) as server, Proxy(server.port, [TABLE, TRACK], *words, threads=2, descriptors=descriptors) as proxy:
+            waiting = [begins(proxy, HALF) for _ in range(60)]
+            time.sleep(0.3)
+            for client in waiting:
+                client.sendall(HEADER[len(HALF):])
+            while waiting:
+                greeted = greeted_of(waiting)
+                assert greeted, f'{descriptors} descriptors: {len(waiting)} are never served'
+                waiting = [client for client in waiting if client not in greeted]
+                for client in greeted:
+                    client.close()
+
+
 def a_check_of_the_port_is_no_client():
     """Who connects and closes or resets at once, as checks of a port do, is counted as ended, and nothing else: no entry, and the server
     hears nothing."""
@@ -242,7 +261,8 @@ def causes_are_said_once_a_second():
 
 def who_is_rejected_is_named_as_told():
     """With --log-rejected the last client that the rules rejected is named as its header tells, or as its proxy where that tells none."""
-    for sent, name in ((MAKERS[0](CLIENT), CLIENT), (MAKERS[1]('2001:db8::9', '2001:db8::1'), '2001:db8::9'), (b'PROXY UNKNOWN\r\n', '127.0.1.9')):
+    rows = [(MAKERS[0](CLIENT), CLIENT), (MAKERS[1]('2001:db8::9', '2001:db8::1'), '2001:db8::9'), (b'PROXY UNKNOWN\r\n', '127.0.1.9')]
+    for sent, name in rows:
         with accepting('--log-rejected', rules=[reject_above(0)]) as proxy:
             with begins(proxy, sent, '127.0.1.9') as client:
                 assert how_ends(client) == 'reset', name
@@ -316,6 +336,6 @@ def a_place_is_free_after_each_reset():
 
 
 TRIALS = [half_a_header_has_its_time, a_header_has_one_time, five_seconds_unless_told, a_stall_resets_nobody_whose_header_came,
-          each_time_is_of_its_own, who_waits_holds_nothing, who_waits_has_a_place, a_check_of_the_port_is_no_client, an_end_before_the_header_is_told_as_one,
-          only_proxies_are_heard, causes_are_said_once_a_second, who_is_rejected_is_named_as_told, a_drain_hears_headers, it_settles_after_so_many,
-          a_place_is_free_after_each_reset]
+          each_time_is_of_its_own, who_waits_holds_nothing, who_waits_has_a_place, who_waited_has_a_descriptor,
+          a_check_of_the_port_is_no_client, an_end_before_the_header_is_told_as_one, only_proxies_are_heard, causes_are_said_once_a_second,
+          who_is_rejected_is_named_as_told, a_drain_hears_headers, it_settles_after_so_many, a_place_is_free_after_each_reset]
