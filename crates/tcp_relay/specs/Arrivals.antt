@@ -37,10 +37,13 @@ abbrev pub IsSaid : ℕ → Option Ends → Type 0
 IsSaid length ends = ∥ ((bytes : List ℕ) × (heard bytes ≡ Told length ends)) ∥₁
 
 -- what is told of a client that is judged: nothing of one that is a client like any; of one that begins by a header what that tells
+abbrev pub Introduces : Expecting → Option Ends → Type 0
+Introduces Direct told = told ≡ None
+Introduces Header told = (length : ℕ) × IsSaid length told
+Introduces Refused told = ⊥
+
 abbrev pub IsIntroduced : Expecting → Option Ends → Type 0
-IsIntroduced Direct told = told ≡ None
-IsIntroduced Header told = ∥ ((length : ℕ) × IsSaid length told) ∥₁
-IsIntroduced Refused told = ⊥
+IsIntroduced expecting told = ∥ Introduces expecting told ∥₁
 
 -- where a client connects from
 abbrev pub source_of : SocketAddr → Address

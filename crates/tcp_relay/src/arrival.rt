@@ -5,7 +5,7 @@ ghost use Rattle.tcp_relay.specs.Arrivals.{IsFrom, IsIntroduced, expects, sample
 ghost use Rattle.tcp_relay.specs.declared.trust.Expecting.TheVariants.{Direct, Header as Headed};
 
 use crate::addresses::{samples, socket_address};
-use crate::hearing::Header;
+use crate::header::Header;
 use crate::listeners::Accepted;
 use crate::width::Width;
 use proxy_header::Ends;

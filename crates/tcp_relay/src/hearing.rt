@@ -2,21 +2,11 @@
 
 ghost use Rattle.std.specs.Prelude.{◌≡◌};
 ghost use Rattle.proxy_header.specs.Header.{heard};
-ghost use Rattle.tcp_relay.specs.Arrivals.{IsSaid};
-ghost use Rattle.tcp_relay.specs.Hearings.{fault_count, hearing_of};
+ghost use Rattle.tcp_relay.specs.Hearings.{Becomes, fault_count};
 
-use proxy_header::{Ends, Heard, hear};
+use crate::header::Header;
+use proxy_header::{Heard, hear};
 use tcp_stats::Count;
-
-/// A header that a client has sent whole. Nothing makes one but `hearing_of`, of what the bytes say.
-#[derive(Clone, Copy, Debug)]
-pub(crate) struct Header {
-    /// How many bytes it has.
-    pub(crate) length: usize,
-    /// The ends that it tells, if it tells some.
-    pub(crate) ends: Option<Ends>,
-    ghost said: { IsSaid length ends },
-}
 
 /// Why a client is reset that isn't judged.
 #[derive(Clone, Copy, Debug, PartialEq, Eq)]
@@ -58,7 +48,7 @@ pub(crate) enum Hearing {
 
 /// What becomes of a client whose first bytes are these, and which sends no more, or may.
 pub(crate) fn hearing_of(bytes: &[u8], is_closed: bool) -> Hearing
-    ensures { result ≡ hearing_of is_closed (heard bytes.now) }
+    ensures { Becomes is_closed (heard bytes.now) result }
 {
     match hear(bytes) {
         Heard::Unfinished if is_closed => Hearing::Failed(HeaderFault::Ended),

@@ -23,6 +23,7 @@ mod fates;
 mod gate;
 mod gathering;
 mod greeting;
+mod header;
 mod hearing;
 pub mod laws;
 mod leaving;

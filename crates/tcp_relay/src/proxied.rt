@@ -6,7 +6,7 @@ ghost use Rattle.tcp_relay.specs.Arrivals.{expects, source_of};
 ghost use Rattle.tcp_relay.specs.declared.trust.Expecting.TheVariants.{Header as Headed};
 
 use crate::arrival::Arrival;
-use crate::hearing::Header;
+use crate::header::Header;
 use crate::listeners::Accepted;
 use crate::width::Width;
 use std::marker::PhantomData;

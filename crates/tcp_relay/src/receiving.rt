@@ -7,7 +7,8 @@ ghost use Rattle.std.specs.Prelude.{◌≡◌, Some, None, slice_get};
 
 use crate::addresses::read_ip;
 use crate::arrival::Arrival;
-use crate::hearing::{Header, HeaderFault, Hearing};
+use crate::header::Header;
+use crate::hearing::{HeaderFault, Hearing};
 use crate::listeners::Accepted;
 use crate::proxied::Proxied;
 use crate::shared::Shared;

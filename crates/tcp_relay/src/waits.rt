@@ -5,7 +5,8 @@
 ghost use Rattle.std.specs.Prelude.{◌≡◌, ◌≢◌, ◌≤◌, true, is_some, length};
 ghost use Rattle.tcp_relay.specs.Hearings.{IsHeard, is_late};
 
-use crate::hearing::{Header, Hearing, hearing_of};
+use crate::header::Header;
+use crate::hearing::{Hearing, hearing_of};
 use crate::proxied::Proxied;
 use crate::width::Width;
 use base_sequence::NoMemory;
@@ -44,7 +45,8 @@ impl<W: Width> Waits<W> {
     pub(crate) fn reserve(alloc: Global, places: usize) -> Result<Waits<W>, NoMemory> {
         let mut clients = Vec::with_capacity(alloc, places)?;
         for _place in 0..places {
-            clients.push_reserved(None);
+            // There is room for all.
+            clients.push(None)?;
         }
         let room = if places == 0 { 0 } else { ROOM };
         Ok(Waits {
