@@ -5,6 +5,7 @@ ghost use Rattle.std.specs.Prelude.{◌≡◌, ◌<◌, ◌^◌, map};
 ghost use Rattle.rule_model.specs.declared.sections.NamedSpec.{NamedSpec as ItsSpec};
 ghost use Rattle.table_cli.specs.Lives as spec;
 
+use crate::loading::{LoadedTable, Loading, begin_all, seats_of_loaded};
 use crate::plan::Plan;
 use crate::running::report;
 use crate::service_threads::{Asked, SeatedTable, ServiceThread, seats_of};
@@ -63,10 +64,24 @@ fn seat_all<'a, T: Table, J: Naming, R>(
     })
 }
 
+/// The same as they are loaded, with a place for each of their seats.
+fn seat_loaded<'a, T: Table, J: Naming, R>(
+    alloc: Global,
+    rt: &'a R,
+    setup: &Setup,
+    tables: &'a [Shards<T, J>],
+    seats: Vec<SharedSeat<J>>,
+    loading: &'a Loading<'a, R>,
+) -> Result<(Vec<LoadedTable<'a, T, J, R>>, Vec<SharedSeat<J>>), NoMemory> {
+    let Asked { tables, back } = seat_all(alloc, rt, setup, tables, seats)?;
+    let tables = begin_all(alloc, tables, loading)?;
+    Ok((tables, back))
+}
+
 /// Says what of a file wasn't loaded, and where nobody can tell whether it is whole.
-fn say_loaded<T: Table, J: Naming, R: ProxyRuntime + Files + AllocGlobal + Eprint>(
+fn say_loaded<K, R: Log + Eprint>(
     rt: &R,
-    tables: &[SeatedTable<'_, T, J, R>],
+    tables: &[Named<K>],
     path: &str,
     text: &[u8],
     skipped: &[LoadFault<'_>],
@@ -80,8 +95,19 @@ fn say_loaded<T: Table, J: Naming, R: ProxyRuntime + Files + AllocGlobal + Eprin
     say_misfits(rt, path, skipped)
 }
 
+/// What a saved file has. None where it can't be read, which is said on standard error.
+fn read_saved<R: Files + Log + AllocGlobal>(rt: &R, path: &str) -> Option<Vec<u8>> {
+    match fs::read(rt, path) {
+        Ok(text) => Some(text),
+        Err(reason) => {
+            error!(rt; "{path} can't be read: {reason}");
+            None
+        }
+    }
+}
+
 /// Makes the entries that a file keeps, by one seat of each table, which come back. None where the file can't be read or isn't what
-/// was saved, which is said on standard error.
+/// was saved, which is said on standard error. Where that is a terminal, it tells meanwhile how far loading has come.
 fn load_tables<T: Table, J: Naming, R: ProxyRuntime + Files + AllocGlobal + Eprint>(
     alloc: Global,
     rt: &R,
@@ -91,21 +117,20 @@ fn load_tables<T: Table, J: Naming, R: ProxyRuntime + Files + AllocGlobal + Epri
     path: &str,
     misfits: Misfits,
 ) -> io::Result<Option<Vec<SharedSeat<J>>>> {
-    let text = match fs::read(rt, path) {
-        Ok(text) => text,
-        Err(reason) => {
-            error!(rt; "{path} can't be read: {reason}");
-            return Ok(None);
-        }
+    let Some(text) = read_saved(rt, path) else {
+        return Ok(None);
     };
-    let Ok(mut asked) = seat_all(alloc, rt, setup, tables, seats) else {
+    let loading = Loading::begin(rt, text.as_slice());
+    let Ok((mut tables, back)) = seat_loaded(alloc, rt, setup, tables, seats, &loading) else {
         report(rt, FaultKind::NoMemory)?;
         return Ok(None);
     };
-    match load(alloc, asked.tables.as_mut_slice(), text.as_slice(), misfits) {
+    let loaded = load(alloc, tables.as_mut_slice(), text.as_slice(), misfits);
+    loading.end();
+    match loaded {
         Ok(skipped) => say_loaded(
             rt,
-            asked.tables.as_slice(),
+            tables.as_slice(),
             path,
             text.as_slice(),
             skipped.as_slice(),
@@ -115,7 +140,7 @@ fn load_tables<T: Table, J: Naming, R: ProxyRuntime + Files + AllocGlobal + Epri
             return Ok(None);
         }
     }
-    Ok(Some(seats_of(asked.tables, asked.back)))
+    Ok(Some(seats_of_loaded(tables, back)))
 }
 
 /// Why tables aren't saved.

@@ -11,6 +11,7 @@ mod instruments;
 mod keeping;
 mod last_words;
 mod listeners;
+mod loading;
 mod opening;
 mod places;
 mod plan;

@@ -1,18 +1,21 @@
-"""Trials of what a terminal is told while much is listed or saved: how far that has come. Nothing of it is left there."""
+"""Trials of what a terminal is told while much is listed, saved or loaded: how far that has come. Nothing of it is left there."""
 import contextlib
 import os
 import pty
 import re
+import signal
 import socket
 import subprocess
 import tempfile
 import threading
 import time
 
+from lib.operations.safe_saving import FIRST
 from lib.places import stickd
-from lib.proxy import PATIENCE, read_all
+from lib.proxy import PATIENCE, free_port, read_all
 
 CLEARED = '\r\x1b[K'
+MANY = 400_000
 
 
 def piece(numbers):
@@ -115,4 +118,29 @@ def nothing_is_told_off_a_terminal():
     assert (done.returncode, done.stdout.decode(), done.stderr) == (0, ''.join(PIECES), b''), done
 
 
-TRIALS = [a_long_listing_is_told, a_short_listing_is_not_told, nothing_is_told_off_a_terminal]
+def a_long_start_is_told():
+    """A start that loads much tells how many entries are loaded. It stands still now and then, so that it takes as long on any
+    machine."""
+    with tempfile.TemporaryDirectory(prefix='stickd-') as room:
+        conf, saved = os.path.join(room, 'proxy.cfg'), os.path.join(room, 'saved')
+        with open(conf, 'w', encoding='utf-8') as file:
+            file.write('\n    '.join(['listen www', f'bind 127.0.0.1:{free_port()}', 'stick-table type integer size 1m store gpc0',
+                                     'server one 127.0.0.1:9']) + '\n')
+        with open(saved, 'w', encoding='utf-8') as file:
+            file.write(FIRST)
+            file.writelines(f'0 cmd set table www key {number} data.gpc0 1\n' for number in range(MANY))
+            file.write(f'# entries: {MANY}\n')
+        with Told('run', conf, '--socket', f'{room}/commands', '--load', saved, '--check') as told:
+            end = time.monotonic() + PATIENCE
+            while 'loaded' not in told.said and told.program.poll() is None and time.monotonic() < end:
+                time.sleep(0.05)
+                told.program.send_signal(signal.SIGSTOP)
+                time.sleep(1.1)
+                told.program.send_signal(signal.SIGCONT)
+            status, _, said = told.ended()
+        lines, others = lines_in(said, 'loaded', MANY)
+        assert status == 0 and lines and all(0 < entries <= MANY for entries, _ in lines), (status, said)
+        assert lines == sorted(lines, key=lambda line: line[0]) and CLEARED in others and 'loaded' not in others, said
+
+
+TRIALS = [a_long_listing_is_told, a_short_listing_is_not_told, nothing_is_told_off_a_terminal, a_long_start_is_told]
