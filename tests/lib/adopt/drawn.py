@@ -21,8 +21,8 @@ OTHERS = ['option tcplog', 'log global', 'mode tcp', 'mode http', 'timeout clien
           'use_backend be', 'use_backend tab if { src 10.0.0.1 }', 'default_backend be', 'default_backend fe', 'acl good src 10.0.0.1 # comment \u00e9']
 TABLES = ['type ip', 'type ipv6', 'type string len 20', 'type integer', 'size 100k', 'expire 30s', 'store conn_cur', 'store gpc0,conn_rate(10s)',
           'store gpc(2),gpc_rate(2,5s)', 'store http_req_rate(10s)', 'nopurge', 'peers mates', 'store gpt0, gpc1', 'type binary len 4', 'size 0']
-BINDS = ['127.0.0.1:9 maxconn 3 backlog 5', '127.0.0.1:9 backlog 88888888888', ':8080', '*:8081', ':::8082 v4v6', '127.0.0.1:1,127.0.0.1:2', '127.0.0.1:5-9', 'unix@/x', '/run/x', '127.0.0.1:80 ssl crt x', ':70000', '[::1]:7']
-SERVERS = ['127.0.0.1:1 check', '127.0.0.1', 'web:80', '::1:80', '127.0.0.1:2 send-proxy', '127.0.0.1:+1', '/run/y', '127.0.0.1:3 disabled', '127.0.0.1:4 maxconn 9']
+BINDS = ['127.0.0.1:9 maxconn 3 backlog 5', '127.0.0.1:9 backlog 88888888888', ':8080', '*:8081', ':::8082 v4v6', '127.0.0.1:1,127.0.0.1:2', '127.0.0.1:5-9', 'unix@/x', '/run/x', '127.0.0.1:80 ssl crt x', ':70000', '[::1]:7', '127.0.0.1:9 accept-proxy', '[::1]:7 name x accept-proxy backlog 3']
+SERVERS = ['127.0.0.1:1 check', '127.0.0.1', 'web:80', '::1:80', '127.0.0.1:2 send-proxy', '127.0.0.1:2 send-proxy-v2 check', 'web:80 tcp-ut 3s send-proxy', '127.0.0.1:+1', '/run/y', '127.0.0.1:3 disabled', '127.0.0.1:4 maxconn 9']
 
 
 def draw_criterion(draw):
