@@ -1,9 +1,31 @@
-use Rattle.std.proofs.Common.{◌≡◌, ◌+◌, arith, sym, subst, rules, length, vec_len}
+use Rattle.std.proofs.Common.{◌≡◌, ◌≤◌, ◌+◌, Some, IfSome, arith, sym, subst, rules, length, vec_capacity, vec_len}
 use Rattle.std.proofs.lemmas.List.Elements.{All-pop}
 use Rattle.tcp_relay.specs.Seating.{Has, HaveEach}
 use Rattle.tcp_relay.proofs.PassedPlaces.{none_passed}
 use Rattle.tcp_relay.proofs.SeatingLemmas.{row_in, row_stores}
 use Rattle.tcp_relay.proofs.gathering.seat_workers.Goals as goal
+
+-- a row and places for connections, as their lists have them
+pub take_row-row-requires-clause-empty : goal.take_row-row-requires-clause-empty
+take_row-row-requires-clause-empty g c =
+    let is : c.pop-in-Some.result ≡ Some c.in-Some-pop.row = cc (c.in-Some-pop.is) in
+    (subst (λ r. IfSome r (Has 0 g.W.Width.tables)) is (All-pop (Has 0 g.W.Width.tables) c.loop-places.rows.items c.pop-in-Some.new.self.items c.pop-in-Some.result c.pop-in-Some.ensures.items c.loop-places.invariant.empty_rows).1).0
+
+pub take_row-row-requires-clause-room : goal.take_row-row-requires-clause-room
+take_row-row-requires-clause-room g c =
+    let is : c.pop-in-Some.result ≡ Some c.in-Some-pop.row = cc (c.in-Some-pop.is) in
+    let has = (subst (λ r. IfSome r (Has 0 g.W.Width.tables)) is (All-pop (Has 0 g.W.Width.tables) c.loop-places.rows.items c.pop-in-Some.new.self.items c.pop-in-Some.result c.pop-in-Some.ensures.items c.loop-places.invariant.empty_rows).1).1 in
+    omega (arith, has, c.loop-places.invariant.tables)
+
+pub new-places-requires-clause-empty : goal.new-places-requires-clause-empty
+new-places-requires-clause-empty g c =
+    let is : c.pop.result ≡ Some c.in-Some.places = cc (c.in-Some.is) in
+    (subst (λ r. IfSome r (Has 0 g.W.Width.most)) is (All-pop (Has 0 g.W.Width.most) c.loop-places.held.items c.pop.new.self.items c.pop.result c.pop.ensures.items c.loop-places.invariant.empty_connections).1).0
+
+pub new-places-requires-clause-room : goal.new-places-requires-clause-room
+new-places-requires-clause-room g c =
+    let is : c.pop.result ≡ Some c.in-Some.places = cc (c.in-Some.is) in
+    (subst (λ r. IfSome r (Has 0 g.W.Width.most)) is (All-pop (Has 0 g.W.Width.most) c.loop-places.held.items c.pop.new.self.items c.pop.result c.pop.ensures.items c.loop-places.invariant.empty_connections).1).1
 
 pub new-requires-clause-shards : goal.new-requires-clause-shards
 new-requires-clause-shards g c = row_in g.W.Width.shards c.args.tables.now c.take_row-row.result.items c.take_row-row.ensures.row c.requires.shards
