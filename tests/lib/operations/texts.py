@@ -89,6 +89,13 @@ stickd_connections_rejected_total 1
 stickd_accept_failures_total{cause="descriptors"} 0
 stickd_accept_failures_total{cause="memory"} 0
 stickd_accept_failures_total{cause="other"} 0
+# TYPE stickd_headers_total counter
+stickd_headers_total 0
+# TYPE stickd_header_failures_total counter
+stickd_header_failures_total{cause="late"} 0
+stickd_header_failures_total{cause="wrong"} 0
+stickd_header_failures_total{cause="ended"} 0
+stickd_header_failures_total{cause="untrusted"} 0
 # TYPE stickd_connect_failures_total counter
 stickd_connect_failures_total{cause="refused"} 1
 stickd_connect_failures_total{cause="timeout"} 0
