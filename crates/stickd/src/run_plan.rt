@@ -212,10 +212,10 @@ pub fn read_believed<'a>(
 }
 
 /// Which proxies are believed, where one is: by these networks. What is said of proxies wants some.
-fn read_proxies<'a>(
+fn read_proxies<'a, 'n>(
     arguments: &ArgMatches<'a>,
-    networks: &'a [Network],
-) -> Result<Option<Proxies<'a>>, BadWord<'a>> {
+    networks: &'n [Network],
+) -> Result<Option<Proxies<'n>>, BadWord<'a>> {
     let timeout = read_timeout(arguments, HEADER)?;
     let excludes_others = arguments.get_flag(PROXIES_ONLY);
     if !networks.is_empty() {
