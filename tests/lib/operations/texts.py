@@ -188,7 +188,7 @@ def metrics_are_those_of_prometheus():
     """Each metric has a line that says what it is, then one of its type, then its samples."""
     with two_came() as (proxy, _):
         text = proxy.fetched(b'GET /metrics HTTP/1.1\r\nHost: here\r\n\r\n')[2]
-        assert len(re.findall(r'^# HELP (\w+) [A-Z].+\.\n# TYPE \1 ', text, re.M)) == text.count('# HELP ') == 33, text
+        assert len(re.findall(r'^# HELP (\w+) [A-Z].+\.\n# TYPE \1 ', text, re.M)) == text.count('# HELP ') == 35, text
         shown = re.sub(f'^({VARYING_METRICS}) [0-9.]+$', r'\1 *', re.sub(r'^# HELP .*\n', '', text, flags=re.M), flags=re.M)
         assert shown == METRICS, shown
 
