@@ -130,7 +130,7 @@ def a_long_start_is_told():
             file.write(FIRST)
             file.writelines(f'0 cmd set table www key {number} data.gpc0 1\n' for number in range(MANY))
             file.write(f'# entries: {MANY}\n')
-        with Told('run', conf, '--socket', f'{room}/commands', '--load', saved, '--check') as told:
+        with Told('run', conf, '--socket', f'{room}/commands', '--threads', '1', '--load', saved, '--check') as told:
             end = time.monotonic() + PATIENCE
             while 'loaded' not in told.said and told.program.poll() is None and time.monotonic() < end:
                 time.sleep(0.05)
