@@ -102,9 +102,10 @@ def who_waits_holds_nothing():
     """While 50 wait for the last byte of their header, the table has no entry for them, and that of the client that they tell counts those
     alone who are there. They leave nothing, descriptors neither."""
     with accepting('--timeout-header', '1m') as proxy:
-        descriptors = len(os.listdir(f'/proc/{proxy.program.pid}/fd'))
         waiting = [begins(proxy, HEADER[:-1]) for _ in range(50)]
         wait_for('all are accepted', lambda: counts(proxy)['accepted'] == 50)
+        # Two of each that waits, its own and one for its server, are given back.
+        left = len(os.listdir(f'/proc/{proxy.program.pid}/fd')) - 2 * 50
         assert proxy.rows() == {} and 'used:0' in proxy.command('show table www\n'), proxy.rows()
         assert [counts(proxy)[name] for name in ('admitted', 'rejected', 'headers', 'in')] == [0] * 4, counts(proxy)
         with begins(proxy, HEADER) as client:
@@ -120,7 +121,7 @@ def who_waits_holds_nothing():
         row, = proxy.rows().values()
         assert (row['use'], row['conn_cur'], row['conn_cnt']) == (0, 0, 11), row
         # Each of its eight threads may keep a socket for its next client's server.
-        wait_for('descriptors are given back', lambda: len(os.listdir(f'/proc/{proxy.program.pid}/fd')) <= descriptors + 8)
+        wait_for('descriptors are given back', lambda: len(os.listdir(f'/proc/{proxy.program.pid}/fd')) <= left + 8)
 
 
 # How clients that wait end: each frees the place for the next.
