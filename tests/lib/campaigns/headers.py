@@ -16,6 +16,9 @@ from lib.proxy import PATIENCE, TRACK, Server, end_of, greets, is_greeted, read_
 # How many threads of clients there are, how many connections of an address are admitted, and how long a header may take, in ms: on a
 # busy machine those who send it in parts have stood still for two seconds.
 AT_ONCE, LIMIT, IN_TIME = 12, 2, 5_000
+
+# How many clients more there may be than are asked for: those that are late, and those that are looked at.
+SPARE = 1_000
 # How many steps each thread makes between two looks, and how many connections it holds at most.
 STEPS, HELD = 10, 4
 # The proxies, one that is none, and what they tell: fewer connections of them are admitted than all threads would hold.
@@ -273,7 +276,9 @@ def headers(given):
     early, or are late, or come from elsewhere. Each told address has at every look the connections that are held of it, and two at most. At
     the end all counts are those of the clients, by their causes, and no reference is out."""
     report = Report()
-    with Server(greets) as server, Watched(server.port, [TABLE, TRACK, reject_above(LIMIT)], *WORDS, threads=4) as proxy:
+    last = given.count + SPARE
+    rules = [TABLE, TRACK, reject_above(LIMIT)]
+    with Server(greets) as server, Watched(server.port, rules, *WORDS, '--stop-after', str(last), threads=4) as proxy:
         mine = rounds_of(proxy, given, report)
         # No client sent more than its header.
         wanted = {name: mine[name] for name in counts(proxy)}
@@ -281,7 +286,9 @@ def headers(given):
             wait_for('all have gone', lambda: counts(proxy) == wanted and proxy.is_unused())
         report.check(counts(proxy) == wanted, f'told {counts(proxy)}, and there were {dict(mine)}')
         report.check(proxy.is_unused(), f'{proxy.rows()}')
-        proxy.program.terminate()
+        # The program settles with its last client: these end before they have begun.
+        for _ in range(last - mine['accepted']):
+            begins(proxy, b'', PROXIES[0]).close()
         status, written, said = proxy.ended()
         settled = re.fullmatch(r'settled www: \d+ calls, 0 references\n', written)
         report.check(status == 0 and settled is not None, f'{(status, written, said)}')
