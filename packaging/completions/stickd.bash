@@ -11,10 +11,10 @@ _stickd() {
     fi
     # What the option before wants; else what the command has.
     case "$command $before" in
-        "adopt --frontend" | "check --shards" | "check --frontend" | "ctl --watch" | "ctl --timeout" | "replay --shards" | "replay --purge" | "replay --ipv4-prefix" | "replay --ipv6-prefix" | "run --threads" | "run --frontend" | "run --bind" | "run --shards" | "run --purge" | "run --ipv4-prefix" | "run --ipv6-prefix" | "run --save-every" | "run --connections" | "run --backlog" | "run --timeout-connect" | "run --retries" | "run --timeout-client" | "run --timeout-server" | "run --timeout-fin" | "run --keepalive" | "run --tcp-user-timeout" | "run --accept-proxy" | "run --timeout-header" | "run --socket-mode" | "run --socket-level" | "run --socket-clients" | "run --timeout-socket" | "run --stats-clients" | "run --metrics" | "run --report" | "run --drain" | "run --stop-after" | "run --roll-at" | "stop --drain" | "stop --timeout" | "top --table" | "top --by" | "top --rows")
+        "adopt --frontend" | "check --shards" | "check --frontend" | "ctl --watch" | "ctl --timeout" | "reload --timeout" | "replay --shards" | "replay --purge" | "replay --ipv4-prefix" | "replay --ipv6-prefix" | "run --threads" | "run --frontend" | "run --bind" | "run --shards" | "run --purge" | "run --ipv4-prefix" | "run --ipv6-prefix" | "run --save-every" | "run --connections" | "run --backlog" | "run --timeout-connect" | "run --retries" | "run --timeout-client" | "run --timeout-server" | "run --timeout-fin" | "run --keepalive" | "run --tcp-user-timeout" | "run --accept-proxy" | "run --timeout-header" | "run --socket-mode" | "run --socket-level" | "run --socket-clients" | "run --timeout-socket" | "run --stats-clients" | "run --metrics" | "run --report" | "run --drain" | "run --stop-after" | "run --roll-at" | "stop --drain" | "stop --timeout" | "top --table" | "top --by" | "top --rows")
             return
             ;;
-        "check --load" | "ctl --socket" | "ctl --to" | "replay --load" | "run --socket" | "run --load" | "run --save" | "run --stats-socket" | "stop --stats-socket" | "top --socket")
+        "check --load" | "ctl --socket" | "ctl --to" | "reload --stats-socket" | "replay --load" | "run --socket" | "run --load" | "run --save" | "run --stats-socket" | "stop --stats-socket" | "top --socket")
             compopt -o filenames 2>/dev/null
             choices=(-f)
             ;;
@@ -23,7 +23,7 @@ _stickd() {
             ;;
     esac
     if ((COMP_CWORD == 1)); then
-        choices=(-W "adopt check ctl replay run stop top help -h --help -V --version")
+        choices=(-W "adopt check ctl reload replay run stop top help -h --help -V --version")
     fi
     ((${#choices[@]})) || case "$command ${word:0:1}" in
         "adopt -")
@@ -46,6 +46,9 @@ _stickd() {
         "ctl "*)
             return
             ;;
+        "reload -")
+            choices=(-W "--stats-socket --timeout -h --help")
+            ;;
         "replay -")
             choices=(-W "--shards --purge --ipv4-prefix --ipv6-prefix --load -h --help")
             ;;
@@ -67,7 +70,7 @@ _stickd() {
             choices=(-W "--socket --table --by --rows -h --help")
             ;;
         "help "*)
-            choices=(-W "adopt check ctl replay run stop top help")
+            choices=(-W "adopt check ctl reload replay run stop top help")
             ;;
     esac
     ((${#choices[@]})) && mapfile -t COMPREPLY < <(compgen "${choices[@]}" -- "$word")

@@ -11,6 +11,7 @@ complete -c stickd -n '__stickd_at' -s V -l version -d 'Print version'
 complete -c stickd -n '__stickd_at' -a adopt -d 'Write the configuration that stickd runs in place of HAProxy\'s'
 complete -c stickd -n '__stickd_at' -a check -d 'Read a configuration, and say what is wrong with it'
 complete -c stickd -n '__stickd_at' -a ctl -d 'Send commands to a running stickd, and show what it answers'
+complete -c stickd -n '__stickd_at' -a reload -d 'Have a running stickd read its rules again'
 complete -c stickd -n '__stickd_at' -a replay -d 'Replay a timed script of connections and commands on standard input'
 complete -c stickd -n '__stickd_at' -a run -d 'Run the proxy, and answer commands on a socket'
 complete -c stickd -n '__stickd_at' -a stop -d 'Stop a running stickd, and wait until it has ended'
@@ -41,6 +42,10 @@ complete -c stickd -n '__stickd_at ctl' -l watch -x -d 'Ask again after so many 
 complete -c stickd -n '__stickd_at ctl' -l to -r -F -d 'Write what \'save\' answers to FILE, whole or not at all [default: standard output]'
 complete -c stickd -n '__stickd_at ctl' -l timeout -x -d 'How long the program may say nothing before it is given up [default: 10s]'
 complete -c stickd -n '__stickd_at ctl' -s h -l help -d 'Print help'
+
+complete -c stickd -n '__stickd_at reload' -l stats-socket -r -F -d 'The stats socket of the program whose rules are read again'
+complete -c stickd -n '__stickd_at reload' -l timeout -x -d 'How long the program may say nothing before it is given up [default: 10s]'
+complete -c stickd -n '__stickd_at reload' -s h -l help -d 'Print help'
 
 complete -c stickd -n '__stickd_at replay' -l shards -x -d 'In how many parts each table is kept, 1 to 64 [default: 1]'
 complete -c stickd -n '__stickd_at replay' -l purge -x -d 'How many of its oldest entries a full table removes for a new one, 1 to 1024 [default: 1]'
@@ -107,4 +112,4 @@ complete -c stickd -n '__stickd_at top' -l by -x -d 'The number, as conn_rate [d
 complete -c stickd -n '__stickd_at top' -l rows -x -d 'How many entries are shown at most, 1 to 1000 [default: 20]'
 complete -c stickd -n '__stickd_at top' -s h -l help -d 'Print help'
 
-complete -c stickd -n '__stickd_at help' -a 'adopt check ctl replay run stop top help'
+complete -c stickd -n '__stickd_at help' -a 'adopt check ctl reload replay run stop top help'

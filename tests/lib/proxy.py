@@ -26,6 +26,11 @@ def reject_above(limit):
     return f'tcp-request connection reject if {{ sc0_conn_cur gt {limit} }}'
 
 
+def configuration(*lines, others=''):
+    """The text of a configuration with one section that listens, of these lines, and others."""
+    return '\n    '.join(['listen www', *lines]) + '\n' + others
+
+
 def free_port():
     """A port of 127.0.0.1 that nobody has, below those that the system gives clients: one that connects before anybody listens
     there could be given that very port, and would hold it by a connection to itself."""
@@ -69,8 +74,9 @@ def raise_descriptors(wanted):
 class Server:
     """A server on a port of its own, each client of which is handed to a function in a thread."""
 
-    def __init__(self, serve):
-        self.listener = socket.create_server(('127.0.0.1', 0), backlog=512)
+    def __init__(self, serve, host='127.0.0.1'):
+        family = socket.AF_INET6 if ':' in host else socket.AF_INET
+        self.listener = socket.create_server((host, 0), family=family, backlog=512)
         self.port, self.serve = self.listener.getsockname()[1], serve
         threading.Thread(target=self.accept, daemon=True).start()
 
@@ -173,11 +179,11 @@ class Proxy:
                  host='127.0.0.1'):
         self.room = tempfile.TemporaryDirectory(prefix='stickd-')
         self.port, self.path = free_port(), os.path.join(self.room.name, 'commands')
-        conf = os.path.join(self.room.name, 'proxy.cfg')
-        with open(conf, 'w', encoding='utf-8') as file:
-            file.write('\n    '.join(['listen www', f'bind 127.0.0.1:{self.port}', *lines, f'server one {host}:{server}']) + '\n' + others)
+        self.conf = os.path.join(self.room.name, 'proxy.cfg')
+        with open(self.conf, 'w', encoding='utf-8') as file:
+            file.write(configuration(f'bind 127.0.0.1:{self.port}', *lines, f'server one {host}:{server}', others=others))
         self.descriptors, self.environment, self.umask = descriptors, environment, umask
-        self.words = ['run', conf, '--socket', self.path, '--threads', str(threads), *words]
+        self.words = ['run', self.conf, '--socket', self.path, '--threads', str(threads), *words]
         self.start()
 
     def start(self):

@@ -83,6 +83,13 @@ impl<'a, R> Conn<'a, R> {
         }
     }
 
+    /// The setup that judges it, from its first rule to its end.
+    pub fn setup(&self) -> &'a Setup
+        ensures { result.now ≡ judged_by self.now }
+    {
+        self.eval.setup()
+    }
+
     /// How many shards each table of its setup has.
     pub fn shards(&self) -> u32
         ensures { result ≡ (judged_by self.now).shards }

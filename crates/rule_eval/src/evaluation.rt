@@ -130,6 +130,14 @@ impl<'a> Eval<'a> {
         Eval { case, point }
     }
 
+    /// The setup whose rules it goes by.
+    #[tactic(auto, unfolding(crate::specs::Eval::setup_of))]
+    pub fn setup(&self) -> &'a Setup
+        ensures { result.now ≡ setup_of self.now }
+    {
+        self.case.setup
+    }
+
     /// How many shards each table of its setup has.
     #[tactic(auto, unfolding(crate::specs::Eval::setup_of))]
     pub fn shards(&self) -> u32

@@ -1,4 +1,4 @@
-//! What a running stickd is asked: commands, its greatest entries, its stop; `main` calls it.
+//! What a running stickd is asked: commands, its greatest entries, new rules, its stop; `main` calls it.
 
 use crate::refuse;
 use crate::run_plan::{read_drain, read_patience};
@@ -8,7 +8,7 @@ use std::net::Net;
 use std::process::ExitCode;
 use std::rt::{Env, Files};
 use std::time::Clock;
-use stickd_ctl::{Ctl, Stop, Top, ask_running, show_top, stop_running};
+use stickd_ctl::{Ctl, Reload, Stop, Top, ask_running, reload_running, show_top, stop_running};
 use stickd_input::{STATS, TO};
 
 /// Sends commands to a running stickd, and shows what it answers.
@@ -55,6 +55,22 @@ pub(crate) fn show_greatest<R: Net + Clock + Env + Print + Eprint + AllocGlobal>
         rows: arguments.get_one::<u32>("rows").unwrap_or(20) as usize,
     };
     Ok(ExitCode::from(show_top(rt, &asked)?))
+}
+
+/// Has a running stickd read its rules again.
+pub(crate) fn reload_named<R: Net + Print + Eprint + AllocGlobal>(
+    rt: &R,
+    arguments: &ArgMatches<'_>,
+) -> io::Result<ExitCode> {
+    let patience = match read_patience(arguments) {
+        Ok(patience) => patience,
+        Err(bad) => return refuse(rt, bad),
+    };
+    let asked = Reload {
+        path: arguments.get_str(STATS).unwrap_or(""),
+        patience,
+    };
+    Ok(ExitCode::from(reload_running(rt, &asked)?))
 }
 
 /// Stops a running stickd.

@@ -9,25 +9,28 @@ ghost use Rattle.admit_drive.specs.Tables.{CanOpen};
 
 mod adopted_file;
 mod asking;
+mod bad_word;
 mod checking;
+mod client_words;
 mod run_plan;
 mod saved_file;
+mod socket_words;
 
 use adopt::{Asked, adopt_file};
 use adopted_file::{Start, read_wishes, take_start};
-use asking::{ask_named, show_greatest, stop_named};
+use asking::{ask_named, reload_named, show_greatest, stop_named};
+use bad_word::BadWord;
 use base_console::{Attended, Console, Lines};
 use base_sequence::NoMemory;
 use byte_ports::{StreamSink, StreamSource};
 use checking::{check, check_haproxy};
 use clap::ArgMatches;
+use client_words::{read_believed, read_binds};
 use log::{Log, error};
 use rule_model::{Config, Setup};
-use run_plan::{
-    BadWord, read_believed, read_binds, read_drain, read_patience, read_plan, read_stats,
-    with_names,
-};
+use run_plan::{read_plan, with_names};
 use saved_file::replay_saved;
+use socket_words::read_stats;
 use std::alloc::Global;
 use std::net::{Net, TcpListener, TcpStream};
 use std::process::ExitCode;
@@ -42,7 +45,7 @@ use stickd_input::{
     read_keeping, read_served, read_text, server_name,
 };
 use stickd_script::{BadLines, FaultKind, ReplayFault, replay_script};
-use tcp_proxy::{Plan, ProxyRuntime, run_pooled};
+use tcp_proxy::{Plan, ProxyRuntime, Source, run_pooled};
 use tcp_watch::{Surroundings, read_surroundings};
 
 /// The status of a bad command line.
@@ -130,6 +133,7 @@ fn run_command<
         }
         Some(("check", arguments)) => check(rt, arguments)?,
         Some(("ctl", arguments)) => return ask_named(rt, arguments),
+        Some(("reload", arguments)) => return reload_named(rt, arguments),
         Some(("run", arguments)) if arguments.get_flag(HAPROXY) => {
             return serve_haproxy(rt, attended, arguments, words);
         }
@@ -294,8 +298,11 @@ fn serve_file<R: ProxyRuntime + Files + AllocGlobal + Eprint + RandomSource + Pr
         Ok(stats) => stats,
         Err(bad) => return refuse(rt, bad),
     };
+    let path = arguments.get_str("FILE").unwrap_or("");
+    let source = source_of(rt, path, given.is_some());
     let plan = match read_plan(
         arguments,
+        source,
         binds.as_slice(),
         believed.as_slice(),
         stats.as_slice(),
@@ -306,7 +313,7 @@ fn serve_file<R: ProxyRuntime + Files + AllocGlobal + Eprint + RandomSource + Pr
     };
     let read = match given {
         Some(text) => Some(text),
-        None => read_text(rt, arguments.get_str("FILE").unwrap_or(""))?,
+        None => read_text(rt, path)?,
     };
     let Some(text) = read else {
         return Ok(ExitCode::FAILURE);
@@ -314,6 +321,17 @@ fn serve_file<R: ProxyRuntime + Files + AllocGlobal + Eprint + RandomSource + Pr
     match read_served(rt, text.as_slice())? {
         Some(config) => serve_config(rt, text.as_slice(), &config, read_keeping(arguments), plan),
         None => Ok(ExitCode::FAILURE),
+    }
+}
+
+/// Where the rules of a run come from: a file that can be read again, or one that gives its bytes once; or they were adopted.
+fn source_of<'a, R: Files>(rt: &R, path: &'a str, is_adopted: bool) -> Source<'a> {
+    if is_adopted {
+        return Source::Haproxy;
+    }
+    match fs::metadata(rt, path) {
+        Ok(found) if found.is_file() => Source::File(path),
+        _ => Source::NoFile,
     }
 }
 

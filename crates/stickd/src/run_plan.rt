@@ -1,38 +1,26 @@
 //! What `stickd run` is asked, read from the command line; `main` calls `read_plan` before it runs the proxy.
 
-ghost use Rattle.std.specs.Prelude.{◌≡◌, ◌≤◌, Some, IfOk, IfSome, length, map};
-ghost use Rattle.rule_addresses.specs.Addresses.{bind_of};
+ghost use Rattle.std.specs.Prelude.{◌≡◌, ◌≤◌, IfOk};
 
+use crate::bad_word::{BadWord, read_timeout};
+use crate::client_words::read_proxies;
+use crate::socket_words::read_socket;
 use clap::ArgMatches;
 use proxy_header::Version;
 use rule_addresses::{Endpoint, Network, read_bind};
-use rule_words::read_time;
-use std::alloc::Global;
-use std::str;
 use stickd_ctl::PATIENCE;
 use stickd_input::{
-    ACCEPT_PROXY, BIND, CHECK, CLIENT, CONNECT, DRAIN, FIN, HEADER, KEEPALIVE, LEVEL, LOAD,
-    LOAD_LENIENT, LOG_REJECTED, METRICS, NetworksFault, PROXIES_ONLY, REPORT, SAVE, SAVE_EVERY,
-    SEND_PROXY, SEND_PROXY_V2, SERVER, SOCKET, STATS, TIMEOUT, USER_TIMEOUT, VERSION,
-    read_networks,
+    CHECK, CLIENT, CONNECT, DRAIN, FIN, KEEPALIVE, LOAD, LOAD_LENIENT, LOG_REJECTED, METRICS,
+    REPORT, SAVE, SAVE_EVERY, SEND_PROXY, SEND_PROXY_V2, SERVER, TIMEOUT, USER_TIMEOUT, VERSION,
 };
 use table_cli::Misfits;
-use table_socket::read_mode;
 use tcp_link::{Keepalive, Liveness, Timeouts, UserTimeout};
-use tcp_proxy::{
-    About, KeepPlan, MOST_STATS_SOCKETS, Plan, STATS_CLIENTS, SocketPlan, StatsPlan, WatchPlan,
-};
-use tcp_relay::{Limits, Proxies};
-use tcp_watch::{Level, Surroundings, level_named};
+use tcp_proxy::{About, KeepPlan, Plan, STATS_CLIENTS, Source, StatsPlan, WatchPlan};
+use tcp_relay::Limits;
+use tcp_watch::Surroundings;
 
 /// How long a server may take to accept a connection where that isn't said, in ms.
 const CONNECT_TIME: u64 = 5_000;
-
-/// How long a client of the command socket may be silent where that isn't said, in ms.
-const SOCKET_TIME: u64 = 10_000;
-
-/// The permissions of the command socket's file where they aren't said: its owner's alone.
-const SOCKET_MODE: u32 = 0o600;
 
 /// How many connections may wait to be accepted at most: what listen(2) can be asked.
 const MOST_BACKLOG: u32 = 0x7fff_ffff;
@@ -42,58 +30,6 @@ const RELEASE_DATE: &str = "2026/11/30";
 
 /// How long open connections may go on once the program is to stop, where that isn't said, in ms.
 const DRAIN_TIME: u64 = 30_000;
-
-/// How often `--bind` may be given.
-const MOST_BINDS: usize = 16;
-
-/// How long a proxy's header may take where that isn't said, in ms.
-const HEADER_TIME: u64 = 5_000;
-
-/// The options of a stats socket come once each, so that this many looks are one more than there are options.
-const MOST_STATS_OPTIONS: u32 = 4;
-
-/// A word behind an option that wants another.
-#[derive(Clone, Copy, Debug, thiserror::Error)]
-pub enum BadWord<'a> {
-    #[error("'{word}' is no time for --{option}: it is 1 ms to 2147483647 ms, as 1500ms, 5s or 10m")]
-    Time { option: &'static str, word: &'a str },
-    #[error("'{0}' is no mode for --socket-mode: it is one to four octal digits up to 0777, as 600 or 0660")]
-    Mode(&'a str),
-    #[error("'{word}' is no place to listen for --{option}: it is ADDRESS:PORT, as 127.0.0.1:8080, [::1]:8080 or *:8080")]
-    Bind { option: &'static str, word: &'a str },
-    #[error("'{0}' is no address or network for --accept-proxy: it is one as 10.0.0.1, 10.0.0.0/8 or 2001:db8::/32, or up to 64 with a comma between any two")]
-    Network(&'a str),
-    #[error("'{0}' is no socket for --stats-socket: it is PATH, followed by any of ,mode=M ,group=G and ,level=L once: M one to four octal digits up to 0777, L user, operator or admin")]
-    Stats(&'a str),
-    #[error("'{0}' is no level for --socket-level: it is user, operator or admin")]
-    Level(&'a str),
-    #[error("--bind can be given 16 times, and no more")]
-    ManyBinds,
-    #[error("--stats-socket can be given 4 times, and no more")]
-    ManyStats,
-    #[error("--accept-proxy takes 64 addresses or networks, and no more")]
-    ManyNetworks,
-    #[error("--{0} wants --accept-proxy, which names the proxies")]
-    NoProxies(&'static str),
-    #[error("--save-every wants --save, which names the file")]
-    NothingToSave,
-    #[error("out of memory")]
-    Memory,
-}
-
-/// The time that an option names, in ms. None where it isn't given.
-fn read_timeout<'a>(
-    arguments: &ArgMatches<'a>,
-    option: &'static str,
-) -> Result<Option<u64>, BadWord<'a>> {
-    let Some(word) = arguments.get_str(option) else {
-        return Ok(None);
-    };
-    match read_time(word.as_bytes()) {
-        Ok(time) => Ok(Some(u64::from(time))),
-        Err(_) => Err(BadWord::Time { option, word }),
-    }
-}
 
 /// How long a connection may be silent.
 fn read_timeouts<'a>(arguments: &ArgMatches<'a>) -> Result<Timeouts, BadWord<'a>> {
@@ -119,228 +55,6 @@ fn read_told_by(arguments: &ArgMatches<'_>) -> Option<Version> {
         return Some(Version::Two);
     }
     arguments.get_flag(SEND_PROXY).then_some(Version::One)
-}
-
-/// The permissions of the command socket's file.
-fn read_socket_mode<'a>(arguments: &ArgMatches<'a>) -> Result<u32, BadWord<'a>> {
-    let Some(word) = arguments.get_str("socket-mode") else {
-        return Ok(SOCKET_MODE);
-    };
-    match read_mode(word) {
-        Some(mode) => Ok(mode),
-        None => Err(BadWord::Mode(word)),
-    }
-}
-
-/// The command socket.
-fn read_socket<'a>(arguments: &ArgMatches<'a>) -> Result<SocketPlan<'a>, BadWord<'a>>
-    ensures { IfOk result (λ socket. (1 ≤ socket.clients) × (socket.clients ≤ 64)) }
-{
-    let mode = match read_socket_mode(arguments) {
-        Ok(mode) => mode,
-        Err(bad) => return Err(bad),
-    };
-    let timeout = match read_timeout(arguments, SOCKET) {
-        Ok(timeout) => timeout.unwrap_or(SOCKET_TIME),
-        Err(bad) => return Err(bad),
-    };
-    let level = match read_level(arguments) {
-        Ok(level) => level,
-        Err(bad) => return Err(bad),
-    };
-    Ok(SocketPlan {
-        level,
-        path: arguments.get_str("socket").unwrap_or(""),
-        mode,
-        group: arguments.get_str("socket-group"),
-        clients: arguments
-            .get_one::<u32>("socket-clients")
-            .unwrap_or(4)
-            .clamp(1, 64),
-        timeout,
-    })
-}
-
-/// Where clients come in besides the `bind` of the configuration.
-pub fn read_binds<'a>(
-    alloc: Global,
-    arguments: &ArgMatches<'a>,
-) -> Result<Vec<Endpoint>, BadWord<'a>> {
-    match arguments.get_strs(BIND) {
-        Some(words) => read_each(alloc, words),
-        None => Ok(Vec::new(alloc)),
-    }
-}
-
-/// The endpoints that these words say, each of which it has to.
-fn read_each<'a>(alloc: Global, words: &[&'a str]) -> Result<Vec<Endpoint>, BadWord<'a>>
-    ensures each { IfOk result (λ binds. map (λ bind. Some bind) binds.items ≡ map (λ word. bind_of word.now) words.now) }
-    ensures few { IfOk result (λ binds. length binds.items ≤ 16) }
-{
-    if words.len() > MOST_BINDS {
-        return Err(BadWord::ManyBinds);
-    }
-    let mut binds = Vec::new(alloc);
-    for word in words {
-        let Some(bind) = read_bind(word.as_bytes()) else {
-            return Err(BadWord::Bind { option: BIND, word });
-        };
-        if binds.push(bind).is_err() {
-            return Err(BadWord::Memory);
-        }
-    }
-    Ok(binds)
-}
-
-/// Whoever is believed to say for whom it connects: nobody, unless that is said.
-pub fn read_believed<'a>(
-    alloc: Global,
-    arguments: &ArgMatches<'a>,
-) -> Result<Vec<Network>, BadWord<'a>> {
-    let Some(word) = arguments.get_str(ACCEPT_PROXY) else {
-        return Ok(Vec::new(alloc));
-    };
-    match read_networks(alloc, word.as_bytes()) {
-        Ok(networks) => Ok(networks),
-        // What stands between the commas of a text is one too.
-        Err(NetworksFault::Wrong(part)) => {
-            Err(BadWord::Network(str::from_utf8(part).unwrap_or(word)))
-        }
-        Err(NetworksFault::Many) => Err(BadWord::ManyNetworks),
-        Err(NetworksFault::NoMemory) => Err(BadWord::Memory),
-    }
-}
-
-/// Which proxies are believed, where one is: by these networks. What is said of proxies wants some.
-fn read_proxies<'a, 'n>(
-    arguments: &ArgMatches<'a>,
-    networks: &'n [Network],
-) -> Result<Option<Proxies<'n>>, BadWord<'a>> {
-    let timeout = read_timeout(arguments, HEADER)?;
-    let excludes_others = arguments.get_flag(PROXIES_ONLY);
-    if !networks.is_empty() {
-        return Ok(Some(Proxies {
-            networks,
-            excludes_others,
-            timeout: timeout.unwrap_or(HEADER_TIME),
-        }));
-    }
-    if excludes_others {
-        return Err(BadWord::NoProxies(PROXIES_ONLY));
-    }
-    if timeout.is_some() {
-        return Err(BadWord::NoProxies(HEADER));
-    }
-    Ok(None)
-}
-
-/// What follows the path of a stats socket.
-#[derive(Clone, Copy)]
-struct StatsOptions<'a> {
-    mode: Option<u32>,
-    group: Option<&'a str>,
-    level: Option<Level>,
-}
-
-impl<'a> StatsOptions<'a> {
-    /// With one option more. None where it is none, or has come already.
-    fn with(self, option: &'a str) -> Option<StatsOptions<'a>>
-        requires { IfSome self.mode (λ mode. mode ≤ 511) }
-        ensures { IfSome result (λ options. IfSome options.mode (λ mode. mode ≤ 511)) }
-    {
-        match option.split_once('=')? {
-            ("mode", mode) if self.mode.is_none() => Some(StatsOptions {
-                mode: Some(read_mode(mode)?),
-                ..self
-            }),
-            ("group", group) if self.group.is_none() && !group.is_empty() => Some(StatsOptions {
-                group: Some(group),
-                ..self
-            }),
-            ("level", level) if self.level.is_none() => Some(StatsOptions {
-                level: Some(level_named(level.as_bytes())?),
-                ..self
-            }),
-            _ => None,
-        }
-    }
-}
-
-/// A stats socket, of which nobody but its owner may connect, and who connects may do all, where it isn't said otherwise.
-fn split_stats(word: &str) -> Option<StatsPlan<'_>>
-    ensures mode { IfSome result (λ stats. stats.mode ≤ 511) }
-{
-    let mut options = StatsOptions {
-        mode: None,
-        group: None,
-        level: None,
-    };
-    let (path, mut rest) = match word.split_once(',') {
-        Some((path, rest)) => (path, Some(rest)),
-        None => (word, None),
-    };
-    for _ in 0..MOST_STATS_OPTIONS {
-        let Some(some) = rest else {
-            return Some(StatsPlan {
-                path,
-                mode: options.mode.unwrap_or(SOCKET_MODE),
-                group: options.group,
-                level: options.level.unwrap_or(Level::Admin),
-            });
-        };
-        match some.split_once(',') {
-            Some((option, more)) => {
-                options = options.with(option)?;
-                rest = Some(more);
-            }
-            None => {
-                options = options.with(some)?;
-                rest = None;
-            }
-        }
-    }
-    None
-}
-
-/// The sockets on which HAProxy's tools are answered.
-pub fn read_stats<'a>(
-    alloc: Global,
-    arguments: &ArgMatches<'a>,
-) -> Result<Vec<StatsPlan<'a>>, BadWord<'a>> {
-    match arguments.get_strs(STATS) {
-        Some(words) => read_each_stats(alloc, words),
-        None => Ok(Vec::new(alloc)),
-    }
-}
-
-/// The stats sockets that these words say, each of which it has to.
-fn read_each_stats<'a>(alloc: Global, words: &[&'a str]) -> Result<Vec<StatsPlan<'a>>, BadWord<'a>>
-    ensures few { IfOk result (λ stats. length stats.items ≤ 4) }
-{
-    if words.len() > MOST_STATS_SOCKETS {
-        return Err(BadWord::ManyStats);
-    }
-    let mut each = Vec::new(alloc);
-    for word in words {
-        let Some(stats) = split_stats(word) else {
-            return Err(BadWord::Stats(word));
-        };
-        if each.push(stats).is_err() {
-            return Err(BadWord::Memory);
-        }
-    }
-    Ok(each)
-}
-
-/// What the clients of the command socket may do: all, where it isn't said otherwise.
-fn read_level<'a>(arguments: &ArgMatches<'a>) -> Result<Level, BadWord<'a>> {
-    let Some(word) = arguments.get_str(LEVEL) else {
-        return Ok(Level::Admin);
-    };
-    match level_named(word.as_bytes()) {
-        Some(level) => Ok(level),
-        None => Err(BadWord::Level(word)),
-    }
 }
 
 /// Where Prometheus is answered.
@@ -390,6 +104,7 @@ fn read_keep<'a>(arguments: &ArgMatches<'a>) -> Result<KeepPlan<'a>, BadWord<'a>
 /// shared out among the threads, of which there are no more than connections.
 pub fn read_plan<'a>(
     arguments: &'a ArgMatches<'_>,
+    source: Source<'a>,
     more_binds: &'a [Endpoint],
     believed: &'a [Network],
     stats: &'a [StatsPlan<'a>],
@@ -414,6 +129,7 @@ pub fn read_plan<'a>(
     };
     let backlog = arguments.get_one::<u32>("backlog");
     Ok(Plan {
+        source,
         socket,
         more_binds,
         backlog: backlog.unwrap_or(connections).clamp(1, MOST_BACKLOG),

@@ -12,3 +12,4 @@ pub mod Replacing
 pub mod Windows
 pub mod Hints
 pub mod Progressing
+pub mod Reloading

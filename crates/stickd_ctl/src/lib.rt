@@ -1,8 +1,8 @@
 //! What an operator asks a running stickd on its sockets: commands and their answers, as they come or as JSON, the entries with
-//! the greatest numbers, and its end.
+//! the greatest numbers, new rules, and its end.
 //!
 //! Answers are bytes. Their lines are read, compared and printed by pure functions, whose contracts cite the definitions in
-//! `specs`. The socket and the terminal are in `client`, `asking`, `showing` and `stopping`, which only call them.
+//! `specs`. The socket and the terminal are in `client`, `asking`, `showing`, `reloading` and `stopping`, which only call them.
 #![tactic(auto)]
 
 mod asking;
@@ -18,6 +18,7 @@ mod marks;
 mod progress;
 mod progress_line;
 mod ranking;
+mod reloading;
 mod replacing;
 mod saved;
 mod saving;
@@ -39,6 +40,7 @@ pub use marks::push_marked;
 pub use progress::{Progress, is_due, push_progress};
 pub use progress_line::ProgressLine;
 pub use ranking::{Ranked, greatest};
+pub use reloading::{Outcome, Reload, outcome_of, reload_running, said_by};
 pub use replacing::{Lying, replace_file, try_to_replace};
 pub use saved::{Entry, Saved};
 pub use show_table::show_command;

@@ -10,18 +10,20 @@ use crate::header_options::{
     accept_proxy_option, header_option, proxies_only_option, send_proxy_option,
     send_proxy_v2_option,
 };
-use crate::help::{ADOPT_HELP, CHECK_HELP, CTL_HELP, REPLAY_HELP, RUN_HELP, STOP_HELP, TOP_HELP};
+use crate::help::{
+    ADOPT_HELP, CHECK_HELP, CTL_HELP, RELOAD_HELP, REPLAY_HELP, RUN_HELP, STOP_HELP, TOP_HELP,
+};
 use crate::options::{
     backlog_option, bind_option, check_option, client_option, clients_option, connect_option,
     connections_option, drain_option, fin_option, group_option, ipv4_prefix_option,
     ipv6_prefix_option, keepalive_option, level_option, metrics_option, mode_option, purge_option,
     rejected_option, report_option, retries_option, roll_option, server_option, shards_option,
     socket_option, socket_time_option, stats_clients_option, stats_option, stop_drain_option,
-    stop_option, stopped_option, threads_option, user_timeout_option,
+    stop_option, threads_option, user_timeout_option,
 };
 use crate::saved_options::{
-    fitting_option, lenient_option, load_option, patience_option, save_every_option, save_option,
-    to_option,
+    fitting_option, lenient_option, load_option, patience_option, reloaded_option,
+    save_every_option, save_option, stopped_option, to_option,
 };
 use clap::{Arg, ArgMatches, Command, Error};
 use std::alloc::{AllocError, Global};
@@ -169,6 +171,15 @@ fn top_command<'a>(alloc: Global) -> Result<Command<'a>, AllocError> {
     )
 }
 
+/// `stickd reload`.
+fn reload_command<'a>(alloc: Global) -> Result<Command<'a>, AllocError> {
+    let command = Command::new(alloc, "reload")
+        .about("Have a running stickd read its rules again")
+        .after_help(RELOAD_HELP)
+        .arg(reloaded_option(alloc));
+    add_argument(command, patience_option(alloc))
+}
+
 /// `stickd replay`.
 fn replay_command<'a>(alloc: Global) -> Result<Command<'a>, AllocError> {
     let file = file_argument(
@@ -293,6 +304,7 @@ fn program_command<'a>(alloc: Global, has_haproxy: bool) -> Result<Command<'a>, 
     let command = add_subcommand(bare_program(alloc), adopt_command(alloc))?;
     let command = add_subcommand(command, check_command(alloc))?;
     let command = add_subcommand(command, ctl_command(alloc))?;
+    let command = add_subcommand(command, reload_command(alloc))?;
     let command = add_subcommand(command, replay_command(alloc))?;
     let command = add_subcommand(command, run_command(alloc, has_haproxy))?;
     let command = add_subcommand(command, stop_command(alloc))?;

@@ -97,6 +97,16 @@ where that was blocked as it started ('env --block-signal=TERM,INT stickd run ..
 accepts none more, lets open connections end, and says the same of each table's counts. A
 second 'stickd stop', or the other one of both signals, ends open connections at once.";
 
+/// What `stickd reload --help` says last.
+pub(crate) const RELOAD_HELP: &str = "\
+Asks the stickd whose stats socket is at PATH to read its FILE again, by the options of its
+start, and prints what it answers, as 'Reloaded: version 2, 3 rules, server 10.0.0.5:80.'.
+Connections that begin after that are judged by the new rules. Those that are open stay,
+with their server and their entries. A FILE that has a fault, or that changes a table or
+'bind', is refused, and then nothing changes. The status is 1 where it is refused, where
+nobody answers at PATH, and where the program says nothing for --timeout's TIME; why is
+said on standard error. 'stickd check FILE' says beforehand whether FILE has a fault.";
+
 /// What `stickd stop --help` says last.
 pub(crate) const STOP_HELP: &str = "\
 Asks the stickd whose stats socket is at PATH to stop, and waits until it has ended. It

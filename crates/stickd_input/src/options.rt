@@ -336,17 +336,6 @@ pub(crate) fn stats_clients_option<'a>(alloc: Global) -> Arg<'a> {
     .default_value("4")
 }
 
-/// The socket of the program that is to stop.
-pub(crate) fn stopped_option<'a>(alloc: Global) -> Arg<'a> {
-    value_option(
-        alloc,
-        STATS,
-        "PATH",
-        "The stats socket of the program that is to stop",
-    )
-    .required(true)
-}
-
 /// Where Prometheus is answered.
 pub(crate) fn metrics_option<'a>(alloc: Global) -> Arg<'a> {
     value_option(

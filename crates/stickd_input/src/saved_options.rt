@@ -1,6 +1,7 @@
 //! The options that have to do with saved tables, and with asking a running program; `command_line` gives them to its commands.
 
 use crate::arguments::{flag_option, value_option};
+use crate::options::STATS;
 use clap::Arg;
 use std::alloc::Global;
 
@@ -79,6 +80,28 @@ pub(crate) fn to_option<'a>(alloc: Global) -> Arg<'a> {
         "FILE",
         "Write what 'save' answers to FILE, whole or not at all [default: standard output]",
     )
+}
+
+/// The socket of the program whose rules are read again.
+pub(crate) fn reloaded_option<'a>(alloc: Global) -> Arg<'a> {
+    value_option(
+        alloc,
+        STATS,
+        "PATH",
+        "The stats socket of the program whose rules are read again",
+    )
+    .required(true)
+}
+
+/// The socket of the program that is to stop.
+pub(crate) fn stopped_option<'a>(alloc: Global) -> Arg<'a> {
+    value_option(
+        alloc,
+        STATS,
+        "PATH",
+        "The stats socket of the program that is to stop",
+    )
+    .required(true)
 }
 
 /// How long a program may say nothing that is asked.

@@ -33,6 +33,13 @@ impl ServerSocket {
         Ok(ServerSocket { socket, server })
     }
 
+    /// The server that it is for.
+    pub fn server(&self) -> SocketAddr
+        ensures { result ≡ self.now.server }
+    {
+        self.server
+    }
+
     /// Begins to connect it. Where the system says at once that it can't, the socket is given back with the error.
     pub(crate) fn connect(self) -> Result<TcpStream, Refusal> {
         let ServerSocket { socket, server } = self;

@@ -7,4 +7,5 @@ pub mod Opened
 pub mod Saying
 pub mod Watching
 pub mod Places
+pub mod Reloading
 pub mod Trust

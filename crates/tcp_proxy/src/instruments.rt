@@ -1,6 +1,9 @@
 //! What a run counts by, is drained by, and tells others by; `running` makes it before the threads start.
 
+ghost use Rattle.std.specs.Prelude.{◌≤◌};
+
 use crate::plan::Plan;
+use crate::reloading::Reloads;
 use crate::reporting::Reports;
 use crate::running_program::{Board, Running};
 use crate::shared::ProxyRuntime;
@@ -11,10 +14,11 @@ use log::{Log, warn};
 use rule_model::Setup;
 use std::alloc::Global;
 use std::rt::Files;
+use std::sync::Mutex;
 use std::sync::atomic::Ordering;
 use std::time::{Clock, SystemTime};
 use std::{fs, io, str};
-use tcp_relay::{Control, Drain, StartGate, socket_address};
+use tcp_relay::{Control, Drain, StartGate, Versions, socket_address};
 use tcp_stats::{Cells, Gauge, LastTimes};
 use tcp_watch::{Level, Notifier, ProcessStatus, StopSignal};
 
@@ -45,7 +49,11 @@ const HOSTNAME: &str = "/proc/sys/kernel/hostname";
 /// What a run counts by, is drained by, and tells others by.
 #[derive(Drop)]
 pub(crate) struct Instruments {
+    alloc: Global,
     board: Board,
+    /// The rules that follow those of the start, and who has them follow.
+    versions: Versions,
+    reload_turn: Mutex<()>,
     /// Of each thread that serves connections, where somebody looks.
     cells: Vec<Cells>,
     /// Who was the last that something went wrong for, where somebody looks.
@@ -133,7 +141,10 @@ impl Instruments {
     ) -> Result<Instruments, InstrumentFault> {
         let watched = if plan.is_watched() { plan.threads } else { 0 };
         Ok(Instruments {
+            alloc,
             board: Board::new(plan.stats_places()),
+            versions: Versions::new(alloc)?,
+            reload_turn: Mutex::new(()),
             cells: cells_of(alloc, watched)?,
             lasts: lasts_where(plan.is_watched()),
             notes_rejected: plan.watch.log_rejected,
@@ -190,6 +201,11 @@ impl Instruments {
         }
     }
 
+    /// The rules that follow those of the start.
+    pub fn versions(&self) -> &Versions {
+        &self.versions
+    }
+
     /// The status of the process, where a signal that stops the run may wait in it.
     fn watched_status(&self) -> Option<&ProcessStatus> {
         if self.awaits_signals() {
@@ -203,14 +219,25 @@ impl Instruments {
     pub fn running<'a, R>(
         &'a self,
         rt: &'a R,
+        setup: &'a Setup,
         plan: Plan<'a>,
         sockets: &'a Sockets,
-    ) -> Running<'a, R> {
+    ) -> Running<'a, R>
+        requires { (1 ≤ setup.now.shards) × (setup.now.shards ≤ 64) }
+    {
         Running {
+            alloc: self.alloc,
             rt,
             about: plan.watch.about,
             node: str::from_utf8(self.node.as_slice().trim_ascii()).unwrap_or("?"),
             server: self.server.as_str(),
+            reloads: Reloads {
+                source: plan.source,
+                first: setup,
+                versions: &self.versions,
+                connections: plan.limits.connections,
+                turn: &self.reload_turn,
+            },
             threads: plan.threads,
             connections: plan.limits.connections,
             control: self.control(),

@@ -13,10 +13,13 @@ mod keeping;
 mod last_words;
 mod listeners;
 mod loading;
+mod next_version;
 mod opening;
 mod places;
 mod plan;
+mod reloading;
 mod reporting;
+mod rereading;
 mod running;
 mod running_program;
 mod saver;
@@ -30,7 +33,7 @@ mod timetable;
 mod trust;
 
 pub use plan::{
-    About, KeepPlan, METRICS_CLIENTS, MOST_STATS_SOCKETS, Plan, STATS_CLIENTS, SocketPlan,
+    About, KeepPlan, METRICS_CLIENTS, MOST_STATS_SOCKETS, Plan, STATS_CLIENTS, SocketPlan, Source,
     StatsPlan, WatchPlan,
 };
 pub use running::{run_pooled, run_proxy};

@@ -94,9 +94,22 @@ pub struct KeepPlan<'a> {
     pub save_every: Option<u64>,
 }
 
+/// Where the rules came from at the start, and are read again.
+#[derive(Clone, Copy, Debug)]
+pub enum Source<'a> {
+    /// The file of this path.
+    File(&'a str),
+    /// A pipe or the like, which gives its bytes once.
+    NoFile,
+    /// A file of HAProxy's, adopted.
+    Haproxy,
+}
+
 /// What a run of the proxy is asked.
 #[derive(Clone, Copy, Debug)]
 pub struct Plan<'a> {
+    /// Where its rules came from.
+    pub source: Source<'a>,
     /// The socket on which commands are answered.
     pub socket: SocketPlan<'a>,
     /// How many threads serve connections: 1 to 64.

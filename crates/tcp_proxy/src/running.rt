@@ -270,18 +270,20 @@ fn serve_and_settle<
     workers: Vec<Vec<SharedSeat<J>>>,
     mut service_threads: Vec<ServiceThread<J>>,
 ) -> io::Result<bool>
+    requires shards { (1 ≤ setup.now.shards) × (setup.now.shards ≤ 64) }
     requires server { is_some setup.now.server ≡ true }
     requires tables { AreTablesOf setup.now tables.items }
     requires seats { AreSeats (length tables.items) plan.threads workers }
     requires threads { (1 ≤ plan.threads) × (plan.threads ≤ 64) }
 {
-    let running = instruments.running(rt, plan, sockets);
+    let running = instruments.running(rt, setup, plan, sockets);
     // From here on no thread waits for who reads standard error: it looks for signals, drains or saves.
     rt.wait_at_most(0);
     let shared = Shared {
         alloc,
         rt,
         setup,
+        versions: instruments.versions(),
         tables: tables.as_slice(),
         listeners: sockets.listeners.each.as_slice(),
         socket: &sockets.socket.listener,

@@ -6,12 +6,18 @@ ghost use Rattle.tcp_proxy.specs.Draining.{shutdown_of};
 use crate::asks::drain_time;
 use crate::places::Places;
 use crate::plan::{About, MOST_STATS_SOCKETS, WatchPlan};
+use crate::reloading::{Reloaded, Reloads};
 use crate::reporting::Reports;
+use crate::rereading::NotReloaded;
 use crate::sockets::Socket;
 use base_clock::{Clock, RunningClock, Start};
+use base_sequence::NoMemory;
+use log::{Log, info, warn};
 use rule_warnings::allowed_descriptors;
+use std::alloc::Global;
 use std::net::{Net, TcpListener};
 use std::os::unix::net::UnixListener;
+use std::sync::Wait;
 use std::sync::atomic::{AtomicBool, AtomicU64, Ordering};
 use std::{array, time};
 use tcp_relay::{Control, Listener};
@@ -25,6 +31,8 @@ pub(crate) struct ServiceCounts {
     rolls: AtomicU64,
     expiries: AtomicU64,
     refusals: AtomicU64,
+    reloads: AtomicU64,
+    reloads_refused: AtomicU64,
 }
 
 impl ServiceCounts {
@@ -35,6 +43,8 @@ impl ServiceCounts {
             rolls: AtomicU64::new(0),
             expiries: AtomicU64::new(0),
             refusals: AtomicU64::new(0),
+            reloads: AtomicU64::new(0),
+            reloads_refused: AtomicU64::new(0),
         }
     }
 
@@ -45,6 +55,8 @@ impl ServiceCounts {
             Count::Rolls => Some(&self.rolls),
             Count::Expiries => Some(&self.expiries),
             Count::Refusals => Some(&self.refusals),
+            Count::Reloads => Some(&self.reloads),
+            Count::ReloadsRefused => Some(&self.reloads_refused),
             _ => None,
         }
     }
@@ -153,11 +165,14 @@ impl Board {
 /// The running proxy, as its service threads see it.
 #[derive(Drop)]
 pub(crate) struct Running<'a, R> {
+    pub alloc: Global,
     pub rt: &'a R,
     pub about: About<'a>,
-    /// The name of the machine, and the address of the server.
+    /// The name of the machine, and the address of the server at the start.
     pub node: &'a str,
     pub server: &'a str,
+    /// The rules, and how they are renewed.
+    pub reloads: Reloads<'a>,
     /// How many threads serve connections, and how many connections they hold at most.
     pub threads: u32,
     pub connections: u32,
@@ -233,7 +248,17 @@ impl<'a, R: Net + time::Clock> Running<'a, R> {
     }
 }
 
-impl<'r, R: Net + time::Clock> Program for Running<'r, R> {
+impl<'a, R: Log + Wait> Running<'a, R> {
+    /// Has whoever comes from now on be judged by the rules as their file has them now, unless it drains. Appends the answer.
+    fn renew_rules(&self, answer: &mut Vec<u8>) -> Result<Reloaded, NotReloaded<'a>> {
+        if self.control.drain.has_begun() {
+            return Err(NotReloaded::Stopping);
+        }
+        self.reloads.renew(self.alloc, self.rt, answer)
+    }
+}
+
+impl<'r, R: Net + time::Clock + Log + Wait> Program for Running<'r, R> {
     fn snapshot<'a>(&'a self, tables: &'a [TableFacts<'a>]) -> Snapshot<'a> {
         let counts = self.counts();
         Snapshot {
@@ -251,8 +276,9 @@ impl<'r, R: Net + time::Clock> Program for Running<'r, R> {
             session_rate: self.board.sessions.read(),
             counts,
             frontend: self.about.frontend,
-            server: self.server,
+            server: self.reloads.server().unwrap_or(self.server),
             server_name: self.about.server,
+            rules_version: self.reloads.version() as u64,
             tables,
         }
     }
@@ -277,6 +303,23 @@ impl<'r, R: Net + time::Clock> Program for Running<'r, R> {
         self.board.stop_asked.store(true, Ordering::SeqCst);
         let is_draining = self.control.drain.has_begun();
         self.begin_drain(drain_time(drain, self.drain, is_draining));
+    }
+
+    fn reload(&self, answer: &mut Vec<u8>) -> Result<(), NoMemory> {
+        match self.renew_rules(answer) {
+            Ok(reloaded) => {
+                self.board.service.add(Count::Reloads, 1);
+                info!(self.rt; "reloaded: {reloaded}");
+            }
+            Err(reason) => {
+                self.board.service.add(Count::ReloadsRefused, 1);
+                warn!(self.rt; "not reloaded: {reason}");
+                let text = format!(in self.alloc; "Not reloaded: {reason}")?;
+                answer.clear();
+                answer.extend_from_slice(text.as_bytes())?;
+            }
+        }
+        Ok(())
     }
 }
 

@@ -90,6 +90,7 @@ fn serve_where<T: Table + Send, J: Naming + Send + Sync, R: ProxyRuntime>(
         shared.tables,
         seats,
         shared.setup,
+        shared.versions,
         &Open,
         shared.threads,
         shared.limits,

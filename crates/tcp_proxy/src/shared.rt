@@ -18,7 +18,7 @@ use std::sync::Wait;
 use std::thread::Threads;
 use std::time::Clock;
 use stick_table::Table;
-use tcp_relay::{Limits, Listener};
+use tcp_relay::{Limits, Listener, Versions};
 use tcp_watch::Level;
 
 /// What the threads of the proxy ask of the system: sockets, threads, locks, a clock, and a log for which nobody waits. What the proxy asks beside that while
@@ -47,6 +47,8 @@ pub(crate) struct Shared<'a, T: Table, J: Naming, R> {
     pub alloc: Global,
     pub rt: &'a R,
     pub setup: &'a Setup,
+    /// The rules that follow those of the setup.
+    pub versions: &'a Versions,
     pub tables: &'a [Shards<T, J>],
     pub listeners: &'a [Listener],
     pub socket: &'a UnixListener,

@@ -22,3 +22,4 @@ mod ReleasingCalls
 mod ReleasingMoves
 mod ReleasingGoes
 mod EndingGoes
+mod AcrossLemmas

@@ -119,7 +119,7 @@ stores_told current i old new asked reply by had = tables_stay old new asked rep
 
 -- where the limits that it has passed stay so by some connection, it has passed still
 kept_by : (old new : List SeatedState) → ∥ ((setup : Setup) (samples : Samples) (conn : Conn RefState) → IsAccountedFor setup samples old conn → IsAccountedFor setup samples new conn) ∥₁ → HavePassedStill old new
-kept_by old new stay setup conn had = ∥∥₁_map₂ stay had (λ stays it. let still = stays setup it.0 conn (it.1.1, it.1.2) in (it.0, (it.1.0, still.0, still.1)))
+kept_by old new stay first conn had = ∥∥₁_map₂ stay had (λ stays it. let still = stays it.0 it.2 conn (it.3.1, it.3.2) in (it.0, it.1, it.2, (it.3.0, still.0, still.1)))
 
 module _ {C : Type 0} (shows : C → ℕ → C → Type 0) where
   -- one that was judged, and one that came to rest, whatever connection each was

@@ -1,12 +1,13 @@
 -- The addresses of the standard library, as rules know them.
-use Rattle.std.specs.Prelude.{◌≡◌, ℕ}
+use Rattle.std.specs.Prelude.{◌≡◌, ℕ, Option, Some, None}
 use Rattle.std.specs.declared.net.ip_addr.IpAddr.{IpAddr}
 use Rattle.std.specs.declared.net.ip_addr.IpAddr.TheVariants as ips
 use Rattle.std.specs.declared.net.socket_addr.SocketAddr.{SocketAddr}
 use Rattle.std.specs.Net.Addr.{ipv4_octets, ipv6_octets, ipv6_segments, segments_of}
-use Rattle.std.specs.Net.Socket.{socket_ip, socket_port}
+use Rattle.std.specs.Net.Socket.{socket_ip, socket_port, IsPlainSocket}
 use Rattle.rule_addresses.specs.declared.address.Address.{Address}
 use Rattle.rule_addresses.specs.declared.address.Address.TheVariants.{V4, V6}
+use Rattle.rule_addresses.specs.declared.address.Endpoint.{Endpoint}
 use Rattle.rule_eval.specs.declared.wants.Samples.{Samples}
 
 -- its octets
@@ -19,6 +20,11 @@ abbrev pub IsAddress : IpAddr → Address → Type 0
 IsAddress (ips.V4 ip) (V4 bytes) = ipv4_octets ip ≡ bytes
 IsAddress (ips.V6 ip) (V6 bytes) = ipv6_segments ip ≡ segments_of bytes
 IsAddress ip address = ⊥
+
+-- that is where a setup's server is
+abbrev pub IsServer : Option Endpoint → SocketAddr → Type 0
+IsServer None server = ⊥
+IsServer (Some endpoint) server = IsAddress (socket_ip server) endpoint.address × IsPlainSocket server endpoint.port
 
 -- where a connection comes from, and the port that it comes to
 abbrev pub samples_of : SocketAddr → ℕ → Samples

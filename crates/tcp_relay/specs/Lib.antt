@@ -20,6 +20,8 @@ pub mod Serving
 pub mod Sweeps
 pub mod Traffics
 pub mod Untracked
+pub mod Waiting
+pub mod Across
 pub mod Meeting
 pub mod Moments
 pub mod Starting

@@ -19,6 +19,7 @@ use Rattle.shard_locks.specs.ShardsState.{SeatedState}
 use Rattle.rule_model.specs.declared.actions.KeyExpression.TheVariants as keys
 use Rattle.rule_model.specs.declared.actions.Slot.TheVariants.{Sc0}
 use Rattle.rule_model.specs.declared.sections.Setup.{Setup}
+use Rattle.rule_change.specs.Versions.{IsVersionOf}
 use Rattle.rule_eval.specs.Limit.{LimitsFirst}
 use Rattle.rule_eval.specs.Readings.{value_in}
 use Rattle.rule_eval.specs.Tables.{key_of as source_key}
@@ -77,29 +78,29 @@ IsOf setup samples conn = ∥ ((connection : Connection RefState) × Stands conn
 abbrev pub HasPassedAs : Setup → Samples → List SeatedState → Conn RefState → Type 0
 HasPassedAs setup samples seats conn = IsOf setup samples conn × HasPassedLimits setup samples seats conn × IsUntrackedFor setup samples seats conn
 
--- the same, by samples with which it may have come
+-- a version of these first rules judges it, and it has passed by that one and by samples with which it may have come
 abbrev pub HasPassedIn : Setup → List SeatedState → Conn RefState → Type 0
-HasPassedIn setup seats conn = ∥ ((samples : Samples) × HasPassedAs setup samples seats conn) ∥₁
+HasPassedIn first seats conn = ∥ ((setup : Setup) × IsVersionOf first setup × (samples : Samples) × HasPassedAs setup samples seats conn) ∥₁
 
 -- each connection that has passed by what the seats knew has passed by what they know then
 abbrev pub HavePassedStill : List SeatedState → List SeatedState → Type 0
-HavePassedStill old new = (setup : Setup) (conn : Conn RefState) → HasPassedIn setup old conn → HasPassedIn setup new conn
+HavePassedStill old new = (first : Setup) (conn : Conn RefState) → HasPassedIn first old conn → HasPassedIn first new conn
 
 -- one that is open in this place has passed
 abbrev pub Passes : {X : Type 0} → (X → Bool) → (X → Conn RefState) → Setup → List SeatedState → Option X → Type 0
-Passes {X = X} is_open conn_of setup seats place = (one : X) → place ≡ Some one → is_open one ≡ true → HasPassedIn setup seats (conn_of one)
+Passes {X = X} is_open conn_of first seats place = (one : X) → place ≡ Some one → is_open one ≡ true → HasPassedIn first seats (conn_of one)
 
 -- each connection that is open in a place has passed
 abbrev pub HaveAllPassed : {X : Type 0} → (X → Bool) → (X → Conn RefState) → Setup → List SeatedState → List (Option X) → Type 0
-HaveAllPassed {X = X} is_open conn_of setup seats places = (place : ℕ) (one : X) → slice_get places place ≡ Some (Some one) → is_open one ≡ true → HasPassedIn setup seats (conn_of one)
+HaveAllPassed {X = X} is_open conn_of first seats places = (place : ℕ) (one : X) → slice_get places place ≡ Some (Some one) → is_open one ≡ true → HasPassedIn first seats (conn_of one)
 
 -- none came in a place: where the one that was open there had passed, the one that is has
 abbrev pub StaysThere : {X : Type 0} → (X → Bool) → (X → Conn RefState) → Option X → Option X → Type 0
-StaysThere is_open conn_of old new = (setup : Setup) (seats : List SeatedState) → Passes is_open conn_of setup seats old → Passes is_open conn_of setup seats new
+StaysThere is_open conn_of old new = (first : Setup) (seats : List SeatedState) → Passes is_open conn_of first seats old → Passes is_open conn_of first seats new
 
 -- none came in any place: where all that were open had passed, all that are open have
 abbrev pub NoneCame : {X : Type 0} → (X → Bool) → (X → Conn RefState) → List (Option X) → List (Option X) → Type 0
-NoneCame is_open conn_of old new = (setup : Setup) (seats : List SeatedState) → HaveAllPassed is_open conn_of setup seats old → HaveAllPassed is_open conn_of setup seats new
+NoneCame is_open conn_of old new = (first : Setup) (seats : List SeatedState) → HaveAllPassed is_open conn_of first seats old → HaveAllPassed is_open conn_of first seats new
 
 -- ---- laws
 

@@ -1,6 +1,6 @@
 //! When a worker accepts clients, and how long it may wait; `turning` asks it in each turn.
 
-ghost use Rattle.std.specs.Prelude.{◌≡◌, ◌≢◌, ◌&&◌, true, false, if◌then◌else◌, is_some, IsOk};
+ghost use Rattle.std.specs.Prelude.{◌≡◌, ◌≢◌, ◌&&◌, true, false, if◌then◌else◌, is_some, IfSome, IsOk};
 ghost use Rattle.tcp_relay.specs.Accepting.{can_accept, is_shortage, pause_of, sleep_of};
 
 use crate::accept_errors::AcceptFault;
@@ -229,9 +229,25 @@ impl Acceptor {
         }
     }
 
-    /// The socket for a client's server, which is its own now.
-    pub(crate) fn take_server(&mut self) -> Option<ServerSocket> {
+    /// The socket at hand, which is a client's now that waits until it is judged.
+    pub(crate) fn lend_server(&mut self) -> Option<ServerSocket>
+        ensures lent { result ≡ self.old.server }
+        ensures none { is_some self.new.server ≡ false }
+    {
         self.server.take()
+    }
+
+    /// The socket for a client's server, which is its own now. None where none is at hand, or one for another server.
+    pub(crate) fn take_server(&mut self, server: SocketAddr) -> Option<ServerSocket>
+        ensures server { IfSome result (λ socket. socket.server ≡ server) }
+        ensures none { is_some self.new.server ≡ false }
+    {
+        let socket = self.server.take()?;
+        if socket.server() == server {
+            Some(socket)
+        } else {
+            None
+        }
     }
 }
 

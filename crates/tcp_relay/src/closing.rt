@@ -78,7 +78,7 @@ pub(crate) fn close<'a, T: Table, J: Naming, R: ServeRuntime, G, W: Width>(
 pub(crate) fn close_silent<'a, T: Table, J: Naming, R: ServeRuntime, G, W: Width>(
     shared: &Shared<'a, R, G, W>,
     worker: &mut Worker<'a, T, J, R, W>,
-    event_loop: &mut EventLoop<'_, R, W>,
+    event_loop: &mut EventLoop<'a, R, W>,
     as_of: u64,
 ) {
     for place in 0..worker.places.count() {
@@ -105,7 +105,7 @@ pub(crate) fn count_open<T: Table, J: Naming, R, W: Width>(worker: &mut Worker<'
 pub(crate) fn close_all<'a, T: Table, J: Naming, R: ServeRuntime, G, W: Width>(
     shared: &Shared<'a, R, G, W>,
     worker: &mut Worker<'a, T, J, R, W>,
-    event_loop: &mut EventLoop<'_, R, W>,
+    event_loop: &mut EventLoop<'a, R, W>,
 )
     ensures closed { (place : ℕ) → is_open_there (λ one. is_some one.link) (slice_get worker.new.places.held.items place) ≡ false }
 {
@@ -119,7 +119,7 @@ pub(crate) fn close_all<'a, T: Table, J: Naming, R: ServeRuntime, G, W: Width>(
 pub(crate) fn retry_due<'a, T: Table, J: Naming, R: ServeRuntime, G, W: Width>(
     shared: &Shared<'a, R, G, W>,
     worker: &mut Worker<'a, T, J, R, W>,
-    event_loop: &mut EventLoop<'_, R, W>,
+    event_loop: &mut EventLoop<'a, R, W>,
     buffer: &mut Buffer,
 ) {
     let moment = event_loop.sweep.shows(event_loop.clock.now());
@@ -130,16 +130,19 @@ pub(crate) fn retry_due<'a, T: Table, J: Naming, R: ServeRuntime, G, W: Width>(
     }
 }
 
-/// Tries the server of the connection in a place again.
+/// Tries the server of the connection in a place again: that of the rules that judged it.
 fn retry<'a, T: Table, J: Naming, R: ServeRuntime, G, W: Width>(
     shared: &Shared<'a, R, G, W>,
     worker: &mut Worker<'a, T, J, R, W>,
-    event_loop: &mut EventLoop<'_, R, W>,
+    event_loop: &mut EventLoop<'a, R, W>,
     buffer: &mut Buffer,
     place: usize,
     moment: u64,
 ) {
-    let Ok(server) = ServerSocket::open(shared.rt, shared.server, shared.liveness) else {
+    let Some(server) = worker.places.server_of(place) else {
+        return;
+    };
+    let Ok(server) = ServerSocket::open(shared.rt, server, shared.liveness) else {
         return;
     };
     let registry = event_loop.watch.registry();

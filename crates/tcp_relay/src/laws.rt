@@ -1,7 +1,8 @@
-//! Laws of shares, of who takes a client, of looks for silent peers, of drains and of what has passed a limit; each is the contract of
-//! an empty function, which no code calls.
+//! Laws of shares, of who takes a client, of looks for silent peers, of drains, of what has passed a limit, and of limits that change; each
+//! is the contract of an empty function, which no code calls.
 
 ghost use Rattle.tcp_relay.specs.Accepting.{SharesLaw};
+ghost use Rattle.tcp_relay.specs.Across.{AcrossLaw, PassesMoreLaw};
 ghost use Rattle.tcp_relay.specs.Balance.{AloneLaw, EvenLaw, TakenLaw};
 ghost use Rattle.tcp_relay.specs.Draining.{DrainLaw};
 ghost use Rattle.tcp_relay.specs.Passed.{PassedStaysLaw};
@@ -45,4 +46,15 @@ pub fn drains()
 /// Whatever a connection does by a worker's seats, a reference that has passed by what they knew has passed by what they know then.
 pub fn passed_stays()
     ensures { PassedStaysLaw }
+{}
+
+/// A reference that has passed a limit has passed each greater one.
+pub fn passes_more()
+    ensures { PassesMoreLaw }
+{}
+
+/// Whatever the threads do, and however limits change meanwhile: of the references of a key, at most as many have passed one of some limits
+/// as the greatest of these.
+pub fn across()
+    ensures { AcrossLaw }
 {}

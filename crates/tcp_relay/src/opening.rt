@@ -1,6 +1,6 @@
 //! An admitted client is connected to its server; `turning` calls `carry` for it, and nobody else opens a link.
 
-ghost use Rattle.std.specs.Prelude.{◌≡◌, Some, None, slice_get};
+ghost use Rattle.std.specs.Prelude.{◌≡◌, IfSome, Some, None, slice_get};
 ghost use Rattle.admit_core.specs.Conn.{needed};
 ghost use Rattle.admit_core.specs.declared.need.Need.TheVariants.{Rest};
 ghost use Rattle.tcp_relay.specs.Arrivals.{samples_by};
@@ -28,7 +28,7 @@ use shard_locks::SharedRef;
 use shard_record::Naming;
 use std::net::Net;
 use stick_table::Table;
-use tcp_link::{Buffer, Link, Unopened};
+use tcp_link::{Buffer, Link, ServerSocket, Unopened};
 
 /// The sockets that an admitted connection still has as it ends before it goes on. Its client hears of the end once they are closed.
 #[derive(Drop)]
@@ -73,7 +73,7 @@ impl Unbegun {
 pub(crate) fn carry<'a, T: Table, J: Naming, R: ServeRuntime, G, W: Width>(
     shared: &Shared<'a, R, G, W>,
     worker: &mut Worker<'a, T, J, R, W>,
-    event_loop: &mut EventLoop<'_, R, W>,
+    event_loop: &mut EventLoop<'a, R, W>,
     buffer: &mut Buffer,
     place: usize,
     arrival: Arrival<W>,
@@ -82,7 +82,7 @@ pub(crate) fn carry<'a, T: Table, J: Naming, R: ServeRuntime, G, W: Width>(
 )
     requires connection { IsVisitor W.tables W.shards conn }
     requires rests { needed conn ≡ Rest }
-    requires passed { HasPassedAs W.setup (samples_by arrival.told arrival.accepted.peer arrival.accepted.port) worker.old.seated.items conn }
+    requires passed { HasPassedAs event_loop.old.rules.setup.now (samples_by arrival.told arrival.accepted.peer arrival.accepted.port) worker.old.seated.items conn }
     requires free { slice_get worker.old.places.held.items place ≡ Some None }
     requires sign { admitted.conn.value ≡ conn }
 {
@@ -99,10 +99,27 @@ pub(crate) fn carry<'a, T: Table, J: Naming, R: ServeRuntime, G, W: Width>(
     }
 }
 
+/// A socket for the server of the client that was judged last: the one at hand, or a new one where that is for the server of the rules
+/// before.
+#[inline(always)]
+fn server_socket<'a, R: ServeRuntime, G, W: Width>(
+    shared: &Shared<'a, R, G, W>,
+    event_loop: &mut EventLoop<'a, R, W>,
+) -> Option<ServerSocket>
+    ensures server { IfSome result (λ socket. socket.server ≡ event_loop.old.rules.server) }
+    ensures rules { event_loop.new.rules ≡ event_loop.old.rules }
+{
+    let server = event_loop.rules.server;
+    match event_loop.acceptor.take_server(server) {
+        Some(socket) => Some(socket),
+        None => ServerSocket::open(shared.rt, server, shared.liveness).ok(),
+    }
+}
+
 /// Connects an admitted client to its server, and moves what is there already. Where that is over at once, how it ended.
 fn begin<'a, J: Naming, R: ServeRuntime, G, W: Width>(
     shared: &Shared<'a, R, G, W>,
-    event_loop: &mut EventLoop<'_, R, W>,
+    event_loop: &mut EventLoop<'a, R, W>,
     buffer: &mut Buffer,
     place: usize,
     arrival: Arrival<W>,
@@ -118,7 +135,7 @@ fn begin<'a, J: Naming, R: ServeRuntime, G, W: Width>(
     let (Some(greeting), false) = (greeting, has_failed) else {
         return Err(Unbegun::of_client(client, Ending::Over));
     };
-    let Some(server) = event_loop.acceptor.take_server() else {
+    let Some(server) = server_socket(shared, event_loop) else {
         return Err(Unbegun::of_client(client, Ending::Over));
     };
     let retries = shared.retries;
@@ -134,9 +151,9 @@ fn begin<'a, J: Naming, R: ServeRuntime, G, W: Width>(
 }
 
 /// Moves what the client has sent already. Where the connection is over at once, how it ended.
-fn start<R: ServeRuntime, G, W: Width>(
-    shared: &Shared<'_, R, G, W>,
-    event_loop: &mut EventLoop<'_, R, W>,
+fn start<'a, R: ServeRuntime, G, W: Width>(
+    shared: &Shared<'a, R, G, W>,
+    event_loop: &mut EventLoop<'a, R, W>,
     buffer: &mut Buffer,
     place: usize,
     mut link: Link,

@@ -4,14 +4,16 @@ ghost use Rattle.std.specs.Prelude.{◌≡◌, ◌≤◌, ℕ, ◌==◌, ◌||�
 ghost use Rattle.rule_model.specs.declared.sections.Setup.{Setup};
 ghost use Rattle.shard_book.specs.SeatState.{RefState};
 ghost use Rattle.shard_locks.specs.ShardsState.{SeatedState};
-ghost use Rattle.admit_core.specs.Conn.{needed, progress_of};
+ghost use Rattle.admit_core.specs.Conn.{judged_by, needed, progress_of};
 ghost use Rattle.admit_core.specs.declared.held.Held.{Held};
 ghost use Rattle.admit_core.specs.declared.need.Need.TheVariants.{Rest};
+ghost use Rattle.tcp_relay.specs.Addresses.{IsServer};
 ghost use Rattle.tcp_relay.specs.Connections.{IsVisitor};
 ghost use Rattle.tcp_relay.specs.Passed.{HasPassedIn, HaveAllPassed, NoneCame, StaysThere};
 ghost use Rattle.tcp_relay.specs.Releasing.{GivesBack, OthersStay, held_there, is_open_there};
 ghost use Rattle.tcp_relay.specs.Traffics.{uncounted_in};
 
+use crate::addresses::socket_address;
 use crate::connection::{Connection, OpenParts};
 use crate::leaving::{holds, let_go};
 use crate::traffic::Traffic;
@@ -21,6 +23,7 @@ use mio::Registry;
 use shard_locks::SharedRef;
 use shard_record::Naming;
 use std::mem;
+use std::net::SocketAddr;
 use tcp_link::{Buffer, Lateness, Link, Ready, ServerSocket, Timeouts};
 
 /// The connections that a worker holds, by the numbers of their places: what is reported of a socket names its place. A
@@ -140,7 +143,7 @@ impl<'a, J: Naming, W: Width> Places<'a, J, W> {
         ensures held { held_there (λ one. one.conn) (slice_get self.new.held.items place) ≡ (progress_of conn.entry).held }
         ensures opened { is_open_there (λ one. is_some one.link) (slice_get self.new.held.items place) ≡ true }
         ensures others { OthersStay place self.old.held.items self.new.held.items }
-        ensures passed { (setup : Setup) (seats : List SeatedState) → HasPassedIn setup seats conn.entry → HaveAllPassed (λ one. is_some one.link) (λ one. one.conn) setup seats self.old.held.items → HaveAllPassed (λ one. is_some one.link) (λ one. one.conn) setup seats self.new.held.items }
+        ensures passed { (first : Setup) (seats : List SeatedState) → HasPassedIn first seats conn.entry → HaveAllPassed (λ one. is_some one.link) (λ one. one.conn) first seats self.old.held.items → HaveAllPassed (λ one. is_some one.link) (λ one. one.conn) first seats self.new.held.items }
     {
         self.open = self.open.saturating_add(1);
         self.put(place, Connection::open(conn, link));
@@ -226,6 +229,15 @@ impl<'a, J: Naming, W: Width> Places<'a, J, W> {
             Some(Some(connection)) => connection.is_settled(moment),
             _ => false,
         }
+    }
+
+    /// Where the server of the connection in a place is, by the rules that judge it.
+    pub(crate) fn server_of(&self, place: usize) -> Option<SocketAddr>
+        ensures server { IfSome result (λ server. IfSome (slice_get self.now.held.items place) (λ slot. IfSome slot (λ one. IsServer (judged_by one.conn).server server))) }
+    {
+        let connection = self.held.get(place)?.as_ref()?;
+        let server = connection.conn.setup().server?;
+        Some(socket_address(server))
     }
 
     /// Tries the server of the connection in a place again, by this socket. Whether the connection is over now.

@@ -4,6 +4,10 @@
 //! has a place and its two descriptors, holds no reference, and nobody waits for it.
 
 ghost use Rattle.std.specs.Prelude.{◌≡◌, Some, None, slice_get};
+ghost use Rattle.tcp_relay.specs.Counting.{with_one};
+ghost use Rattle.tcp_relay.specs.Counts.{more};
+ghost use Rattle.tcp_relay.specs.Hearings.{fault_count};
+ghost use Rattle.tcp_stats.specs.declared.count.Count.TheVariants.{Rejected};
 
 use crate::addresses::read_ip;
 use crate::arrival::Arrival;
@@ -28,7 +32,7 @@ use tcp_link::{Buffer, reset};
 pub(crate) fn receive<'a, T: Table, J: Naming, R: ServeRuntime, G: Gate, W: Width>(
     shared: &Shared<'a, R, G, W>,
     worker: &mut Worker<'a, T, J, R, W>,
-    event_loop: &mut EventLoop<'_, R, W>,
+    event_loop: &mut EventLoop<'a, R, W>,
     buffer: &mut Buffer,
     number: u64,
     place: usize,
@@ -36,6 +40,12 @@ pub(crate) fn receive<'a, T: Table, J: Naming, R: ServeRuntime, G: Gate, W: Widt
 )
     requires free { slice_get worker.old.places.held.items place ≡ Some None }
 {
+    // Where no proxy is believed, nothing is asked about a client before it is judged.
+    if shared.proxies.is_none() {
+        let arrival = Arrival::direct(accepted);
+        take_in(shared, worker, event_loop, buffer, number, place, arrival);
+        return;
+    }
     match expected_of(shared.proxies, read_ip(accepted.peer.ip())) {
         Expecting::Direct => {
             let arrival = Arrival::direct(accepted);
@@ -53,7 +63,7 @@ pub(crate) fn receive<'a, T: Table, J: Naming, R: ServeRuntime, G: Gate, W: Widt
 fn hear_first<'a, T: Table, J: Naming, R: ServeRuntime, G: Gate, W: Width>(
     shared: &Shared<'a, R, G, W>,
     worker: &mut Worker<'a, T, J, R, W>,
-    event_loop: &mut EventLoop<'_, R, W>,
+    event_loop: &mut EventLoop<'a, R, W>,
     buffer: &mut Buffer,
     number: u64,
     place: usize,
@@ -63,8 +73,11 @@ fn hear_first<'a, T: Table, J: Naming, R: ServeRuntime, G: Gate, W: Width>(
 {
     let socket = &client.accepted.client;
     // No worker waits for one client: where its socket can't be made so, it goes.
-    let has_failed = socket.set_nonblocking(true).is_err();
-    match event_loop.waits.hear(socket, has_failed) {
+    if socket.set_nonblocking(true).is_err() {
+        turn_away(shared, worker, place, client.accepted, HeaderFault::Ended);
+        return;
+    }
+    match event_loop.waits.hear(socket, false) {
         Hearing::WaitOn => wait_for(shared, worker, event_loop, number, place, client),
         Hearing::Told(header) => {
             judge_told(
@@ -79,7 +92,7 @@ fn hear_first<'a, T: Table, J: Naming, R: ServeRuntime, G: Gate, W: Width>(
 fn wait_for<'a, T: Table, J: Naming, R: ServeRuntime, G: Gate, W: Width>(
     shared: &Shared<'a, R, G, W>,
     worker: &mut Worker<'a, T, J, R, W>,
-    event_loop: &mut EventLoop<'_, R, W>,
+    event_loop: &mut EventLoop<'a, R, W>,
     number: u64,
     place: usize,
     client: Proxied<W>,
@@ -95,7 +108,7 @@ fn wait_for<'a, T: Table, J: Naming, R: ServeRuntime, G: Gate, W: Width>(
         client,
         number,
         since: event_loop.sweep.shows(event_loop.clock.now()),
-        server: event_loop.acceptor.take_server(),
+        server: event_loop.acceptor.lend_server(),
     };
     if let Some(waiting) = event_loop.waits.put(place, waiting) {
         let accepted = waiting.client.accepted;
@@ -108,7 +121,7 @@ fn wait_for<'a, T: Table, J: Naming, R: ServeRuntime, G: Gate, W: Width>(
 pub(crate) fn hear_again<'a, T: Table, J: Naming, R: ServeRuntime, G: Gate, W: Width>(
     shared: &Shared<'a, R, G, W>,
     worker: &mut Worker<'a, T, J, R, W>,
-    event_loop: &mut EventLoop<'_, R, W>,
+    event_loop: &mut EventLoop<'a, R, W>,
     buffer: &mut Buffer,
     place: usize,
     is_closed: bool,
@@ -140,7 +153,7 @@ pub(crate) fn hear_again<'a, T: Table, J: Naming, R: ServeRuntime, G: Gate, W: W
 fn go_on<'a, T: Table, J: Naming, R: ServeRuntime, G: Gate, W: Width>(
     shared: &Shared<'a, R, G, W>,
     worker: &mut Worker<'a, T, J, R, W>,
-    event_loop: &mut EventLoop<'_, R, W>,
+    event_loop: &mut EventLoop<'a, R, W>,
     buffer: &mut Buffer,
     place: usize,
     waiting: Waiting<W>,
@@ -166,7 +179,7 @@ fn go_on<'a, T: Table, J: Naming, R: ServeRuntime, G: Gate, W: Width>(
 fn judge_told<'a, T: Table, J: Naming, R: ServeRuntime, G: Gate, W: Width>(
     shared: &Shared<'a, R, G, W>,
     worker: &mut Worker<'a, T, J, R, W>,
-    event_loop: &mut EventLoop<'_, R, W>,
+    event_loop: &mut EventLoop<'a, R, W>,
     buffer: &mut Buffer,
     number: u64,
     place: usize,
@@ -194,6 +207,8 @@ fn turn_away<'a, T: Table, J: Naming, R: ServeRuntime, G, W: Width>(
     fault: HeaderFault,
 )
     ensures held { worker.new.places.held ≡ worker.old.places.held }
+    ensures rejected { worker.new.tally.rejected ≡ more worker.old.tally.rejected }
+    ensures counted { worker.new.counted.counts ≡ with_one (fault_count fault) (with_one Rejected worker.old.counted.counts) }
 {
     worker.tally.count(false);
     worker.counted.count_unjudged(fault);
@@ -206,7 +221,7 @@ fn turn_away<'a, T: Table, J: Naming, R: ServeRuntime, G, W: Width>(
 pub(crate) fn end_late<'a, T: Table, J: Naming, R: ServeRuntime, G, W: Width>(
     shared: &Shared<'a, R, G, W>,
     worker: &mut Worker<'a, T, J, R, W>,
-    event_loop: &mut EventLoop<'_, R, W>,
+    event_loop: &mut EventLoop<'a, R, W>,
     moment: u64,
 ) {
     let Some(proxies) = shared.proxies else {
@@ -226,7 +241,7 @@ pub(crate) fn end_late<'a, T: Table, J: Naming, R: ServeRuntime, G, W: Width>(
 pub(crate) fn end_waits<'a, T: Table, J: Naming, R: ServeRuntime, G, W: Width>(
     shared: &Shared<'a, R, G, W>,
     worker: &mut Worker<'a, T, J, R, W>,
-    event_loop: &mut EventLoop<'_, R, W>,
+    event_loop: &mut EventLoop<'a, R, W>,
 ) {
     for place in 0..event_loop.waits.places() {
         end_wait(shared, worker, event_loop, place);
@@ -237,7 +252,7 @@ pub(crate) fn end_waits<'a, T: Table, J: Naming, R: ServeRuntime, G, W: Width>(
 fn end_wait<'a, T: Table, J: Naming, R: ServeRuntime, G, W: Width>(
     shared: &Shared<'a, R, G, W>,
     worker: &mut Worker<'a, T, J, R, W>,
-    event_loop: &mut EventLoop<'_, R, W>,
+    event_loop: &mut EventLoop<'a, R, W>,
     place: usize,
 ) {
     if let Some(waiting) = event_loop.waits.take(place) {

@@ -15,11 +15,13 @@ use crate::gathering::{gather, seat_workers};
 use crate::listener_turn::{ListenerTurn, TurnParts, WorkerTurn};
 use crate::listeners::{Listener, Listeners};
 use crate::reserved::{Reserved, reserve};
+use crate::rules::Rules;
 use crate::shared::Shared;
 use crate::shares::share_of;
 use crate::start_gate::{StartGate, StartPhase};
 use crate::sweep::Sweep;
 use crate::turning::{EventLoop, turn_all};
+use crate::versions::Versions;
 use crate::watch::Watch;
 use crate::width::Width;
 use crate::worker::Worker;
@@ -56,6 +58,7 @@ fn serve_each<'a, T: Table, J: Naming, R: ServeRuntime, G: Gate, W: Width>(
     let mut clock = RunningClock::new(shared.rt, shared.start);
     let sweep = Sweep::new(clock.now());
     let mut event_loop = EventLoop {
+        rules: Rules::first(shared.setup, shared.server),
         turn: WorkerTurn::new(&shared.counter.listener_turn, watch.worker()),
         watch,
         acceptor: Acceptor::new(),
@@ -242,6 +245,7 @@ fn serve_wide<
     tables: &[Shards<T, J>],
     mut seats: Vec<Vec<SharedSeat<J>>>,
     setup: &Setup,
+    versions: &Versions,
     gate: &G,
     threads: u32,
     limits: Limits<'_>,
@@ -290,6 +294,7 @@ fn serve_wide<
         counter: &counter,
         setup,
         server: socket_address(server),
+        versions,
         timeouts: limits.timeouts,
         retries: limits.retries,
         liveness: limits.liveness,
@@ -322,10 +327,11 @@ fn without_memory<J: Naming>(alloc: Global, seats: Vec<Vec<SharedSeat<J>>>) -> S
     }
 }
 
-/// Serves the clients that connect to some listeners, each of which is asked in turn, on so many threads, over the tables of a setup, each asked by the threads'
-/// seats of it. A thread waits for all its connections at once, and holds as many as the limits say. Each is judged by the
-/// rules, and then passes the gate; if it is admitted, its bytes go to the server and back until both directions have ended or
-/// a peer has been silent for too long; it is counted, and gives its references back. Moments are ms from the start on. Before a
+/// Serves the clients that connect to some listeners, each of which is asked in turn, on so many threads, over the tables of a setup, each
+/// asked by the threads' seats of it. A thread waits for all its connections at once, and holds as many as the limits say. Each is judged
+/// by the setup's rules, or by those of the last version that has followed, and then passes the gate. If it is admitted, its bytes go to
+/// that version's server and back until both directions have ended or a peer has been silent for too long; it is counted, and gives its
+/// references back. Moments are ms from the start on. Before a
 /// connection is accepted its number is drawn, from 1 on; where serving stops after so many none above it is drawn, and each
 /// thread ends with the last of its connections. Without, it goes on until a drain begins.
 ///
@@ -344,6 +350,7 @@ pub fn serve<T: Table + Send, J: Naming + Send + Sync, R: ServeRuntime, G: Gate 
     tables: &[Shards<T, J>],
     seats: Vec<Vec<SharedSeat<J>>>,
     setup: &Setup,
+    versions: &Versions,
     gate: &G,
     threads: u32,
     limits: Limits<'_>,
@@ -360,7 +367,7 @@ pub fn serve<T: Table + Send, J: Naming + Send + Sync, R: ServeRuntime, G: Gate 
     ensures err { IfErr result (λ fault. IsFault (length tables.now) threads (most_of limits.entry.connections threads) seats fault) }
 {
     serve_wide::<Brand, T, J, R, G>(
-        alloc, rt, listeners, tables, seats, setup, gate, threads, limits, stop_after, start,
-        control,
+        alloc, rt, listeners, tables, seats, setup, versions, gate, threads, limits, stop_after,
+        start, control,
     )
 }

@@ -1,6 +1,7 @@
 //! What all workers share by reference; `serving` makes it, and `turning` and `visiting` read it.
 
 ghost use Rattle.std.specs.Prelude.{◌≡◌, length};
+ghost use Rattle.tcp_relay.specs.Addresses.{IsServer};
 ghost use Rattle.tcp_relay.specs.Arrivals.{trust_of};
 ghost use Rattle.tcp_relay.specs.Seating.{StoreAs};
 
@@ -8,6 +9,7 @@ use crate::Proxies;
 use crate::connection_counter::ConnectionCounter;
 use crate::control::Control;
 use crate::listeners::Listeners;
+use crate::versions::Versions;
 use crate::width::Width;
 use base_clock::Start;
 use proxy_header::Version;
@@ -24,9 +26,11 @@ pub(crate) struct Shared<'a, R, G, W: Width> {
     pub(crate) rt: &'a R,
     pub(crate) listeners: &'a Listeners<'a>,
     pub(crate) counter: &'a ConnectionCounter,
+    /// The rules that serving begins with, and where their server is.
     pub(crate) setup: &'a Setup,
-    /// Where the server is.
     pub(crate) server: SocketAddr,
+    /// Those that have followed them.
+    pub(crate) versions: &'a Versions,
     pub(crate) timeouts: Timeouts,
     /// How often a server that refuses a connection is tried again.
     pub(crate) retries: u32,
@@ -45,4 +49,5 @@ pub(crate) struct Shared<'a, R, G, W: Width> {
     ghost judges: { setup.now ≡ W.setup },
     ghost trusts: { trust_of proxies ≡ W.trust },
     ghost current: { StoreAs (λ named. named.spec) W.current setup.now.tables },
+    ghost reaches: { ∥ IsServer setup.now.server server ∥₁ },
 }

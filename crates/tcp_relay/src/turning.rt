@@ -1,6 +1,7 @@
 //! A worker's connections, each in its turn; `serving` calls `turn_all` in each worker's loop.
 
 ghost use Rattle.std.specs.Prelude.{◌≡◌, Some, None, slice_get};
+ghost use Rattle.tcp_relay.specs.Waiting.{in_hand};
 
 use crate::accept_errors::{AcceptFault, Shortage, shortage_of};
 use crate::acceptor::Acceptor;
@@ -11,6 +12,7 @@ use crate::listener_turn::WorkerTurn;
 use crate::met::{count_met, met_by};
 use crate::opening::carry;
 use crate::receiving::{end_late, end_waits, hear_again, receive};
+use crate::rules::Rules;
 use crate::shared::Shared;
 use crate::standing::Stand;
 use crate::sweep::Sweep;
@@ -38,6 +40,8 @@ const REST: u64 = 100;
 /// A worker at its work: what it waits for, and by which clock.
 #[derive(Drop)]
 pub(crate) struct EventLoop<'r, R, W: Width> {
+    /// What judges whoever comes.
+    pub(crate) rules: Rules<'r, W>,
     pub(crate) watch: Watch,
     pub(crate) turn: WorkerTurn<'r>,
     pub(crate) acceptor: Acceptor,
@@ -51,8 +55,10 @@ pub(crate) struct EventLoop<'r, R, W: Width> {
 
 impl<R, W: Width> EventLoop<'_, R, W> {
     /// How many clients a worker has in hand that holds so many open connections: those too that it waits for.
-    pub(crate) fn in_hand(&self, open: usize) -> usize {
-        open.saturating_add(self.waits.count())
+    pub(crate) fn in_hand(&self, held: usize) -> usize
+        ensures { result ≡ in_hand held self.now.waits.count }
+    {
+        held.saturating_add(self.waits.count())
     }
 }
 
@@ -60,7 +66,7 @@ impl<R, W: Width> EventLoop<'_, R, W> {
 pub(crate) fn take_in<'a, T: Table, J: Naming, R: ServeRuntime, G: Gate, W: Width>(
     shared: &Shared<'a, R, G, W>,
     worker: &mut Worker<'a, T, J, R, W>,
-    event_loop: &mut EventLoop<'_, R, W>,
+    event_loop: &mut EventLoop<'a, R, W>,
     buffer: &mut Buffer,
     number: u64,
     place: usize,
@@ -70,7 +76,8 @@ pub(crate) fn take_in<'a, T: Table, J: Naming, R: ServeRuntime, G: Gate, W: Widt
 {
     let source = arrival.source();
     let samples = arrival.samples();
-    let mut conn = arrive(shared, samples);
+    event_loop.rules.follow(shared.setup, shared.versions);
+    let mut conn = arrive(&event_loop.rules, samples);
     let seated = &mut worker.seated;
     let admitted = judge_one(shared, seated, &mut event_loop.clock, number, &mut conn);
     worker.counted.count_verdict(admitted.is_some());
@@ -105,7 +112,7 @@ fn note_fault<T: Table, J: Naming, R, W: Width>(
 fn accept_one<'a, T: Table, J: Naming, R: ServeRuntime, G: Gate, W: Width>(
     shared: &Shared<'a, R, G, W>,
     worker: &mut Worker<'a, T, J, R, W>,
-    event_loop: &mut EventLoop<'_, R, W>,
+    event_loop: &mut EventLoop<'a, R, W>,
     buffer: &mut Buffer,
     number: u64,
     place: usize,
@@ -150,13 +157,14 @@ fn note_short<'a, T: Table, J: Naming, R, G, W: Width>(
 fn try_to_accept<'a, T: Table, J: Naming, R: ServeRuntime, G: Gate, W: Width>(
     shared: &Shared<'a, R, G, W>,
     worker: &mut Worker<'a, T, J, R, W>,
-    event_loop: &mut EventLoop<'_, R, W>,
+    event_loop: &mut EventLoop<'a, R, W>,
     buffer: &mut Buffer,
     number: u64,
 ) {
+    let server = event_loop.rules.server;
     let ready = event_loop
         .acceptor
-        .ready_server(shared.rt, shared.server, shared.liveness);
+        .ready_server(shared.rt, server, shared.liveness);
     if let Err(error) = ready {
         let error = error.raw_os_error().map(i32::unsigned_abs);
         note_short(shared, worker, &mut event_loop.acceptor, error);
@@ -172,7 +180,7 @@ fn try_to_accept<'a, T: Table, J: Naming, R: ServeRuntime, G: Gate, W: Width>(
 fn accept_some<'a, T: Table, J: Naming, R: ServeRuntime, G: Gate, W: Width>(
     shared: &Shared<'a, R, G, W>,
     worker: &mut Worker<'a, T, J, R, W>,
-    event_loop: &mut EventLoop<'_, R, W>,
+    event_loop: &mut EventLoop<'a, R, W>,
     buffer: &mut Buffer,
 ) -> bool {
     for _client in 0..ACCEPTS {
@@ -201,7 +209,7 @@ fn accept_some<'a, T: Table, J: Naming, R: ServeRuntime, G: Gate, W: Width>(
 fn turn<'a, T: Table, J: Naming, R: ServeRuntime, G: Gate, W: Width>(
     shared: &Shared<'a, R, G, W>,
     worker: &mut Worker<'a, T, J, R, W>,
-    event_loop: &mut EventLoop<'_, R, W>,
+    event_loop: &mut EventLoop<'a, R, W>,
     buffer: &mut Buffer,
     ready: Ready,
     moment: u64,
@@ -245,7 +253,7 @@ fn tells_of_connections(events: &Events) -> bool {
 fn turn_each<'a, T: Table, J: Naming, R: ServeRuntime, G: Gate, W: Width>(
     shared: &Shared<'a, R, G, W>,
     worker: &mut Worker<'a, T, J, R, W>,
-    event_loop: &mut EventLoop<'_, R, W>,
+    event_loop: &mut EventLoop<'a, R, W>,
     events: &Events,
     buffer: &mut Buffer,
     moment: u64,
@@ -268,7 +276,7 @@ fn turn_each<'a, T: Table, J: Naming, R: ServeRuntime, G: Gate, W: Width>(
 fn wait<'a, T: Table, J: Naming, R: ServeRuntime, G: Gate, W: Width>(
     shared: &Shared<'a, R, G, W>,
     worker: &Worker<'a, T, J, R, W>,
-    event_loop: &mut EventLoop<'_, R, W>,
+    event_loop: &mut EventLoop<'a, R, W>,
     events: &mut Events,
 ) -> bool {
     let has_room = worker.places.has_room();
@@ -292,7 +300,7 @@ fn wait<'a, T: Table, J: Naming, R: ServeRuntime, G: Gate, W: Width>(
 pub(crate) fn turn_all<'a, T: Table, J: Naming, R: ServeRuntime, G: Gate, W: Width>(
     shared: &Shared<'a, R, G, W>,
     worker: &mut Worker<'a, T, J, R, W>,
-    event_loop: &mut EventLoop<'_, R, W>,
+    event_loop: &mut EventLoop<'a, R, W>,
     events: &mut Events,
     buffer: &mut Buffer,
 ) -> bool {

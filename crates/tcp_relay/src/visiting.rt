@@ -2,6 +2,7 @@
 
 ghost use Rattle.std.specs.Prelude.{◌≡◌, ◌≤◌, true, false, is_some, length, IfSome, Some, None, slice_get, vec_len};
 ghost use Rattle.shard_book.specs.SeatState.{RefState};
+ghost use Rattle.rule_model.specs.declared.sections.Setup.{Setup};
 ghost use Rattle.rule_eval.specs.declared.wants.Samples.{Samples};
 ghost use Rattle.admit_core.specs.Conn.{needed, progress_of, Stands};
 ghost use Rattle.admit_core.specs.Connection.{Connection, arrived, closed_of};
@@ -16,6 +17,7 @@ ghost use Rattle.tcp_relay.specs.Untracked.{IsUntrackedSince};
 
 use crate::admitted::Admitted;
 use crate::fates::Ended;
+use crate::rules::Rules;
 use crate::shared::Shared;
 use crate::width::Width;
 use crate::worker::Worker;
@@ -28,16 +30,16 @@ use shard_locks::{Seated, SharedRef};
 use shard_record::Naming;
 use stick_table::Table;
 
-/// A connection that has just come, with these samples.
+/// A connection that has just come, with these samples, and is judged by these rules.
 #[inline(always)]
-pub(crate) fn arrive<'a, J: Naming, R, G, W: Width>(
-    shared: &Shared<'a, R, G, W>,
+pub(crate) fn arrive<'a, J: Naming, W: Width>(
+    rules: &Rules<'a, W>,
     samples: Samples,
 ) -> Conn<'a, SharedRef<J>>
-    ensures stands { Stands result (arrived shared.now.setup.now samples) }
+    ensures stands { Stands result (arrived rules.now.setup.now samples) }
     ensures connection { IsVisitor W.tables W.shards result }
 {
-    Conn::new(shared.setup, samples)
+    Conn::new(rules.setup, samples)
 }
 
 /// Has a connection judged by the rules, all at the moment that the clock shows as they begin, and passes it through the gate. Gives the
@@ -65,11 +67,11 @@ pub(crate) fn judge_one<'a, T: Table, J: Naming, R: ServeRuntime, G: Gate, W: Wi
     ensures later { clock.old ≤ clock.new }
     ensures moment { (connection : Connection RefState) → Stands conn.old connection → HaveCalledAt clock.new seated.old.items seated.new.items }
 
-    // Of one that has just come.
-    ensures of { (samples : Samples) → Stands conn.old (arrived shared.now.setup.now samples) → IsOf shared.now.setup.now samples conn.new }
-    ensures passed { (samples : Samples) → Stands conn.old (arrived shared.now.setup.now samples) → is_some result ≡ true → HasPassedLimits shared.now.setup.now samples seated.new.items conn.new }
-    ensures ending { (samples : Samples) → Stands conn.old (arrived shared.now.setup.now samples) → is_some result ≡ false → is_ending conn.new ≡ true }
-    ensures untracked { (samples : Samples) → Stands conn.old (arrived shared.now.setup.now samples) → is_some result ≡ true → IsUntrackedSince seated.old.items seated.new.items shared.now.setup.now samples conn.new }
+    // Of one that has just come, by its own setup.
+    ensures of { (setup : Setup) (samples : Samples) → Stands conn.old (arrived setup samples) → IsOf setup samples conn.new }
+    ensures passed { (setup : Setup) (samples : Samples) → StoreAs (λ named. named.spec) W.current setup.tables → Stands conn.old (arrived setup samples) → is_some result ≡ true → HasPassedLimits setup samples seated.new.items conn.new }
+    ensures ending { (setup : Setup) (samples : Samples) → Stands conn.old (arrived setup samples) → is_some result ≡ false → is_ending conn.new ≡ true }
+    ensures untracked { (setup : Setup) (samples : Samples) → Stands conn.old (arrived setup samples) → is_some result ≡ true → IsUntrackedSince seated.old.items seated.new.items setup samples conn.new }
 {
     let mut stopped = StoppedClock::at(clock.now());
     let ports = seated.as_mut_slice();

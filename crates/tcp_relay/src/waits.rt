@@ -2,8 +2,10 @@
 //!
 //! Each has its place among the worker's connections, which is claimed and empty until then. It holds no reference.
 
-ghost use Rattle.std.specs.Prelude.{◌≡◌, ◌≢◌, ◌≤◌, true, is_some, length};
+ghost use Rattle.std.specs.Prelude.{◌≡◌, ◌≢◌, ◌≤◌, true, false, length, IfNone, IfOk, IfSome, Some, None};
 ghost use Rattle.tcp_relay.specs.Hearings.{IsHeard, is_late};
+ghost use Rattle.tcp_relay.specs.Releasing.{OthersStay};
+ghost use Rattle.tcp_relay.specs.Waiting.{count_less, in_place};
 
 use crate::header::Header;
 use crate::hearing::{Hearing, hearing_of};
@@ -42,7 +44,9 @@ pub(crate) struct Waits<W: Width> {
 
 impl<W: Width> Waits<W> {
     /// Nobody, with so many places, and memory for them. Without any place it takes none.
-    pub(crate) fn reserve(alloc: Global, places: usize) -> Result<Waits<W>, NoMemory> {
+    pub(crate) fn reserve(alloc: Global, places: usize) -> Result<Waits<W>, NoMemory>
+        ensures none { IfOk result (λ waits. waits.count ≡ 0) }
+    {
         let mut clients = Vec::with_capacity(alloc, places)?;
         for _place in 0..places {
             // There is room for all.
@@ -71,7 +75,11 @@ impl<W: Width> Waits<W> {
     }
 
     /// Puts a client in its place. It comes back where there is no such place.
-    pub(crate) fn put(&mut self, place: usize, waiting: Waiting<W>) -> Option<Waiting<W>> {
+    pub(crate) fn put(&mut self, place: usize, waiting: Waiting<W>) -> Option<Waiting<W>>
+        ensures waits { IfNone result (in_place self.new.clients.items place ≡ Some waiting) }
+        ensures back { IfSome result (λ back. back ≡ waiting) }
+        ensures others { OthersStay place self.old.clients.items self.new.clients.items }
+    {
         let Some(slot) = self.clients.get_mut(place) else {
             return Some(waiting);
         };
@@ -81,14 +89,22 @@ impl<W: Width> Waits<W> {
     }
 
     /// Takes the client out of a place, if one is waited for there.
-    pub(crate) fn take(&mut self, place: usize) -> Option<Waiting<W>> {
+    pub(crate) fn take(&mut self, place: usize) -> Option<Waiting<W>>
+        ensures taken { result ≡ in_place self.old.clients.items place }
+        ensures gone { in_place self.new.clients.items place ≡ None }
+        ensures others { OthersStay place self.old.clients.items self.new.clients.items }
+        ensures count { self.new.count ≡ count_less (in_place self.old.clients.items place) self.old.count }
+    {
         let waiting = self.clients.get_mut(place)?.take()?;
         self.count = self.count.saturating_sub(1);
         Some(waiting)
     }
 
     /// Whether the client in a place has been waited for as long as this, at a moment, both in ms.
-    pub(crate) fn is_late(&self, place: usize, timeout: u64, moment: u64) -> bool {
+    pub(crate) fn is_late(&self, place: usize, timeout: u64, moment: u64) -> bool
+        ensures late { IfSome (in_place self.now.clients.items place) (λ one. result ≡ is_late timeout one.since moment) }
+        ensures nobody { IfNone (in_place self.now.clients.items place) (result ≡ false) }
+    {
         match self.clients.get(place) {
             Some(Some(waiting)) => is_late(timeout, waiting.since, moment),
             _ => false,

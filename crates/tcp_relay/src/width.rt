@@ -8,7 +8,8 @@ ghost use Rattle.tcp_relay.specs.Seating.{no_setup};
 use std::marker::Brand;
 
 /// How many tables there are, in how many shards each is, which of them store conn_cur, how many connections a worker holds at
-/// most, by what setup they are judged, and which proxies are believed. A type names them, so that they are known also of what comes back from a thread.
+/// most, by what setup they are judged first, and which proxies are believed. A type names them, so that they are known also of what
+/// comes back from a thread.
 pub trait Width {
     ghost tables: { ℕ };
 

@@ -20,6 +20,7 @@ pub data Command : Type 0 where
   Quit : Command
   ShutdownFrontend : List ℕ → Command
   Stop : Option ℕ → Command
+  Reload : Command
   OldestFirst : List ℕ → Command
   Table : Command
   Empty : Command

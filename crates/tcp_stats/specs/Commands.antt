@@ -5,20 +5,21 @@ use Rattle.base_lines.specs.Line.{without_cr}
 use Rattle.base_lines.specs.Number.{number_of}
 use Rattle.base_lines.specs.Words.{words, is_blank}
 use Rattle.base_lines.specs.declared.words.Blanks.TheVariants.{SpacesAndTabs}
-use Rattle.tcp_stats.specs.CommandForms.{Command, ShowErrors, Help, Prompt, Quit, ShutdownFrontend, Stop, OldestFirst, Table, Empty, Unknown}
+use Rattle.tcp_stats.specs.CommandForms.{Command, ShowErrors, Help, Prompt, Quit, ShutdownFrontend, Stop, Reload, OldestFirst, Table, Empty, Unknown}
 use Rattle.tcp_stats.specs.StatQueries.{info_of, stat_of}
 
 -- a command's words, between spaces and tabs
 abbrev pub words_of : List ℕ → List (List ℕ)
 words_of line = words (is_blank SpacesAndTabs) (without_cr line)
 
--- prompt, quit, and stop without a time of its own
+-- prompt, quit, stop without a time of its own, and reload
 abbrev pub single_of : List ℕ → Command
 single_of verb =
     if bytes_eq verb (codes "prompt") then Prompt
     else (if bytes_eq verb (codes "quit") then Quit
     else (if bytes_eq verb (codes "stop") then Stop None
-    else Unknown))
+    else (if bytes_eq verb (codes "reload") then Reload
+    else Unknown)))
 
 -- behind show errors nothing follows
 abbrev pub errors_of : List (List ℕ) → Command

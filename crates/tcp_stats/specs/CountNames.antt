@@ -1,7 +1,7 @@
 -- What is counted, and in which order.
 use Rattle.std.specs.Prelude.{ℕ, List, [], ◌∷◌}
 use Rattle.tcp_stats.specs.declared.count.Count.{Count}
-use Rattle.tcp_stats.specs.declared.count.Count.TheVariants.{Accepted, Admitted, Rejected, NoDescriptors, NoMemory, Unaccepted, Headers, HeaderLate, HeaderWrong, HeaderEnded, HeaderUntrusted, ServerRefused, ServerTimedOut, NoPort, ServerFailed, ClientTimedOut, ServerSilent, FinTimedOut, Drained, Ended, BytesIn, BytesOut, UntrackedFull, UntrackedNoReferences, EventsNoMemory, EventsStale, EventsExhausted, Commands, Rolls, Expiries, Refusals}
+use Rattle.tcp_stats.specs.declared.count.Count.TheVariants.{Accepted, Admitted, Rejected, NoDescriptors, NoMemory, Unaccepted, Headers, HeaderLate, HeaderWrong, HeaderEnded, HeaderUntrusted, ServerRefused, ServerTimedOut, NoPort, ServerFailed, ClientTimedOut, ServerSilent, FinTimedOut, Drained, Ended, BytesIn, BytesOut, UntrackedFull, UntrackedNoReferences, EventsNoMemory, EventsStale, EventsExhausted, Commands, Reloads, ReloadsRefused, Rolls, Expiries, Refusals}
 
 -- all that is counted, in the order in which a worker publishes it
 abbrev pub all_counts : List Count
@@ -11,7 +11,7 @@ all_counts =
     ∷ ServerRefused ∷ ServerTimedOut ∷ NoPort ∷ ServerFailed ∷ ClientTimedOut ∷ ServerSilent ∷ FinTimedOut
     ∷ Drained ∷ Ended ∷ BytesIn ∷ BytesOut
     ∷ UntrackedFull ∷ UntrackedNoReferences ∷ EventsNoMemory ∷ EventsStale ∷ EventsExhausted
-    ∷ Commands ∷ Rolls ∷ Expiries ∷ Refusals ∷ []
+    ∷ Commands ∷ Reloads ∷ ReloadsRefused ∷ Rolls ∷ Expiries ∷ Refusals ∷ []
 
 -- the place of a count in that order, from 0
 abbrev pub place : Count → ℕ
@@ -43,6 +43,8 @@ place EventsNoMemory = 24
 place EventsStale = 25
 place EventsExhausted = 26
 place Commands = 27
-place Rolls = 28
-place Expiries = 29
-place Refusals = 30
+place Reloads = 28
+place ReloadsRefused = 29
+place Rolls = 30
+place Expiries = 31
+place Refusals = 32

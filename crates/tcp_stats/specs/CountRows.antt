@@ -1,7 +1,7 @@
 -- How each count is told: in a metric and in a report. Counts of one kind share a metric, in which labels set them apart.
 use Rattle.std.specs.Prelude.{ℕ, Bool, true, false, Option, Some, None, List, [], codes}
 use Rattle.tcp_stats.specs.declared.count.Count.{Count}
-use Rattle.tcp_stats.specs.declared.count.Count.TheVariants.{Accepted, Admitted, Rejected, NoDescriptors, NoMemory, Unaccepted, Headers, HeaderLate, HeaderWrong, HeaderEnded, HeaderUntrusted, ServerRefused, ServerTimedOut, NoPort, ServerFailed, ClientTimedOut, ServerSilent, FinTimedOut, Drained, Ended, BytesIn, BytesOut, UntrackedFull, UntrackedNoReferences, EventsNoMemory, EventsStale, EventsExhausted, Commands, Rolls, Expiries, Refusals}
+use Rattle.tcp_stats.specs.declared.count.Count.TheVariants.{Accepted, Admitted, Rejected, NoDescriptors, NoMemory, Unaccepted, Headers, HeaderLate, HeaderWrong, HeaderEnded, HeaderUntrusted, ServerRefused, ServerTimedOut, NoPort, ServerFailed, ClientTimedOut, ServerSilent, FinTimedOut, Drained, Ended, BytesIn, BytesOut, UntrackedFull, UntrackedNoReferences, EventsNoMemory, EventsStale, EventsExhausted, Commands, Reloads, ReloadsRefused, Rolls, Expiries, Refusals}
 
 -- the metric's name; what is said of it, at the first count of it; the count's labels; and its words behind its number in a report
 pub record CountRow : Type 0 where
@@ -39,6 +39,8 @@ count_row EventsNoMemory = record { metric = codes "stickd_refused_events_total"
 count_row EventsStale = record { metric = codes "stickd_refused_events_total"; help = None; labels = codes "{cause=\"stale\"}"; words = codes "events refused as stale" }
 count_row EventsExhausted = record { metric = codes "stickd_refused_events_total"; help = None; labels = codes "{cause=\"exhausted\"}"; words = codes "events refused at the end of a table's life" }
 count_row Commands = record { metric = codes "stickd_commands_total"; help = Some (codes "Commands that were answered."); labels = []; words = codes "commands" }
+count_row Reloads = record { metric = codes "stickd_reloads_total"; help = Some (codes "Times that the rules were to be read again."); labels = codes "{result=\"done\"}"; words = codes "reloads" }
+count_row ReloadsRefused = record { metric = codes "stickd_reloads_total"; help = None; labels = codes "{result=\"refused\"}"; words = codes "reloads refused" }
 count_row Rolls = record { metric = codes "stickd_rolls_total"; help = Some (codes "Times that a shard's record began again."); labels = []; words = codes "records begun again" }
 count_row Expiries = record { metric = codes "stickd_expiries_total"; help = Some (codes "Entries removed as their time was over."); labels = []; words = codes "entries expired" }
 count_row Refusals = record { metric = codes "stickd_housekeeping_refusals_total"; help = Some (codes "Rolls and expiries that were refused."); labels = []; words = codes "refusals of housekeeping" }

@@ -9,7 +9,7 @@ use Rattle.tcp_stats.specs.declared.messages.StatsMessage.TheVariants as message
 
 -- the commands, a line each, but those that follow each list
 unfoldable pub command_list : List ℕ
-command_list = codes "  clear table <table> [<filter>]*         : remove an entry from a table (filter: data/key)\n  set table <table> key <k> [data.* <v>]* : update or create a table entry's data\n  show errors                             : report last request and/or response errors for each proxy\n  show info [json|typed]*                 : report information about the running process\n  show stat [json|no-maint|typed|up]*     : report counters for each proxy and server\n  show stat <iid> <type> <sid> [json|..]* : report counters of a proxy (-1: any), of types (1, 2, 4; -1: any), of a server (-1: any)\n  show table <table> [<filter>]*          : report table usage stats or dump this table's contents (filter: data/key)\n  show table <table> oldest-first         : dump this table's contents in the order in which entries go\n  shutdown frontend <frontend>            : stop a specific frontend\n  stop [<ms>]                             : end the program; open connections may go on for so long"
+command_list = codes "  clear table <table> [<filter>]*         : remove an entry from a table (filter: data/key)\n  reload                                  : read the rules again, of the file of the start\n  set table <table> key <k> [data.* <v>]* : update or create a table entry's data\n  show errors                             : report last request and/or response errors for each proxy\n  show info [json|typed]*                 : report information about the running process\n  show stat [json|no-maint|typed|up]*     : report counters for each proxy and server\n  show stat <iid> <type> <sid> [json|..]* : report counters of a proxy (-1: any), of types (1, 2, 4; -1: any), of a server (-1: any)\n  show table <table> [<filter>]*          : report table usage stats or dump this table's contents (filter: data/key)\n  show table <table> oldest-first         : dump this table's contents in the order in which entries go\n  shutdown frontend <frontend>            : stop a specific frontend\n  stop [<ms>]                             : end the program; open connections may go on for so long"
 
 -- those that follow each list
 unfoldable pub common_list : List ℕ

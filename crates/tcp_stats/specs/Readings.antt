@@ -5,13 +5,13 @@ use Rattle.tcp_stats.specs.Info.{as_number, uptime_seconds}
 use Rattle.tcp_stats.specs.declared.snapshot.Snapshot.{Snapshot}
 use Rattle.tcp_stats.specs.declared.snapshot.TableFacts.{TableFacts}
 use Rattle.tcp_stats.specs.declared.readings.Reading.{Reading}
-use Rattle.tcp_stats.specs.declared.readings.Reading.TheVariants.{Open, Most, Limit, InHand, Threads, Draining, Uptime}
+use Rattle.tcp_stats.specs.declared.readings.Reading.TheVariants.{Open, Most, Limit, InHand, Threads, Draining, Uptime, RulesVersion}
 use Rattle.tcp_stats.specs.declared.readings.TableReading.{TableReading}
 use Rattle.tcp_stats.specs.declared.readings.TableReading.TheVariants.{Size, Used, References, Purged}
 
 -- what is read of the program, in order
 abbrev pub all_readings : List Reading
-all_readings = Open ∷ Most ∷ Limit ∷ InHand ∷ Threads ∷ Draining ∷ Uptime ∷ []
+all_readings = Open ∷ Most ∷ Limit ∷ InHand ∷ Threads ∷ Draining ∷ Uptime ∷ RulesVersion ∷ []
 
 -- a metric's name, and what is said of it
 pub record Metric : Type 0 where
@@ -26,6 +26,7 @@ reading_row InHand = record { metric = codes "stickd_connections_in_hand"; help 
 reading_row Threads = record { metric = codes "stickd_threads"; help = codes "Threads that serve connections." }
 reading_row Draining = record { metric = codes "stickd_draining"; help = codes "Whether no new clients are taken: 1, else 0." }
 reading_row Uptime = record { metric = codes "stickd_uptime_seconds"; help = codes "Seconds since the start." }
+reading_row RulesVersion = record { metric = codes "stickd_rules_version"; help = codes "The number of the rules' version, 1 at the start." }
 
 abbrev pub reading_value : Snapshot → Reading → ℕ
 reading_value now Open = now.open
@@ -35,6 +36,7 @@ reading_value now InHand = in_hand now.counts
 reading_value now Threads = now.threads
 reading_value now Draining = as_number now.is_draining
 reading_value now Uptime = uptime_seconds now
+reading_value now RulesVersion = now.rules_version
 
 -- what is read of a table, in order
 abbrev pub all_table_readings : List TableReading

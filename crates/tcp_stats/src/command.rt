@@ -30,6 +30,8 @@ pub enum StatsCommand<'a> {
     /// `stop [MS]`, which is stickd's own: the program ends, and its connections may go on for so many ms, or for as many as the program
     /// was told as it started.
     Stop(Option<u64>),
+    /// `reload`, which is stickd's own: the rules are read again, of the file of the start.
+    Reload,
     /// `show table NAME oldest-first`, which is stickd's own: what a table holds, in the order in which its entries go.
     OldestFirst(&'a [u8]),
     /// `show table`, `set table` or `clear table`, whatever else follows.
@@ -137,6 +139,9 @@ fn read_single(verb: &[u8]) -> StatsCommand<'static>
     }
     if verb == b"stop".as_slice() {
         return StatsCommand::Stop(None);
+    }
+    if verb == b"reload".as_slice() {
+        return StatsCommand::Reload;
     }
     StatsCommand::Unknown
 }

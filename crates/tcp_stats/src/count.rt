@@ -4,7 +4,7 @@ ghost use Rattle.std.specs.Prelude.{◌≡◌, ◌<◌};
 ghost use Rattle.tcp_stats.specs.CountNames.{place};
 
 /// How many counts there are.
-pub const COUNTS: usize = 31;
+pub const COUNTS: usize = 33;
 
 /// What is counted. The variants stand in the order in which a worker publishes them.
 #[derive(Clone, Copy, Debug, PartialEq, Eq)]
@@ -65,6 +65,10 @@ pub enum Count {
     EventsExhausted,
     /// Commands that were answered on the sockets.
     Commands,
+    /// Times that the rules were read again, and the new ones were taken.
+    Reloads,
+    /// Times that the rules were to be read again, and stayed as they were.
+    ReloadsRefused,
     /// Times that a shard's record was begun again.
     Rolls,
     /// Entries that housekeeping removed as their time was over (`expire`).
@@ -104,6 +108,8 @@ impl Count {
         Count::EventsStale,
         Count::EventsExhausted,
         Count::Commands,
+        Count::Reloads,
+        Count::ReloadsRefused,
         Count::Rolls,
         Count::Expiries,
         Count::Refusals,

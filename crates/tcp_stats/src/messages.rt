@@ -68,6 +68,7 @@ fn command_list() -> &'static str
     ensures { result.now ≡ spec.command_list }
 {
     "  clear table <table> [<filter>]*         : remove an entry from a table (filter: data/key)
+  reload                                  : read the rules again, of the file of the start
   set table <table> key <k> [data.* <v>]* : update or create a table entry's data
   show errors                             : report last request and/or response errors for each proxy
   show info [json|typed]*                 : report information about the running process

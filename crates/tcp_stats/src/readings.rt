@@ -22,10 +22,12 @@ pub(crate) enum Reading {
     Draining,
     /// Seconds since the start.
     Uptime,
+    /// The number of the rules' version.
+    RulesVersion,
 }
 
 impl Reading {
-    pub(crate) const ALL: [Reading; 7] = [
+    pub(crate) const ALL: [Reading; 8] = [
         Reading::Open,
         Reading::Most,
         Reading::Limit,
@@ -33,6 +35,7 @@ impl Reading {
         Reading::Threads,
         Reading::Draining,
         Reading::Uptime,
+        Reading::RulesVersion,
     ];
 
     /// Its metric's name, and what is said of it.
@@ -60,6 +63,10 @@ impl Reading {
                 "Whether no new clients are taken: 1, else 0.",
             ),
             Reading::Uptime => ("stickd_uptime_seconds", "Seconds since the start."),
+            Reading::RulesVersion => (
+                "stickd_rules_version",
+                "The number of the rules' version, 1 at the start.",
+            ),
         }
     }
 
@@ -75,6 +82,7 @@ impl Reading {
             Reading::Threads => now.threads,
             Reading::Draining => u64::from(now.is_draining),
             Reading::Uptime => now.uptime_ms / 1_000,
+            Reading::RulesVersion => now.rules_version,
         }
     }
 }

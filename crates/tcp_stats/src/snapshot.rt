@@ -37,6 +37,8 @@ pub struct Snapshot<'a> {
     pub node: &'a str,
     /// How long it has run, in ms.
     pub uptime_ms: u64,
+    /// The number of the rules' version, 1 at the start.
+    pub rules_version: u64,
     /// The threads that serve connections.
     pub threads: u64,
     /// Whether it takes no new clients, and ends once those that it has are gone.

@@ -66,10 +66,12 @@ is_above_user User = false
 is_above_user Operator = true
 is_above_user Admin = true
 
--- of the other commands of the stats socket: keys and errors are no user's, and an administrator alone ends anything
+-- of the other commands of the stats socket: keys and errors are no user's, and an administrator alone ends anything, or has
+-- the rules read again
 abbrev pub may_ask : Level → commands.Command → Bool
 may_ask level commands.ShowErrors = is_above_user level
 may_ask level (commands.OldestFirst name) = is_above_user level
 may_ask level (commands.ShutdownFrontend name) = is_admin level
 may_ask level (commands.Stop ms) = is_admin level
+may_ask level commands.Reload = is_admin level
 may_ask level other = true

@@ -117,7 +117,9 @@ pub fn may_ask(level: Level, command: StatsCommand<'_>) -> bool
         StatsCommand::ShowErrors | StatsCommand::OldestFirst(_) => {
             matches!(level, Level::Operator | Level::Admin)
         }
-        StatsCommand::ShutdownFrontend(_) | StatsCommand::Stop(_) => matches!(level, Level::Admin),
+        StatsCommand::ShutdownFrontend(_) | StatsCommand::Stop(_) | StatsCommand::Reload => {
+            matches!(level, Level::Admin)
+        }
         _ => true,
     }
 }

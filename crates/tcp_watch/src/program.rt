@@ -1,5 +1,6 @@
 //! The trait `Program`, what the stats ask of the running program; `tcp_proxy` implements it.
 
+use base_sequence::NoMemory;
 use tcp_stats::{ProcessFacts, Snapshot, TableFacts};
 
 /// What becomes of the wish that a frontend takes no more clients.
@@ -28,4 +29,8 @@ pub trait Program {
     /// Has the program take no more clients, and end once those that it has are gone, or once so many ms are over: where no number is
     /// given, as many as it was told as it started, or none where it drains already. Of two moments the earlier counts.
     fn stop(&self, drain: Option<u64>);
+
+    /// Has the rules read again, of the file of the start. Appends the answer to the client, a line without an end: what was done, or why
+    /// nothing was.
+    fn reload(&self, answer: &mut Vec<u8>) -> Result<(), NoMemory>;
 }

@@ -96,6 +96,19 @@ impl<'p, K: Keeper, C: Clock, P: Program> StatsService<'p, K, C, P> {
         }
     }
 
+    /// Has the rules read again, and says what came of it. After that nothing is asked of the memory, so that what was done isn't answered
+    /// by a fault.
+    fn reload<W: Sink>(&mut self, writer: &mut W, talk: Conversation) -> Result<(), Failed> {
+        let mut text = Vec::new(self.teller.alloc);
+        if self.teller.program.reload(&mut text).is_err() {
+            return write_answer(writer, Message::OutOfMemory.bytes(), talk);
+        }
+        if write_all(writer, text.as_slice()).is_err() {
+            return Err(Failed);
+        }
+        write_answer(writer, b"\n\n", talk)
+    }
+
     /// Answers a command on a table, as far as the level permits.
     fn ask_table<W: Sink>(
         &mut self,
@@ -170,6 +183,10 @@ impl<'p, K: Keeper, C: Clock, P: Program> StatsService<'p, K, C, P> {
             }
             StatsCommand::OldestFirst(name) => {
                 self.show_oldest_first(name, writer, talk)?;
+                return Ok(talk);
+            }
+            StatsCommand::Reload => {
+                self.reload(writer, talk)?;
                 return Ok(talk);
             }
             StatsCommand::ShutdownFrontend(name) if name.is_empty() => {

@@ -72,11 +72,12 @@ def each_level_has_its_answers():
 
 
 def a_level_below_admin_stops_nothing():
-    """A program is stopped over a socket of administrators alone."""
+    """A program is stopped, and its rules are read again, over a socket of administrators alone."""
     with Server(greets) as server:
         for level in ('user', 'operator'):
             with Levelled(server.port, 'admin', f',level={level}') as proxy:
-                assert proxy.told('stop 0') == DENIED and proxy.told('shutdown frontend www') == DENIED, level
+                for command in ('stop 0', 'shutdown frontend www', 'reload'):
+                    assert proxy.told(command) == DENIED, (level, command)
                 assert proxy.program.poll() is None and proxy.told('show table').startswith(HEADER[:15]), level
         with Levelled(server.port, 'user', '') as proxy:
             assert proxy.told('stop 0') == '\n'

@@ -79,6 +79,8 @@ stickd_threads 4
 stickd_draining 0
 # TYPE stickd_uptime_seconds gauge
 stickd_uptime_seconds *
+# TYPE stickd_rules_version gauge
+stickd_rules_version 1
 # TYPE stickd_connections_accepted_total counter
 stickd_connections_accepted_total 2
 # TYPE stickd_connections_admitted_total counter
@@ -121,6 +123,9 @@ stickd_refused_events_total{cause="stale"} 0
 stickd_refused_events_total{cause="exhausted"} 0
 # TYPE stickd_commands_total counter
 stickd_commands_total *
+# TYPE stickd_reloads_total counter
+stickd_reloads_total{result="done"} 0
+stickd_reloads_total{result="refused"} 0
 # TYPE stickd_rolls_total counter
 stickd_rolls_total *
 # TYPE stickd_expiries_total counter
@@ -188,7 +193,7 @@ def metrics_are_those_of_prometheus():
     """Each metric has a line that says what it is, then one of its type, then its samples."""
     with two_came() as (proxy, _):
         text = proxy.fetched(b'GET /metrics HTTP/1.1\r\nHost: here\r\n\r\n')[2]
-        assert len(re.findall(r'^# HELP (\w+) [A-Z].+\.\n# TYPE \1 ', text, re.M)) == text.count('# HELP ') == 35, text
+        assert len(re.findall(r'^# HELP (\w+) [A-Z].+\.\n# TYPE \1 ', text, re.M)) == text.count('# HELP ') == 37, text
         shown = re.sub(f'^({VARYING_METRICS}) [0-9.]+$', r'\1 *', re.sub(r'^# HELP .*\n', '', text, flags=re.M), flags=re.M)
         assert shown == METRICS, shown
 
@@ -222,8 +227,10 @@ def requests_are_answered_in_http():
             assert body == BODIES.get(wanted, body), (request[:60], body)
 
 
-# What HAProxy answers to `help`, but for the commands that are its own alone, and with `oldest-first` and `stop`, which it hasn't.
+# What HAProxy answers to `help`, but for the commands that are its own alone, and with `oldest-first`, `reload` and `stop`,
+# which it hasn't.
 LIST = '''  clear table <table> [<filter>]*         : remove an entry from a table (filter: data/key)
+  reload                                  : read the rules again, of the file of the start
   set table <table> key <k> [data.* <v>]* : update or create a table entry's data
   show errors                             : report last request and/or response errors for each proxy
   show info [json|typed]*                 : report information about the running process
@@ -254,7 +261,7 @@ LINES = [
     ('help none', HELP), ('prompt now', UNKNOWN), ('quit', ''),
     ('shutdown frontend', 'A frontend name is expected.\n\n'), ('shutdown frontend none', 'No such frontend.\n\n'),
     ('shutdown frontend www now', UNKNOWN), ('shutdown sessions server www/s1', UNKNOWN), ('shutdown table www', UNKNOWN),
-    ('stop 30s', UNKNOWN), ('stop 1 2', UNKNOWN), (' show \t table \r', EMPTY_TABLE),
+    ('stop 30s', UNKNOWN), ('stop 1 2', UNKNOWN), ('reload now', UNKNOWN), (' show \t table \r', EMPTY_TABLE),
     ('show table www oldest-first', EMPTY_TABLE), ('show table none', 'No such table.\n\n'), ('show tables', UNKNOWN),
     ('set timeout cli 1d', UNKNOWN), ('', UNKNOWN), (' \t\r', UNKNOWN), ('blah', UNKNOWN),
 ]

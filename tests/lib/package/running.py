@@ -23,8 +23,8 @@ def unit_of(root, prefix):
     """The words of the unit's command, which has to be the program's."""
     unit = content(root, prefix, 'lib/systemd/system/stickd.service').decode().replace('\\\n', ' ')
     program = os.path.join('/', prefix, 'bin/stickd')
-    started = re.findall(r'^(?:ExecStart|ExecStartPre|ExecStop)=(\S+)', unit, re.MULTILINE)
-    same('programs of the unit', started, [program, '/usr/bin/touch', program, program, program])
+    started = re.findall(r'^(?:ExecStart|ExecStartPre|ExecReload|ExecStop)=(\S+)', unit, re.MULTILINE)
+    same('programs of the unit', started, [program, '/usr/bin/touch', *[program] * 5])
     same('paths of the unit', set(re.findall(r'/\S*bin/stickd\b', unit)), {program})
     assert re.search(r'^DynamicUser=yes$', unit, re.MULTILINE), 'the unit has no user of its own'
     checked = re.search(r'^ExecStartPre=(\S+ run .*)', unit, re.MULTILINE)[1].split()

@@ -10,5 +10,7 @@ carry-requires-clause-passed g c _ _ =
     let stands = c.arrive-conn.ensures.stands in
     let sign : judged.result ≡ Some c.in-Some.admitted = cc (c.in-Some.is) in
     let admitted : is_some judged.result ≡ true = ap is_some sign in
-    subst (λ came. HasPassedAs g.W.Width.setup came judged.new.seated.items judged.new.conn) c.samples-samples.ensures.told
-    (subst (λ setup. HasPassedAs setup samples judged.new.seated.items judged.new.conn) c.args.shared.now.judges (judged.ensures.of samples stands, judged.ensures.passed samples stands admitted, untracked_for c.args.shared.now.setup.now samples c.args.worker.now.seated.items judged.new.seated.items judged.new.conn (judged.ensures.untracked samples stands admitted)))
+    let rules = c.follow.new.self in
+    let setup = rules.setup.now in
+    subst (λ came. HasPassedAs setup came judged.new.seated.items judged.new.conn) c.samples-samples.ensures.told
+    (judged.ensures.of setup samples stands, judged.ensures.passed setup samples rules.current stands admitted, untracked_for setup samples c.args.worker.now.seated.items judged.new.seated.items judged.new.conn (judged.ensures.untracked setup samples stands admitted))

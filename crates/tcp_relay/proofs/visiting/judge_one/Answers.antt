@@ -36,25 +36,25 @@ returns-clause-connection g c =
     visitor_still g.W.Width.tables g.W.Width.shards c.args.seated.now lent.result.now lent.ensures.value lent.ensures.len c.requires.count c.requires.shards judged.new.ports judged.ensures.parts judged.new.conn judged.ensures.living judged.ensures.ready
 
 pub returns-clause-of : goal.returns-clause-of
-returns-clause-of g c samples stands =
+returns-clause-of g c setup samples stands =
     let lent = c.as_mut_slice-ports in
     let judged = c.judge-is_admitted in
-    judged_of _ c.args.shared.now.setup.now samples (ports_of lent.result.now) (ports_of judged.new.ports) c.args.conn.now judged.new.conn _ _ stands judged.ensures.gone
+    judged_of _ setup samples (ports_of lent.result.now) (ports_of judged.new.ports) c.args.conn.now judged.new.conn _ _ stands judged.ensures.gone
 
 pub returns-clause-passed : goal.returns-clause-passed
-returns-clause-passed g c samples stands admitted =
+returns-clause-passed g c setup samples stores stands admitted =
     let lent = c.as_mut_slice-ports in
     let judged = c.judge-is_admitted in
-    passed_still g.W.Width.tables g.W.Width.shards c.args.seated.now lent.result.now lent.ensures.value lent.ensures.len c.requires.count c.requires.shards judged.new.ports judged.ensures.parts c.args.shared.now.setup.now samples judged.new.conn
-    (judged_passed _ c.args.shared.now.setup.now samples (ports_of lent.result.now) (ports_of judged.new.ports) c.args.conn.now judged.new.conn _ _ g.W.Width.current c.args.shared.now.current
+    passed_still g.W.Width.tables g.W.Width.shards c.args.seated.now lent.result.now lent.ensures.value lent.ensures.len c.requires.count c.requires.shards judged.new.ports judged.ensures.parts setup samples judged.new.conn
+    (judged_passed _ setup samples (ports_of lent.result.now) (ports_of judged.new.ports) c.args.conn.now judged.new.conn _ _ g.W.Width.current stores
     (lent_store g.W.Width.tables g.W.Width.shards c.args.seated.now lent.result.now lent.ensures.value lent.ensures.len c.requires.count c.requires.shards g.W.Width.current c.requires.current) stands judged.ensures.gone judged.ensures.judged (judged.ensures.rests (judged.ensures.admitted ∙ sym c.of.ensures.exact ∙ admitted)))
 
 pub returns-clause-untracked : goal.returns-clause-untracked
-returns-clause-untracked g c samples stands admitted =
+returns-clause-untracked g c setup samples stands admitted =
     let lent = c.as_mut_slice-ports in
     let judged = c.judge-is_admitted in
-    untracked_still g.W.Width.tables g.W.Width.shards c.args.seated.now lent.result.now lent.ensures.value lent.ensures.len c.requires.count c.requires.shards judged.new.ports judged.ensures.parts c.args.shared.now.setup.now samples judged.new.conn
-    (judged_untracked _ c.args.shared.now.setup.now samples (ports_of lent.result.now) (ports_of judged.new.ports) c.args.conn.now judged.new.conn _ _ stands judged.ensures.gone judged.ensures.judged (judged.ensures.rests (judged.ensures.admitted ∙ sym c.of.ensures.exact ∙ admitted)))
+    untracked_still g.W.Width.tables g.W.Width.shards c.args.seated.now lent.result.now lent.ensures.value lent.ensures.len c.requires.count c.requires.shards judged.new.ports judged.ensures.parts setup samples judged.new.conn
+    (judged_untracked _ setup samples (ports_of lent.result.now) (ports_of judged.new.ports) c.args.conn.now judged.new.conn _ _ stands judged.ensures.gone judged.ensures.judged (judged.ensures.rests (judged.ensures.admitted ∙ sym c.of.ensures.exact ∙ admitted)))
 
 pub returns-clause-moment : goal.returns-clause-moment
 returns-clause-moment g c connection stands =
@@ -72,7 +72,7 @@ returns-clause-still g c =
     (judged_keep _ (ports_of lent.result.now) (ports_of judged.new.ports) c.args.conn.now judged.new.conn _ _ c.requires.connection.living judged.ensures.gone)
 
 pub returns-clause-ending : goal.returns-clause-ending
-returns-clause-ending g c samples stands rejected =
+returns-clause-ending g c setup samples stands rejected =
     let lent = c.as_mut_slice-ports in
     let judged = c.judge-is_admitted in
-    judged_ends _ c.args.shared.now.setup.now samples (ports_of lent.result.now) (ports_of judged.new.ports) c.args.conn.now judged.new.conn _ _ stands judged.ensures.gone judged.ensures.judged (sym c.of.ensures.exact ∙ rejected)
+    judged_ends _ setup samples (ports_of lent.result.now) (ports_of judged.new.ports) c.args.conn.now judged.new.conn _ _ stands judged.ensures.gone judged.ensures.judged (sym c.of.ensures.exact ∙ rejected)

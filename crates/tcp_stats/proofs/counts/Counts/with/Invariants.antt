@@ -4,7 +4,7 @@ use Rattle.tcp_stats.proofs.counts.Counts.with.Given as goal
 
 abbrev pub invariant-loop-place : goal.invariant-loop-place
 invariant-loop-place l = record {
-  places : length l.sums.values ≡ 31;
+  places : length l.sums.values ≡ 33;
   summed : (k : ℕ) → k < l.place → slice_index l.sums.values k ≡ capped_sum (slice_index l.self.values k) (slice_index l.other.values k);
   kept : (k : ℕ) → l.place ≤ k → slice_index l.sums.values k ≡ slice_index l.self.values k;
 }

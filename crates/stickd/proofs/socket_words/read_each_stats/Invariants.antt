@@ -1,5 +1,5 @@
 use Rattle.std.proofs.Common.{◌≡◌, length}
-use Rattle.stickd.proofs.run_plan.read_each_stats.Given as goal
+use Rattle.stickd.proofs.socket_words.read_each_stats.Given as goal
 
 -- each word so far is a socket
 abbrev pub invariant-loop-word : goal.invariant-loop-word

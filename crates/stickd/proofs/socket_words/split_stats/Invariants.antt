@@ -1,6 +1,6 @@
 use Rattle.std.proofs.Common.{◌≤◌}
 use Rattle.std.specs.Prelude.{IfSome}
-use Rattle.stickd.proofs.run_plan.split_stats.Given as goal
+use Rattle.stickd.proofs.socket_words.split_stats.Given as goal
 
 -- the permissions are some, up to 0777, or aren't said yet
 abbrev pub invariant-loop : goal.invariant-loop

@@ -1,6 +1,6 @@
 use Rattle.std.proofs.Common.{◌≡◌, Some, length, map, take}
 use Rattle.rule_addresses.specs.Addresses.{bind_of}
-use Rattle.stickd.proofs.run_plan.read_each.Given as goal
+use Rattle.stickd.proofs.client_words.read_each.Given as goal
 
 -- the words so far are read
 abbrev pub invariant-loop-word : goal.invariant-loop-word
