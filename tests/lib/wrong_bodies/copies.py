@@ -23,11 +23,16 @@ pub {name}_spec : {{M : Type 1}} → statement M
 """
 
 
+def is_left_whole(folder, function):
+    """Whether a function of the crate in a folder keeps its body where others are taken by their contracts: its proof has another form."""
+    return os.path.isdir(os.path.join(folder, 'proofs', *function.modules[:-1], f'+{function.modules[-1]}'))
+
+
 def take_by_contract(crate, room, function):
     """Writes a proof by the hole for a function of the copy, in place of its own, where that form of proof is its form."""
-    folder = os.path.join(room, 'proofs', *function.modules)
-    if os.path.isdir(os.path.join(os.path.dirname(folder), f'+{function.modules[-1]}')):
+    if is_left_whole(room, function):
         return False
+    folder = os.path.join(room, 'proofs', *function.modules)
     os.makedirs(folder, exist_ok=True)
     for name in ('Invariants.antt', 'Answers.antt', 'Proof.antt'):
         if os.path.isfile(os.path.join(folder, name)):
