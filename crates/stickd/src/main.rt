@@ -355,7 +355,7 @@ fn serve_config<'a, R: ProxyRuntime + Files + AllocGlobal + Eprint + RandomSourc
     // Names are made of ASCII letters, digits and a few signs.
     let frontend = str::from_utf8(frontend_name(config)).unwrap_or("");
     let server = str::from_utf8(server_name(config, text)).unwrap_or("");
-    let plan = with_names(plan, frontend, server);
+    let plan = with_names(plan, text, frontend, server);
     let is_done = run_pooled(rt.alloc(), rt, &setup, plan)?;
     Ok(status_of(is_done))
 }

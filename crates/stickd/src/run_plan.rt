@@ -130,6 +130,7 @@ pub fn read_plan<'a>(
     let backlog = arguments.get_one::<u32>("backlog");
     Ok(Plan {
         source,
+        text: &[],
         socket,
         more_binds,
         backlog: backlog.unwrap_or(connections).clamp(1, MOST_BACKLOG),
@@ -168,8 +169,14 @@ pub fn read_plan<'a>(
     })
 }
 
-/// The plan of a run that is told of as a frontend and a server of these names.
-pub(crate) fn with_names<'a>(plan: Plan<'a>, frontend: &'a str, server: &'a str) -> Plan<'a>
+/// The plan of a run whose rules were read of a text, and that is told of as a frontend and a server of these names.
+pub(crate) fn with_names<'a>(
+    plan: Plan<'a>,
+    text: &'a [u8],
+    frontend: &'a str,
+    server: &'a str,
+) -> Plan<'a>
+    ensures text { result.text.now ≡ text.now }
     ensures frontend { result.watch.about.frontend.now ≡ frontend.now }
     ensures server { result.watch.about.server.now ≡ server.now }
     ensures threads { result.threads ≡ plan.entry.threads }
@@ -184,5 +191,9 @@ pub(crate) fn with_names<'a>(plan: Plan<'a>, frontend: &'a str, server: &'a str)
         about,
         ..plan.watch
     };
-    Plan { watch, ..plan }
+    Plan {
+        text,
+        watch,
+        ..plan
+    }
 }

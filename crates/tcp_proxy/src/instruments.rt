@@ -53,7 +53,7 @@ pub(crate) struct Instruments {
     board: Board,
     /// The rules that follow those of the start, and who has them follow.
     versions: Versions,
-    reload_turn: Mutex<()>,
+    newest: Mutex<Option<Vec<u8>>>,
     /// Of each thread that serves connections, where somebody looks.
     cells: Vec<Cells>,
     /// Who was the last that something went wrong for, where somebody looks.
@@ -144,7 +144,7 @@ impl Instruments {
             alloc,
             board: Board::new(plan.stats_places()),
             versions: Versions::new(alloc)?,
-            reload_turn: Mutex::new(()),
+            newest: Mutex::new(None),
             cells: cells_of(alloc, watched)?,
             lasts: lasts_where(plan.is_watched()),
             notes_rejected: plan.watch.log_rejected,
@@ -234,9 +234,10 @@ impl Instruments {
             reloads: Reloads {
                 source: plan.source,
                 first: setup,
+                first_text: plan.text,
                 versions: &self.versions,
                 connections: plan.limits.connections,
-                turn: &self.reload_turn,
+                newest: &self.newest,
             },
             threads: plan.threads,
             connections: plan.limits.connections,

@@ -4,6 +4,7 @@
 mod answering;
 mod asks;
 mod binding;
+mod changed_lines;
 mod counted;
 mod ending;
 mod handing;

@@ -110,6 +110,8 @@ pub enum Source<'a> {
 pub struct Plan<'a> {
     /// Where its rules came from.
     pub source: Source<'a>,
+    /// What they were read of.
+    pub text: &'a [u8],
     /// The socket on which commands are answered.
     pub socket: SocketPlan<'a>,
     /// How many threads serve connections: 1 to 64.

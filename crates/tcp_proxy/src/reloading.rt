@@ -2,8 +2,9 @@
 
 ghost use Rattle.std.specs.Prelude.{◌≤◌};
 
+use crate::changed_lines::tell_changes;
 use crate::plan::Source;
-use crate::rereading::{MOST_VERSIONS, NotReloaded, reread};
+use crate::rereading::{MOST_VERSIONS, NotReloaded, Reread, reread};
 use log::Log;
 use rule_model::Setup;
 use std::alloc::Global;
@@ -29,11 +30,13 @@ pub(crate) struct Reloads<'a> {
     /// Where they are read again.
     pub source: Source<'a>,
     pub first: &'a Setup,
+    /// What the first rules were read of.
+    pub first_text: &'a [u8],
     pub versions: &'a Versions,
     /// How many connections there are at most.
     pub connections: u32,
-    /// Whoever has it renews the rules.
-    pub turn: &'a Mutex<()>,
+    /// What the newest rules were read of, where they followed the first. Whoever has it renews the rules.
+    pub newest: &'a Mutex<Option<Vec<u8>>>,
     ghost few: { (1 ≤ first.now.shards) × (first.now.shards ≤ 64) },
 }
 
@@ -49,16 +52,16 @@ impl<'a> Reloads<'a> {
         Some(version.server.as_str())
     }
 
-    /// Reads the rules again, and has whoever comes from now on be judged by them. Appends the answer to who asked for it. Where that can't
-    /// be, no rule changes.
+    /// Reads the rules again, and has whoever comes from now on be judged by them. Appends the answer to who asked for it, and says which
+    /// lines changed. Where that can't be, no rule changes.
     pub fn renew<R: Log + Wait>(
         &self,
         alloc: Global,
         rt: &R,
         answer: &mut Vec<u8>,
     ) -> Result<Reloaded, NotReloaded<'a>> {
-        let _turn = self.turn.lock(rt);
-        let setup = reread(alloc, rt, self.source, self.first, self.connections)?;
+        let mut newest = self.newest.lock(rt);
+        let Reread { setup, text } = reread(alloc, rt, self.source, self.first, self.connections)?;
         if self.versions.count() >= MOST_VERSIONS {
             return Err(NotReloaded::TooOften);
         }
@@ -72,12 +75,22 @@ impl<'a> Reloads<'a> {
             server,
         };
         // All memory first: what is done isn't answered by a fault.
-        let text = format!(in alloc; "Reloaded: {reloaded}.")?;
-        answer.extend_from_slice(text.as_bytes())?;
+        let said = format!(in alloc; "Reloaded: {reloaded}.")?;
+        answer.extend_from_slice(said.as_bytes())?;
         let server = format!(in alloc; "{server}")?;
-        match self.versions.publish(rt, Version { setup, server }) {
-            Ok(()) => Ok(reloaded),
-            Err(_) => Err(NotReloaded::Memory),
+        if self
+            .versions
+            .publish(rt, Version { setup, server })
+            .is_err()
+        {
+            return Err(NotReloaded::Memory);
         }
+        let former = match &*newest {
+            Some(text) => text.as_slice(),
+            None => self.first_text,
+        };
+        tell_changes(alloc, rt, former, text.as_slice());
+        *newest = Some(text);
+        Ok(reloaded)
     }
 }

@@ -118,6 +118,15 @@ fn warn_of_lines<R: Log>(alloc: Global, rt: &R, text: &[u8], config: &Config) {
     say_warnings(rt, file_warnings(alloc, text));
 }
 
+/// What was read again.
+#[derive(Drop)]
+pub(crate) struct Reread {
+    /// The rules that follow, over the tables of the first setup.
+    pub setup: Setup,
+    /// The whole file.
+    pub text: Vec<u8>,
+}
+
 /// Reads the rules again that are to follow those of the first setup, and says what a start says of their lines, rules and tables, for so
 /// many connections at most.
 pub(crate) fn reread<'a, R: Log>(
@@ -126,9 +135,9 @@ pub(crate) fn reread<'a, R: Log>(
     source: Source<'a>,
     first: &Setup,
     connections: u32,
-) -> Result<Setup, NotReloaded<'a>>
+) -> Result<Reread, NotReloaded<'a>>
     requires { (1 ≤ first.now.shards) × (first.now.shards ≤ 64) }
-    ensures version { IfOk result (IsVersionOf first.now) }
+    ensures version { IfOk result (λ read. IsVersionOf first.now read.setup) }
 {
     let path = match source {
         Source::File(path) => path,
@@ -140,5 +149,5 @@ pub(crate) fn reread<'a, R: Log>(
     let setup = version_of(alloc, first, &config)?;
     warn_of_lines(alloc, rt, text.as_slice(), &config);
     say_warnings(rt, table_warnings(alloc, &setup, connections));
-    Ok(setup)
+    Ok(Reread { setup, text })
 }

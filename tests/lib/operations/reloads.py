@@ -1,6 +1,7 @@
 """Trials of what `stickd reload` answers, and what it leaves alone: files that are gone, faulty or ask for a restart, files that may be
 taken, who may ask, and a program that stops."""
 import os
+import re
 import socket
 import subprocess
 
@@ -218,6 +219,33 @@ def what_lines_say_to_no_end_is_told_again():
         warns(proxy, text, 'Line 4: no rule below it uses this acl', 'line 5: read past')
 
 
+def changes(proxy, text):
+    """Which lines are told to have changed as this is reloaded, in their order."""
+    proxy.write(text)
+    before = len(proxy.said())
+    assert proxy.asks().startswith('Reloaded: '), text
+    wait_for('it is told that it was reloaded', lambda: any('reloaded: version ' in line for line in proxy.said()[before:]))
+    return [re.sub(r'^.*?stickd: ', '', line) for line in proxy.said()[before:] if 'reloaded: version ' not in line]
+
+
+def lines_that_change_are_told():
+    """The lines that are gone and those that are new, by their words and numbers: not what is moved, spaced or commented otherwise, and of
+    many the first 20."""
+    strict = f'{REJECT} if {{ sc0_conn_cur gt 1 }}'
+    with reloadable(TRACK, reject_above(2)) as proxy:
+        first = proxy.text()
+        lax = next(at for at, line in enumerate(first.splitlines(), 1) if line.strip() == reject_above(2))
+        new = first.replace(reject_above(2), f'acl far src 10.0.0.0/8\n    {strict} or far')
+        assert changes(proxy, new) == [f'line {lax} is gone: {reject_above(2)}', f'line {lax} is new: acl far src 10.0.0.0/8',
+                                       f'line {lax + 1} is new: {strict} or far'], 'of the version before'
+        assert changes(proxy, '# nothing\n' + new.replace(strict, strict.replace(' ', ' \t')) + '    # more\n') == [], 'which says the same'
+        many = '\n    '.join(f'{REJECT} if {{ src 10.0.0.{host} }}' for host in range(25))
+        told = changes(proxy, first.replace(reject_above(2), many))
+        assert told[2:] == [*(f'line {lax + host} is new: {REJECT} if {{ src 10.0.0.{host} }}' for host in range(20)),
+                            '5 lines more of which that is so'], told
+        assert changes(proxy, first + '#' * 33_000) == ["which lines changed isn't told of more than 32768 bytes"]
+
+
 def what_rules_say_to_no_end_is_told_again():
     """What a start warns of the rules is said as they are reloaded: patterns of mapped addresses, and limits that let in what isn't
     tracked."""
@@ -296,4 +324,4 @@ def several_ask_at_once():
 TRIALS = [a_file_that_is_no_file_changes_nothing, what_takes_a_restart_is_told, where_clients_come_and_go_is_looked_at_first,
           a_table_with_too_few_places_changes_its_size, a_file_of_haproxys_takes_a_restart, what_may_change_is_taken, a_new_version_judges,
           options_are_those_of_the_start, what_lines_say_to_no_end_is_told_again, what_rules_say_to_no_end_is_told_again,
-          administrators_alone_may, who_can_not_be_asked, a_program_that_stops_is_not_reloaded, several_ask_at_once]
+          lines_that_change_are_told, administrators_alone_may, who_can_not_be_asked, a_program_that_stops_is_not_reloaded, several_ask_at_once]
