@@ -11,6 +11,8 @@ from lib.trials import wants
 RULES = os.path.join(TOP, 'packaging', 'prometheus', 'stickd.rules.yml')
 CASES = os.path.join(TOP, 'tests', 'alert_cases', 'stickd.yml')
 SECTION = 'Alerts and a dashboard'
+# Where a package puts the rules.
+INSTALLED = '/usr/share/stickd/prometheus/stickd.rules.yml'
 EXPRESSION = re.compile(r'^        expr: (?:>-\n(?P<folded>(?:          .*\n)+)|(?P<plain>.*)\n)', re.M)
 ANNOTATIONS = ('summary', 'description', 'runbook')
 SEVERITIES = ('critical', 'warning', 'info')
@@ -26,10 +28,10 @@ def read(path):
         return file.read()
 
 
-def alerts(text=None):
-    """The alerts of the file, or of another text. Only what stands there in the file's own form is found, so that the number of them is
-    compared with what promtool finds."""
-    for block in (text or read(RULES)).split('\n      - alert: ')[1:]:
+def alerts():
+    """The alerts of the file. Only what stands there in the file's own form is found, so that the number of them is compared with what
+    promtool finds."""
+    for block in read(RULES).split('\n      - alert: ')[1:]:
         found = EXPRESSION.search(block)
         yield Alert(block.split('\n')[0], ' '.join((found['folded'] or found['plain']).split()), block)
 
@@ -129,11 +131,31 @@ def wrong_texts():
         yield from (f'{alert.name}: {wrong}' for wrong in wrong_commands(texts['description'], options))
 
 
+def section():
+    """The page's section of alerts."""
+    return read(os.path.join(TOP, 'docs', 'OPERATING.md')).partition(f'\n## {SECTION}\n')[2].split('\n## ')[0]
+
+
 def unexplained():
     """The alerts that the page's section doesn't name, and those that it names and aren't there."""
-    section = read(os.path.join(TOP, 'docs', 'OPERATING.md')).partition(f'\n## {SECTION}\n')[2].split('\n## ')[0]
-    for name in sorted(set(re.findall(r'`(Stickd\w+)`', section)) ^ {alert.name for alert in alerts()}):
+    for name in sorted(set(re.findall(r'`(Stickd\w+)`', section())) ^ {alert.name for alert in alerts()}):
         yield f'{name} stands in one alone of docs/OPERATING.md, {SECTION}, and packaging/prometheus'
 
 
-LOOKS = [unread_rules, failed_cases, missing_cases, wrong_texts, unexplained]
+def unread_example():
+    """What promtool says of the page's example, where the rules are those of the sources; and the jobs that it and the rules don't share."""
+    example = ''.join(f'{line[7:]}\n' for line in section().splitlines() if line.startswith('       '))
+    if INSTALLED not in example:
+        yield f'the example of docs/OPERATING.md has no {INSTALLED}'
+    with tempfile.TemporaryDirectory(prefix='stickd-') as room:
+        path = os.path.join(room, 'prometheus.yml')
+        with open(path, 'w', encoding='utf-8') as file:
+            file.write(example.replace(INSTALLED, RULES))
+        said, status = promtool('check', 'config', path)
+    if status != 0:
+        yield from said.splitlines()
+    for job in set(re.findall(r'job_name: (\w+)', example)) ^ set(re.findall(r'job="(\w+)"', read(RULES))):
+        yield f'the job {job} stands in one alone of the example and the rules'
+
+
+LOOKS = [unread_rules, failed_cases, missing_cases, wrong_texts, unexplained, unread_example]
