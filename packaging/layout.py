@@ -14,6 +14,8 @@ PROGRAM = 'lib/stickd/stickd'
 # What the sources name, and what stands in its place once it is installed.
 PROGRAM_OF_UNIT = '/usr/local/bin/stickd'
 EXAMPLE = 'examples/both-families.cfg'
+# What other programs read of it, below its own folder of share/. A file of theirs may name it there, as it may not in share/doc.
+OF_MONITORS = ('prometheus/stickd.rules.yml', 'grafana/stickd.json')
 # Where zsh looks for the completions of a distribution's packages, and of all others.
 OF_A_DISTRIBUTION, OF_OTHERS = 'vendor-completions', 'site-functions'
 
@@ -103,5 +105,7 @@ def files(prefix, program, zsh_folder):
     yield File(f'{share}/fish/vendor_completions.d/stickd.fish', 0o644, source('packaging', 'completions', 'stickd.fish'))
     yield File(f'{documented}/copyright', 0o644, source('packaging', 'debian', 'copyright'))
     yield File(f'{documented}/changelog.gz', 0o644, packed(source('packaging', 'debian', 'changelog')))
+    for name in OF_MONITORS:
+        yield File(f'{share}/stickd/{name}', 0o644, source('packaging', *name.split('/')))
     for name, content in documents():
         yield File(f'{documented}/examples/{name}', 0o644, content)

@@ -19,6 +19,8 @@ BELOW_PREFIX = {
     'share/man/man1/stickd.1.gz': 0o644,
     'share/bash-completion/completions/stickd': 0o644,
     'share/fish/vendor_completions.d/stickd.fish': 0o644,
+    'share/stickd/prometheus/stickd.rules.yml': 0o644,
+    'share/stickd/grafana/stickd.json': 0o644,
     'share/doc/stickd/copyright': 0o644,
     'share/doc/stickd/changelog.gz': 0o644,
     **{f'share/doc/stickd/examples/{name}': 0o644 for name in EXAMPLES}}
@@ -51,7 +53,8 @@ def looks_right(root, prefix, zsh):
     share, sources = os.path.join(root, prefix, 'share'), os.path.join(TOP, 'packaging')
     for path, source in [('bash-completion/completions/stickd', 'completions/stickd.bash'), (zsh[6:], 'completions/_stickd'),
                          ('fish/vendor_completions.d/stickd.fish', 'completions/stickd.fish'),
-                         ('doc/stickd/copyright', 'debian/copyright')]:
+                         ('stickd/prometheus/stickd.rules.yml', 'prometheus/stickd.rules.yml'),
+                         ('stickd/grafana/stickd.json', 'grafana/stickd.json'), ('doc/stickd/copyright', 'debian/copyright')]:
         same(path, content(share, path), content(sources, source))
     same('socket unit', content(root, prefix, 'lib/systemd/system/stickd.socket'), content(TOP, 'examples', 'stickd.socket'))
     same('manual', gzip.decompress(content(share, 'man/man1/stickd.1.gz')), content(TOP, 'man', 'stickd.1'))
@@ -208,8 +211,8 @@ def it_is_installed_without_dpkg_and_goes():
     install(root, '--remove')
     same('left', set(files_below(root)), {CONFIGURATION, 'usr/local/bin/other'})
     same('the operator\'s configuration', content(root, CONFIGURATION), mine)
-    same('folder of documents', os.path.exists(os.path.join(root, 'usr/local/share/doc/stickd')), False)
-    same('folder of the program', os.path.exists(os.path.join(root, 'usr/local/lib/stickd')), False)
+    for own in ('share/doc/stickd', 'share/stickd', 'lib/stickd'):
+        same(f'folder {own}', os.path.exists(os.path.join(root, 'usr/local', own)), False)
 
 
 def it_is_installed_below_any_prefix():
