@@ -4,7 +4,7 @@ ghost use Rattle.std.specs.Prelude.{◌≤◌};
 
 use crate::changed_lines::tell_changes;
 use crate::plan::Source;
-use crate::rereading::{MOST_VERSIONS, NotReloaded, Reread, reread};
+use crate::rereading::{MOST_VERSIONS, NewRules, NotReloaded, reread};
 use log::Log;
 use rule_model::Setup;
 use std::alloc::Global;
@@ -61,7 +61,13 @@ impl<'a> Reloads<'a> {
         answer: &mut Vec<u8>,
     ) -> Result<Reloaded, NotReloaded<'a>> {
         let mut newest = self.newest.lock(rt);
-        let Reread { setup, text } = reread(alloc, rt, self.source, self.first, self.connections)?;
+        let NewRules { setup, text } = reread(
+            alloc,
+            rt,
+            self.source,
+            self.first,
+            self.connections,
+        )?;
         if self.versions.count() >= MOST_VERSIONS {
             return Err(NotReloaded::TooOften);
         }

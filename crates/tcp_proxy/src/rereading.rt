@@ -120,7 +120,7 @@ fn warn_of_lines<R: Log>(alloc: Global, rt: &R, text: &[u8], config: &Config) {
 
 /// What was read again.
 #[derive(Drop)]
-pub(crate) struct Reread {
+pub(crate) struct NewRules {
     /// The rules that follow, over the tables of the first setup.
     pub setup: Setup,
     /// The whole file.
@@ -135,7 +135,7 @@ pub(crate) fn reread<'a, R: Log>(
     source: Source<'a>,
     first: &Setup,
     connections: u32,
-) -> Result<Reread, NotReloaded<'a>>
+) -> Result<NewRules, NotReloaded<'a>>
     requires { (1 ≤ first.now.shards) × (first.now.shards ≤ 64) }
     ensures version { IfOk result (λ read. IsVersionOf first.now read.setup) }
 {
@@ -149,5 +149,5 @@ pub(crate) fn reread<'a, R: Log>(
     let setup = version_of(alloc, first, &config)?;
     warn_of_lines(alloc, rt, text.as_slice(), &config);
     say_warnings(rt, table_warnings(alloc, &setup, connections));
-    Ok(Reread { setup, text })
+    Ok(NewRules { setup, text })
 }
