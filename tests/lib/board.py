@@ -14,6 +14,8 @@ SOURCE = {'type': 'prometheus', 'uid': '${datasource}'}
 # The variables of the dashboard, with their types; and those that Grafana has itself.
 VARIABLES, OWN_VARIABLES = {'datasource': 'datasource', 'instance': 'query'}, {'__rate_interval'}
 WIDTH = 24
+# The units that are used, by Grafana's names for them: it shows any other word as it is.
+UNITS = ('none', 'cps', 'ops', 'Bps', 'bytes', 's', 'percentunit', 'dateTimeAsIso')
 
 
 def board():
@@ -76,8 +78,8 @@ def wrong_in_panel(panel):
     targets = panel['targets']
     if not targets or len({target['refId'] for target in targets}) < len(targets):
         yield 'it asks nothing, or two by one name'
-    if not panel['description'] or not panel['fieldConfig']['defaults']['unit']:
-        yield 'it has no description, or no unit'
+    if not panel['description'] or panel['fieldConfig']['defaults']['unit'] not in UNITS:
+        yield 'it has no description, or no unit that is known'
     for one in (panel, *targets):
         if one['datasource'] != SOURCE:
             yield f'the data source {one["datasource"]}'

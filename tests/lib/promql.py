@@ -10,7 +10,7 @@ OF_COUNTERS = {'increase', 'rate'}
 # What Prometheus itself knows of each target.
 OWN, OWN_LABELS = 'up', {'instance', 'job'}
 LISTED = re.compile(r'\b(by|without|on)\s*\(([^)]*)\)')
-NAMED = re.compile(r'(?P<name>[A-Za-z_]\w*)\s*(?P<matchers>\{[^}]*\})?')
+NAMED = re.compile(r'(?<![\w.])(?P<name>[A-Za-z_]\w*)\s*(?P<matchers>\{[^}]*\})?')
 MATCHER = re.compile(r'(\w+)\s*(=~|!~|!=|=)\s*"([^"]*)"')
 
 # The metrics of a program: the type of each, and the labels of each of its samples.
