@@ -20,8 +20,9 @@ ARGUMENT = re.compile(r'  [<\[]([A-Z-]+)[>\]](\.\.\.)?  +(\S.*)$')
 COMMAND = re.compile(r'  ([\w-]+)  +(\S.*)$')
 LINES = {'Commands': COMMAND, 'Arguments': ARGUMENT, 'Options': OPTION}
 # What the value of an option, or an argument, of such a name is taken from. Of all others nothing is known.
-FILES, GROUPS, COMMANDS = 'files', 'groups', 'commands'
-KINDS = {'FILE': FILES, 'PATH': FILES, 'PATH[,OPTION]': FILES, 'GROUP': GROUPS, 'COMMAND': COMMANDS}
+FILES, GROUPS, COMMANDS, FORMS = 'files', 'groups', 'commands', 'forms'
+KINDS = {'FILE': FILES, 'PATH': FILES, 'PATH[,OPTION]': FILES, 'GROUP': GROUPS, 'COMMAND': COMMANDS, 'FORM': FORMS}
+EXPORTS = 'csv json nft ipset'
 
 
 class Option(NamedTuple):
@@ -104,7 +105,8 @@ def bash_kind(kind, names):
     """The statements that answer words of a kind, in the place of options."""
     return {FILES: ['compopt -o filenames 2>/dev/null', 'choices=(-f)'],
             GROUPS: ['choices=(-g)'],
-            COMMANDS: [f'choices=(-W "{names}")']}.get(kind, ['return'])
+            COMMANDS: [f'choices=(-W "{names}")'],
+            FORMS: [f'choices=(-W "{EXPORTS}")']}.get(kind, ['return'])
 
 
 def bash_values(commands):
@@ -182,7 +184,7 @@ def zsh_option(option):
         alone = '(- *)' if option.short else ''
         names = f"{{{','.join(option.names())}}}" if option.short else option.long
         return f"'{alone}'{names}{quoted(text)}" if alone else quoted(names + text)
-    action = {FILES: '_files', GROUPS: '_groups'}.get(KINDS.get(option.value), ' ')
+    action = {FILES: '_files', GROUPS: '_groups', FORMS: f'({EXPORTS})'}.get(KINDS.get(option.value), ' ')
     return quoted(f'*{option.long}={text}:{told(option.value)}:{action}')
 
 
@@ -244,7 +246,7 @@ def fish_option(condition, option):
         words.append(f'-s {option.short[1:]}')
     words.append(f'-l {option.long[2:]}')
     if option.value:
-        words.append({FILES: '-r -F', GROUPS: "-x -a '(__fish_complete_groups)'"}.get(KINDS.get(option.value), '-x'))
+        words.append({FILES: '-r -F', GROUPS: "-x -a '(__fish_complete_groups)'", FORMS: f"-x -a '{EXPORTS}'"}.get(KINDS.get(option.value), '-x'))
     return ' '.join([*words, f'-d {fish_text(option.text)}'])
 
 

@@ -18,6 +18,9 @@ _stickd() {
             compopt -o filenames 2>/dev/null
             choices=(-f)
             ;;
+        "ctl --as")
+            choices=(-W "csv json nft ipset")
+            ;;
         "run --socket-group")
             choices=(-g)
             ;;
@@ -41,7 +44,7 @@ _stickd() {
             choices=(-f)
             ;;
         "ctl -")
-            choices=(-W "--socket --json --watch --to --timeout -h --help")
+            choices=(-W "--socket --json --watch --to --as --timeout -h --help")
             ;;
         "ctl "*)
             return

@@ -40,6 +40,7 @@ complete -c stickd -n '__stickd_at ctl' -l socket -r -F -d 'The Unix socket on w
 complete -c stickd -n '__stickd_at ctl' -l json -d 'Show answers as JSON'
 complete -c stickd -n '__stickd_at ctl' -l watch -x -d 'Ask again after so many seconds, 1 to 3600, until nobody answers'
 complete -c stickd -n '__stickd_at ctl' -l to -r -F -d 'Write what \'save\' answers to FILE, whole or not at all [default: standard output]'
+complete -c stickd -n '__stickd_at ctl' -l as -x -a 'csv json nft ipset' -d 'The form in which \'export\' writes: csv, json, nft or ipset'
 complete -c stickd -n '__stickd_at ctl' -l timeout -x -d 'How long the program may say nothing before it is given up [default: 10s]'
 complete -c stickd -n '__stickd_at ctl' -s h -l help -d 'Print help'
 

@@ -9,7 +9,7 @@ use std::process::ExitCode;
 use std::rt::{Env, Files};
 use std::time::Clock;
 use stickd_ctl::{Ctl, Reload, Stop, Top, ask_running, reload_running, show_top, stop_running};
-use stickd_input::{STATS, TO};
+use stickd_input::{AS, STATS, TO};
 
 /// Sends commands to a running stickd, and shows what it answers.
 pub(crate) fn ask_named<R: Net + Files + Clock + Env + Print + Eprint + AllocGlobal>(
@@ -32,12 +32,17 @@ pub(crate) fn ask_named<R: Net + Files + Clock + Env + Print + Eprint + AllocGlo
         Some(to) => Some(to),
         None => None,
     };
+    let form = match arguments.get_str(AS) {
+        Some(form) => Some(form),
+        None => None,
+    };
     let asked = Ctl {
         path,
         words,
         json: arguments.get_flag("json"),
         watch: arguments.get_one::<u32>("watch").map(u64::from),
         to,
+        form,
         patience,
     };
     Ok(ExitCode::from(ask_running(rt, &asked)?))

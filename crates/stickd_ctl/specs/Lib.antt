@@ -13,3 +13,6 @@ pub mod Windows
 pub mod Hints
 pub mod Progressing
 pub mod Reloading
+pub mod Csv
+pub mod AddressSets
+pub mod Exporting

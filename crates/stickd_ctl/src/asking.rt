@@ -4,6 +4,7 @@ use crate::client::{
     BAD_WORDS, DONE, FAILED, Peer, answer_in_time, answer_told, is_on_terminal, say_no_memory, show,
 };
 use crate::errors::{is_command, is_error};
+use crate::exporting::export_table;
 use crate::hints::{asks_for_help, hint};
 use crate::json::push_json;
 use crate::marks::push_marked;
@@ -20,6 +21,9 @@ use std::{io, thread};
 /// The word that asks for what tables hold.
 const SAVE: &str = "save";
 
+/// The word that asks for a table's entries as other programs take them.
+const EXPORT: &str = "export";
+
 /// What `stickd ctl` is asked.
 #[derive(Clone, Copy, Drop)]
 pub struct Ctl<'a> {
@@ -33,6 +37,8 @@ pub struct Ctl<'a> {
     pub watch: Option<u64>,
     /// The file to which what tables hold is saved, where that isn't standard output.
     pub to: Option<&'a str>,
+    /// The name of the form in which a table is exported.
+    pub form: Option<&'a str>,
     /// How long stickd may say nothing, in ms.
     pub patience: u64,
 }
@@ -157,22 +163,25 @@ fn save<R: Net + Files + Clock + Print + Eprint + AllocGlobal>(
     save_tables(rt, asked.peer(), tables, asked.to)
 }
 
-/// Sends commands to a running stickd, shows what it answers, and answers the status: 0; 1 where a command did nothing or
-/// nobody answers, which is said on standard error; 2 where the words are no line of commands. Where the first word is `save`,
-/// nothing is sent but `show table`, and what the tables of the other words hold is written, to a file where one is named.
-pub fn ask_running<R: Net + Files + Clock + Env + Print + Eprint + AllocGlobal>(
+/// Writes a table's entries as other programs take them, and answers the status, as `export_table`; 2 where it is asked as something
+/// else, too.
+fn export<R: Net + Clock + Print + Eprint + AllocGlobal>(
+    rt: &R,
+    asked: &Ctl<'_>,
+    words: &[&str],
+) -> io::Result<u8> {
+    if asked.json || asked.watch.is_some() || asked.to.is_some() {
+        eprintln!(rt; "stickd: export takes no --json, no --watch and no --to")?;
+        return Ok(BAD_WORDS);
+    }
+    export_table(rt, asked.peer(), words, asked.form)
+}
+
+/// Sends the words as one line of commands, shows what is answered, and answers the status, as `ask_running`.
+fn ask<R: Net + Clock + Env + Print + Eprint + AllocGlobal>(
     rt: &R,
     asked: &Ctl<'_>,
 ) -> io::Result<u8> {
-    if let Some((first, tables)) = asked.words.split_first() {
-        if *first == SAVE {
-            return save(rt, asked, tables);
-        }
-    }
-    if asked.to.is_some() {
-        eprintln!(rt; "stickd: --to is for 'save' alone")?;
-        return Ok(BAD_WORDS);
-    }
     let Ok(command) = joined(rt.alloc(), asked.words) else {
         return say_no_memory(rt);
     };
@@ -184,4 +193,33 @@ pub fn ask_running<R: Net + Files + Clock + Env + Print + Eprint + AllocGlobal>(
         Some(seconds) => ask_again(rt, asked, &command, seconds),
         None => ask_once(rt, asked, &command),
     }
+}
+
+/// Sends commands to a running stickd, shows what it answers, and answers the status: 0; 1 where a command did nothing or
+/// nobody answers, which is said on standard error; 2 where the words are no line of commands. Where the first word is `save`,
+/// nothing is sent but `show table`, and what the tables of the other words hold is written, to a file where one is named. Where it
+/// is `export`, that is sent with the other words, and a table's entries are written in the form that is named.
+pub fn ask_running<R: Net + Files + Clock + Env + Print + Eprint + AllocGlobal>(
+    rt: &R,
+    asked: &Ctl<'_>,
+) -> io::Result<u8> {
+    let (first, rest) = match asked.words.split_first() {
+        Some((first, rest)) => (*first, rest),
+        None => ("", asked.words),
+    };
+    if first == EXPORT {
+        return export(rt, asked, rest);
+    }
+    if asked.form.is_some() {
+        eprintln!(rt; "stickd: --as is for 'export' alone")?;
+        return Ok(BAD_WORDS);
+    }
+    if first == SAVE {
+        return save(rt, asked, rest);
+    }
+    if asked.to.is_some() {
+        eprintln!(rt; "stickd: --to is for 'save' alone")?;
+        return Ok(BAD_WORDS);
+    }
+    ask(rt, asked)
 }

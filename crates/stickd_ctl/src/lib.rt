@@ -5,10 +5,16 @@
 //! `specs`. The socket and the terminal are in `client`, `asking`, `showing`, `reloading` and `stopping`, which only call them.
 #![tactic(auto)]
 
+mod address_keys;
+mod address_sets;
 mod asking;
 mod client;
 mod columns;
+mod csv_text;
 mod errors;
+mod export_form;
+mod exported;
+mod exporting;
 mod hints;
 mod json;
 mod last_word;
@@ -29,9 +35,14 @@ mod strings;
 mod terminal;
 mod window;
 
+pub use address_keys::{Family, is_member};
+pub use address_sets::{Tool, can_name};
 pub use asking::{Ctl, ask_running};
 pub use client::PATIENCE;
+pub use csv_text::push_csv;
 pub use errors::{is_command, is_error};
+pub use export_form::{ExportForm, read_export_form};
+pub use exported::{can_export, count_left_out, push_export};
 pub use json::push_json;
 pub use last_word::{LastWord, read_last_word};
 pub use lines::{Header, is_row, key_of, read_header, value_of};

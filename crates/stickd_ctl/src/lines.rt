@@ -22,7 +22,7 @@ pub(crate) fn split_at_first(text: &[u8], separator: u8) -> (&[u8], &[u8])
 }
 
 /// What stands behind a prefix, where a text begins with it.
-fn after<'a>(text: &'a [u8], prefix: &[u8]) -> Option<&'a [u8]>
+pub(crate) fn after<'a>(text: &'a [u8], prefix: &[u8]) -> Option<&'a [u8]>
     ensures { MatchOption result (behind_prefix prefix.now text.now ≡ None) (λ rest. behind_prefix prefix.now text.now ≡ Some rest.now) }
 {
     if text.starts_with(prefix) {

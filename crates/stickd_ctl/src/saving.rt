@@ -63,8 +63,8 @@ fn names_of<'a>(alloc: Global, words: &[&'a str]) -> Result<Vec<&'a [u8]>, NoMem
     Ok(names)
 }
 
-/// Why a table wasn't saved, with the status that this comes to.
-enum Unsaved {
+/// Why a table wasn't saved or exported, with the status that this comes to.
+pub(crate) enum Unsaved {
     /// It is said already.
     Said(u8),
     Memory,
@@ -84,7 +84,7 @@ impl From<io::Error> for Unsaved {
 }
 
 /// What a command is answered, where it did something.
-fn asked<R: Net + Clock + Eprint + AllocGlobal>(
+pub(crate) fn asked<R: Net + Clock + Eprint + AllocGlobal>(
     rt: &R,
     peer: Peer<'_>,
     command: &[u8],

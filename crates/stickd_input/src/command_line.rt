@@ -22,7 +22,7 @@ use crate::options::{
     stop_option, threads_option, user_timeout_option,
 };
 use crate::saved_options::{
-    fitting_option, lenient_option, load_option, patience_option, reloaded_option,
+    fitting_option, form_option, lenient_option, load_option, patience_option, reloaded_option,
     save_every_option, save_option, stopped_option, to_option,
 };
 use clap::{Arg, ArgMatches, Command, Error};
@@ -128,6 +128,7 @@ fn ctl_command<'a>(alloc: Global) -> Result<Command<'a>, AllocError> {
         ),
     );
     let command = add_argument(command, to_option(alloc));
+    let command = add_argument(command, form_option(alloc));
     add_argument(command, patience_option(alloc))
 }
 

@@ -41,7 +41,13 @@ The status is 1 where a command did nothing, or nobody answers at PATH.
   stickd ctl --socket /run/stickd.sock show table www data.conn_cur gt 10
 'save' and the names of tables, or none for all, write what they hold, as --load reads it:
   stickd ctl --socket /run/stickd.sock save --to tables.saved
-FILE is written anew beside its place, and takes it once it is whole. Where PATH is the stats socket, they keep which entry goes first where a table is full.";
+FILE is written anew beside its place, and takes it once it is whole. Where PATH is the stats socket, they keep which entry goes first where a table is full.
+'export', the name of a table and filters as those of 'show table' write its entries as
+FORM: 'csv' (RFC 4180); 'json', as --json; or sets of its addresses, which stay there for
+the time that their entries have left: 'nft' for 'nft -f', 'ipset' for 'ipset restore'.
+They are emptied first, and drop no packet by themselves:
+  stickd ctl --socket /run/stickd.sock export www data.gpc0 gt 0 --as nft | nft -f -
+On standard error it says how many keys are no addresses, and were left out.";
 
 /// What `stickd top --help` says last.
 pub(crate) const TOP_HELP: &str = "\

@@ -45,7 +45,7 @@ pub use options::{
 use rule_config::{ConfigFault, read_config};
 use rule_model::{Config, Name, NamedSpec, ReadError, Section, Setup};
 use rule_warnings::{Warning, file_warnings, table_warnings};
-pub use saved_options::{LOAD, LOAD_LENIENT, SAVE, SAVE_EVERY, TIMEOUT, TO};
+pub use saved_options::{AS, LOAD, LOAD_LENIENT, SAVE, SAVE_EVERY, TIMEOUT, TO};
 pub use server_names::server_name;
 use std::alloc::Global;
 use std::rt::Files;

@@ -20,6 +20,9 @@ pub const SAVE_EVERY: &str = "save-every";
 /// The option that names the file to which `stickd ctl save` writes.
 pub const TO: &str = "to";
 
+/// The option that names the form in which `stickd ctl export` writes.
+pub const AS: &str = "as";
+
 /// The option that says how long a program may say nothing that is asked.
 pub const TIMEOUT: &str = "timeout";
 
@@ -79,6 +82,16 @@ pub(crate) fn to_option<'a>(alloc: Global) -> Arg<'a> {
         TO,
         "FILE",
         "Write what 'save' answers to FILE, whole or not at all [default: standard output]",
+    )
+}
+
+/// The form in which `stickd ctl export` writes.
+pub(crate) fn form_option<'a>(alloc: Global) -> Arg<'a> {
+    value_option(
+        alloc,
+        AS,
+        "FORM",
+        "The form in which 'export' writes: csv, json, nft or ipset",
     )
 }
 
