@@ -39,7 +39,8 @@ OTHERS = [
     ('a new definition', 'rule_eval/specs/Tables.antt', '-- ---- tables\n',
      'abbrev pub no_table : Option ℕ\nno_table = None\n\n-- ---- tables\n'),
     ('a definition that is named nowhere', 'rule_eval/specs/Asked.antt', 'asked_by (Look slot) = Event', 'asked_by (Look other) = Event'),
-    ('the body of what is called', 'stored_data/src/stored_set.rt', 'Some(element) => self.if_stored(element),', 'Some(other) => self.if_stored(other),'),
+    ('the body of what is called', 'stored_data/src/stored_set.rt', 'Some(element) => self.if_stored(element),',
+     'Some(other) => self.if_stored(other),'),
     ('the contract of another function there', 'stored_data/src/stored_set.rt', 'IfOk result (λ set. set ≡ self.now) }',
      'IfOk result (λ copy. copy ≡ self.now) }'),
 ]
