@@ -1,5 +1,6 @@
 -- What a table's listing is exported as.
-use Rattle.std.specs.Prelude.{ℕ, Bool, true, Option, None, Some, List, [], ◌++◌, length, codes, if◌then◌else◌}
+use Rattle.std.specs.Prelude.{ℕ, Bool, true, not, ◌==◌, ◌&&◌, Option, None, Some, List, [], ◌++◌, length, codes, if◌then◌else◌}
+use Rattle.std.specs.List.{list_all}
 use Rattle.std.specs.Str.{bytes_eq}
 use Rattle.stickd_ctl.specs.AddressSets.{can_name, left_out, named, set_text}
 use Rattle.stickd_ctl.specs.Csv.{csv}
@@ -17,6 +18,10 @@ form_of word =
     else (if bytes_eq word (codes "nft") then Some Nft
     else (if bytes_eq word (codes "ipset") then Some Ipset
     else None)))
+
+-- a word of a filter ends no command and no line, so that nothing is asked but a listing
+abbrev pub can_filter : List ℕ → Bool
+can_filter word = list_all (λ byte. not (byte == 59) && not (byte == 10)) word
 
 -- what takes the sets that a form has
 abbrev pub tool_of : ExportForm → Option Tool

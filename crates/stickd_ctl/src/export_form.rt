@@ -1,4 +1,4 @@
-//! What a table can be exported as; `exporting` reads it of the command line.
+//! What a table can be exported as, and by what filters; `exporting` reads it of the command line.
 
 ghost use Rattle.std.specs.Prelude.{◌≡◌};
 ghost use Rattle.stickd_ctl.specs.Exporting as spec;
@@ -14,6 +14,13 @@ pub enum ExportForm {
     Nft,
     /// What `ipset restore` takes.
     Ipset,
+}
+
+/// Whether a word can stand in a filter: it ends no command and no line.
+pub fn can_filter(word: &[u8]) -> bool
+    ensures { result ≡ spec.can_filter word.now }
+{
+    word.iter().all(|byte| *byte != b';' && *byte != b'\n')
 }
 
 /// The form of this name, if there is one.

@@ -1,7 +1,7 @@
 //! `stickd ctl export`: the entries of a table, as other programs take them; `asking` calls `export_table`.
 
 use crate::client::{BAD_WORDS, DONE, FAILED, Peer, say_no_memory, show};
-use crate::export_form::{ExportForm, read_export_form};
+use crate::export_form::{ExportForm, can_filter, read_export_form};
 use crate::exported::{can_export, count_left_out, push_export};
 use crate::saving::{Unsaved, asked, is_name};
 use crate::show_table::show_command;
@@ -11,15 +11,10 @@ use std::io;
 use std::net::Net;
 use std::time::Clock;
 
-/// Whether a text ends no command and no line.
-fn ends_none(word: &[u8]) -> bool {
-    word.iter().all(|byte| *byte != b';' && *byte != b'\n')
-}
-
-/// The first word of a filter that ends its command.
-fn first_ending<'a>(words: &[&'a str]) -> Option<&'a str> {
+/// The first of some words that can't stand in a filter.
+fn first_no_filter<'a>(words: &[&'a str]) -> Option<&'a str> {
     for word in words {
-        if !ends_none(word.as_bytes()) {
+        if !can_filter(word.as_bytes()) {
             return Some(word);
         }
     }
@@ -85,7 +80,7 @@ pub(crate) fn export_table<R: Net + Clock + Print + Eprint + AllocGlobal>(
         eprintln!(rt; "stickd: '{table}' is no table's name")?;
         return Ok(BAD_WORDS);
     }
-    if let Some(word) = first_ending(filters) {
+    if let Some(word) = first_no_filter(filters) {
         eprintln!(rt; "stickd: '{word}' is no word of a filter")?;
         return Ok(BAD_WORDS);
     }

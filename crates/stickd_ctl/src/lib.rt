@@ -1,8 +1,9 @@
-//! What an operator asks a running stickd on its sockets: commands and their answers, as they come or as JSON, the entries with
-//! the greatest numbers, new rules, and its end.
+//! What an operator asks a running stickd on its sockets: commands and their answers, as they come or as JSON, a table's entries as
+//! other programs take them, those with the greatest numbers, new rules, and its end.
 //!
 //! Answers are bytes. Their lines are read, compared and printed by pure functions, whose contracts cite the definitions in
-//! `specs`. The socket and the terminal are in `client`, `asking`, `showing`, `reloading` and `stopping`, which only call them.
+//! `specs`. The socket and the terminal are in `client`, `asking`, `exporting`, `saving`, `showing`, `reloading` and `stopping`, which only
+//! call them.
 #![tactic(auto)]
 
 mod address_keys;
@@ -41,7 +42,7 @@ pub use asking::{Ctl, ask_running};
 pub use client::PATIENCE;
 pub use csv_text::push_csv;
 pub use errors::{is_command, is_error};
-pub use export_form::{ExportForm, read_export_form};
+pub use export_form::{ExportForm, can_filter, read_export_form};
 pub use exported::{can_export, count_left_out, push_export};
 pub use json::push_json;
 pub use last_word::{LastWord, read_last_word};
