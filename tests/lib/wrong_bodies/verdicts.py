@@ -5,7 +5,7 @@ import re
 # Each message of the checker begins with such a line; what follows belongs to it.
 BEGINS = re.compile(r'^(?:(?:\./)?(?:src|specs|proofs)/\S+:\d+:\d+: |note: |warning: |help: |fn |struct |enum |logic|statements |only=)')
 # What it says of a goal of a function, at its place; the goal's name comes after.
-OPEN_GOAL = re.compile(r'^note: (?:\./)?(src/\S+?):(\d+):\d+: it is not proved that ')
+OPEN_GOAL = re.compile(r'^note: (?:\./)?(src/\S+?):(\d+):\d+: (?:it is not proved that |`search` (?:found no proof|gave up))')
 NAME_OF_GOAL = re.compile(r'\(`([^`]+)`\)')
 # What it says of a proof file of a function: the file's folder and name, what is defined there, and what is wrong.
 PROOF_FILE = re.compile(r'^(?:\./)?proofs/(\S+)/(Answers|Invariants|Proof)\.antt:\d+:\d+: error: `([^`]*)`: (.*)', re.S)
