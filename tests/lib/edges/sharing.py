@@ -1,4 +1,5 @@
 """Trials of how threads share clients that come at once and stay, and of threads that are held up meanwhile."""
+import contextlib
 import os
 import random
 import tempfile
@@ -15,9 +16,11 @@ def watched_by(proxy):
     """How many sockets each thread watches, by the descriptors of what it waits with (proc(5), fdinfo)."""
     folder, counts = f'/proc/{proxy.program.pid}', {}
     for number in os.listdir(f'{folder}/fd'):
-        if os.readlink(f'{folder}/fd/{number}') == 'anon_inode:[eventpoll]':
-            with open(f'{folder}/fdinfo/{number}', encoding='ascii') as lines:
-                counts[number] = frozenset(line.split()[1] for line in lines if line.startswith('tfd:'))
+        # A connection's descriptor may be closed since it was listed.
+        with contextlib.suppress(FileNotFoundError):
+            if os.readlink(f'{folder}/fd/{number}') == 'anon_inode:[eventpoll]':
+                with open(f'{folder}/fdinfo/{number}', encoding='ascii') as lines:
+                    counts[number] = frozenset(line.split()[1] for line in lines if line.startswith('tfd:'))
     # What a thread waits with is open twice: it is told of clients through a copy.
     return [len(sockets) for sockets in counts.values()]
 

@@ -225,7 +225,8 @@ def changes(proxy, text):
     before = len(proxy.said())
     assert proxy.asks().startswith('Reloaded: '), text
     wait_for('it is told that it was reloaded', lambda: any('reloaded: version ' in line for line in proxy.said()[before:]))
-    return [re.sub(r'^.*?stickd: ', '', line) for line in proxy.said()[before:] if 'reloaded: version ' not in line]
+    told = (re.fullmatch(r'\[INFO +tcp_proxy::changed_lines\] (.*)', line) for line in proxy.said()[before:])
+    return [found[1] for found in told if found]
 
 
 def lines_that_change_are_told():
